@@ -1,7 +1,8 @@
 #!/bin/sh
 # Runs the program on each example, and compares what it prints with the file beside it: examples/NAME.toml is run and gives
-# examples/NAME.out, examples/NAME.hex is decoded, and the first line of examples/NAME.route, NAME.best and NAME.survey is words
-# over NAME.toml, which give the other lines. The program is that of ASON, or the script `ason`. The last line counts.
+# examples/NAME.out, examples/NAME.hex is decoded, and the first line of examples/NAME.route, NAME.best, NAME.survey and
+# NAME.workers is words over NAME.toml, which give the other lines. The program is that of ASON, or the script `ason`. The last
+# line counts.
 cd "$(dirname "$0")/.." || exit 1
 program=${ASON:-./ason}
 passed=0
@@ -25,7 +26,7 @@ done
 for file in examples/*.hex; do
     try "${file%.*}.out" decode "$file" "$(cat "${file%.*}.out" && echo 'status 0')"
 done
-for file in examples/*.route examples/*.best examples/*.survey; do
+for file in examples/*.route examples/*.best examples/*.survey examples/*.workers; do
     try "$file" "$(head -n 1 "$file")" "${file%.*}.toml" "$(tail -n +2 "$file" && echo 'status 0')"
 done
 echo "examples: $passed passed, $failed failed"

@@ -124,7 +124,11 @@ FAULTS = [
     (LOOP.text(), "link 1 ends"),
     (replace(PAIR, script=["show", "settle 0"]).text(), "script 2 range"),
     (replace(PAIR, script=["revert c1"]).text(), "script 1 call"),
-    (replace(PAIR, script=["hold a b 1"]).text(), "script 1 unbuilt"),
+    (replace(PAIR, script=["hold a b 0"]).text(), "script 1 range"),
+    (
+        replace(PAIR, script=["noise a b 2E110DD5CB01000014000C18010000000100000005"]).text(),
+        "script 1 spells",
+    ),
     ("script = []\n[[node]]\n", "node 1 missing"),
     ("wait = 1\n", "top missing"),
     ('script = ["]\n', "toml syntax"),

@@ -34,9 +34,9 @@ def declares(path: Path, name: str) -> bool:
 
 
 def crates() -> dict[str, list[str]]:
-    """Each crate of crates.txt, and the crates of the repository that it stands on."""
+    """Each crate of crates.txt, and the crates of the repository that it stands on; words behind a name say what its tests may do."""
     lines = [line.split("#")[0].split(":") for line in (TOP / "crates.txt").read_text().splitlines()]
-    below = {line[0].strip(): line[1].split() for line in lines if len(line) == 2}
+    below = {line[0].split()[0]: line[1].split() for line in lines if len(line) == 2}
     return {name: [other for other in others if other in below] for name, others in below.items()}
 
 

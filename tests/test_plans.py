@@ -34,6 +34,8 @@ SCRIPTS = [
     ["setup c1 a d", "retry c1"],
     ["setup c1 a d", "revert c1", "wait 1", "wait 10000"],
     ["fail srlg 7", "repair srlg 7", "fail link 7", "repair link 7"],
+    ["lose a b 1", "repeat b a 65535", " hold   a d  2 "],
+    ["noise a b -", "noise b a 2E110D00000100", "noise a b 00fF", f"noise a b {'0' * 131_070}"],
 ]
 
 # Script lines, and what is told of their first fault: the number of its line, and its kind.
@@ -80,10 +82,28 @@ FAULTS = [
     (["revert"], "1 words"),
     (["wait"], "1 words"),
     (["wait 01"], "1 words"),
-    # forms that aren't built
-    (["hold a b 1"], "1 unbuilt"),
-    (["noise a b -"], "1 unbuilt"),
     (["lose a b c"], "1 words"),
+    (["repeat a b 01"], "1 words"),
+    (["hold a b"], "1 words"),
+    (["noise a b"], "1 words"),
+    (["noise a b 2E 11"], "1 words"),
+    # lines of frames, the kinds in their order: b and c aren't neighbours
+    (["lose a x 0"], "1 range"),
+    (["repeat b c 65536"], "1 range"),
+    (["hold a b 99999999999999999999"], "1 range"),
+    (["hold a x 1"], "1 node"),
+    (["noise x c 0"], "1 node"),
+    (["lose b c 1"], "1 channel"),
+    (["repeat a a 1"], "1 channel"),
+    (["noise b c 0"], "1 channel"),
+    (["noise a b 0"], "1 hex"),
+    (["noise a b --"], "1 hex"),
+    (["noise a b 0x"], "1 hex"),
+    ([f"noise a b {'0' * 131_072}"], "1 hex"),
+    # noise that spells an acknowledgement of a message, or of a row of a link
+    (["noise a b 2E110DD5CB01000014000C18010000000100000005"], "1 spells"),
+    (["show", "noise a b 590200000000000005"], "2 spells"),
+    (["noise a b 590200000000000005", "shout"], "1 spells"),
 ]
 
 # Keys of the top table, and what is told of their fault, if any.

@@ -301,7 +301,7 @@ class ToolTest(unittest.TestCase):
 
     def test_each_form_is_one_of_the_program(self) -> None:
         routes = {"setup NAME FROM TO via L,.. backup L,..": "setup z a c via 4 backup 1,2"}
-        words = {"NAME": "z", "FROM": "a", "TO": "c", "L,..": "4", "N": "7", "R": "9"}
+        words = {"NAME": "z", "FROM": "a", "TO": "c", "L,..": "4", "N": "7", "R": "9", "A": "a", "B": "b", "K": "5", "HEX": "00"}
         network = plan_text().replace('ends = ["a", "c"]', 'srlg = [7]\nends = ["a", "c"]').replace("id = 4\nsrlg", "id = 7\nsrlg")
         for form in FORMS:
             line = routes.get(form) or " ".join(words.get(word, word) for word in form.split())

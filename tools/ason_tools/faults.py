@@ -226,6 +226,7 @@ def _in_line(top: Placed, row: Placed, number: int, refused: Refused) -> str:
         "route": lambda: _route_fault(top, words),
         "backup": lambda: _backup_fault(top, words),
         "range": lambda: _RANGES[words[0]],
+        "channel": lambda: f"no link joins {quoted(words[1])} and {quoted(words[2])}",
         "group": lambda: f"no link has the {'SRLG' if words[1] == 'srlg' else 'id'} {words[2]}",
     }
     try:
@@ -249,7 +250,8 @@ _RANGES = {
 
 def _unknown_node(top: Placed, words: list[str]) -> str | None:
     names = _node_names(top)
-    unknown = next((word for word in words[2:4] if word not in names), None)
+    ends = words[2:4] if words[0] == "setup" else words[1:3]
+    unknown = next((word for word in ends if word not in names), None)
     return None if unknown is None else f"no node of the plan has the name {quoted(unknown)}"
 
 
@@ -322,9 +324,8 @@ _MEANINGS = {
     "script backup": "the backup route shares a risk or an inner node with the working route",
     "script group": "the plan has no such link, or no link with this SRLG",
     "script channel": "the two nodes aren't neighbours",
-    "script hex": "the bytes aren't an even number of hexadecimal digits",
+    "script hex": "the bytes aren't - or an even number of hexadecimal digits, at most 131,070",
     "script spells": "the bytes spell a frame, which noise must not",
-    "script unbuilt": "the line has a form that this version doesn't run",
 }
 
 

@@ -17,6 +17,10 @@ FORMS = (
     "fail srlg N",
     "repair link N",
     "repair srlg N",
+    "lose A B K",
+    "repeat A B K",
+    "hold A B K",
+    "noise A B HEX",
     "settle R",
     "wait N",
     "show",
@@ -31,7 +35,7 @@ def nearest(words: list[str]) -> str:
     if not words:
         return "the line is empty"
     form = max(FORMS, key=lambda form: _likeness(words, form.split()))
-    numbers = [word for word in words[1:] for word in word.split(",")]
+    numbers = [] if form.startswith("noise") else [word for word in words[1:] for word in word.split(",")]
     odd = next((number for number in numbers if _NUMBER.fullmatch(number)), None)
     why = f"; a number has no sign and no leading zero, as {odd} has" if odd else ""
     return f"the line has none of the forms of a script line, of which the nearest is {form!r}{why}"

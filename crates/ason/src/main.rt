@@ -1,7 +1,7 @@
 //! The program `ason`: the words and the standard input go to the top call, and what it writes to the standard output.
 #![tactic(auto)]
 
-use ason_io::{StdSink, StdSource};
+use ason_io::{NoGate, StdSink, StdSource};
 use ason_main::{Status, ason};
 use std::env;
 use std::io::ErrorKind;
@@ -20,5 +20,7 @@ fn main(rt: HostRuntime) -> ExitCode {
     };
     let mut src = StdSource::new(rt.stdin().lock());
     let mut out = StdSink::new(rt.stdout());
-    ExitCode::from(ason(alloc, &words, &mut src, &mut out).code())
+    let mut kept = None;
+    let status = ason(&rt, alloc, &words, &mut src, &mut out, &NoGate, &mut kept);
+    ExitCode::from(status.code())
 }

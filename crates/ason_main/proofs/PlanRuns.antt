@@ -1,31 +1,26 @@
 -- The run of a plan, and what is written of it.
-use Rattle.std.proofs.Common.{◌≡◌, ℕ, List, [], ◌∷◌, ◌++◌, refl, sym, ◌∙◌, subst, append-nil}
-use Rattle.std.specs.Prelude.{Option, Some}
-use Rattle.std.proofs.KnownBytes.{Appends-nil}
+use Rattle.std.proofs.Common.{◌≡◌, ◌≤◌, ℕ, List, [], ◌∷◌, ◌++◌, refl, sym, ap, ◌∙◌, subst, append-nil}
+use Rattle.std.specs.Prelude.{Option, None, Some}
+use Rattle.std.specs.List.{AllByRecursion}
 use Rattle.ason_base.specs.declared.ids.CallNo.{CallNo}
 use Rattle.ason_base.specs.declared.ids.NodeId.{NodeId}
-use Rattle.ason_base.specs.declared.commands.Event.{Event}
 use Rattle.ason_base.specs.Network.{IsTopology, Network}
-use Rattle.mesh_rules.specs.Events as mesh_runs
-use Rattle.mesh_rules.specs.Machine as mesh
-use Rattle.mesh_rules.specs.Quiet as mesh_quiet
-use Rattle.mesh_laws.specs.Laws.{LawsHold}
-use Rattle.world_rules.specs.Images.{IsQuiet, image, mesh_events}
-use Rattle.world_rules.specs.Runs.{IsRun, after, events_of}
-use Rattle.world_rules.specs.Worlds.{start}
-use Rattle.station.specs.Histories.{new_history}
-use Rattle.fleet.specs.Running.{IsRunning}
-use Rattle.fleet.specs.Standing.{StandsFor}
+use Rattle.fleet.specs.Standing.{FleetState, StandsFor}
+use Rattle.round_rules.specs.Records.{IsRecord, log_at, new_record}
 use Rattle.plan_reader.specs.declared.lines.Line.{Line}
 use Rattle.plan_reader.specs.declared.lines.Line.TheVariants.{Settle, Show}
 use Rattle.plan_reader.specs.declared.plan.Plan.{Plan}
 use Rattle.plan_reader.specs.Plans.{ArePostable, calls_after_line}
-use Rattle.table_text.specs.TableText.{stopped_text}
-use Rattle.ason_main.specs.Laws.{WorldLaws}
-use Rattle.ason_main.specs.Outputs.{AreRestored, IsBegun, IsLawful, IsOneRun, IsTheOutput, PrintsFirst, QuietLawsHold, run_of, script_of, settling_script}
-use Rattle.ason_main.specs.Running.{CutsAll, DoesAll, EndsIn, FailsIn, HasWritten, HasWrittenPart, IsCutShort, RunState}
-use Rattle.ason_main.proofs.OneOutput.{the_output, the_stopped_output}
-use Rattle.ason_main.proofs.ScriptRuns.{first_part, lead_through, lines_running}
+use Rattle.script_rules.specs.Laws.{AreSame}
+use Rattle.script_rules.specs.Lawful.{IsLawfulRecord}
+use Rattle.script_rules.specs.Outputs.{How, Prints, PrintsFirst, script_of, settling_script}
+use Rattle.script_rules.specs.Stages.{IsFull, Stage, last_of, new_stage}
+use Rattle.script_rules.proofs.Alone.{one_list}
+use Rattle.script_rules.proofs.Grows.{scripts_grow}
+use Rattle.script_rules.proofs.Stops.{stops_full}
+use Rattle.ason_main.specs.Laws.{RunLaws}
+use Rattle.ason_main.specs.Outputs.{HasBeenCut, HasEnded, IsBegun, IsCutShort, IsKept, IsOneRun, IsOutput, IsTheCut, IsTheOutput, end_of}
+use Rattle.ason_main.specs.Running.{AreBegun, AreDone, AreLed, DoesAll, EndsIn, FailsIn, HasStood, HasWritten, HasWrittenPart, RunState, StandsAt, StandsYet}
 
 -- Lines that can be posted
 
@@ -43,114 +38,135 @@ postable_script rounds p are =
 
 -- The run
 
-the_run : WorldLaws → (p : Plan) → ArePostable p.topology [] p.lines → IsRunning p.topology (run_of p)
-the_run laws p postable =
-    lines_running laws p.topology (script_of p) new_history (postable_script 1000 p postable) (laws.begin p.topology)
+-- what stations stood for is lawful
+all_lawful : RunLaws → (t : Network) → IsTopology t → (more : List Stage) → AllByRecursion (HasStood t) more →
+    AllByRecursion (λ (s : Stage). IsLawfulRecord t s.made) more
+all_lawful laws t valid [] all = tt
+all_lawful laws t valid (s ∷ more) all = (
+  laws.lawful t s.made valid (laws.possible t s.lines all.0.fleet s.made all.0.stands),
+  all_lawful laws t valid more all.1,
+)
 
-quiet_laws : WorldLaws → (t : Network) → IsTopology t → (events : List Event) → IsRun t (start t) events →
-    IsQuiet (after t (start t) events) → QuietLawsHold t events
-quiet_laws laws t valid events run quiet = record {
-  shown = nothing;
-  restored = λ g alone.
-      subst (AreRestored t (mesh_events t (start t) events)) leads
-      (are.restored valid g alone (subst mesh_quiet.IsQuiet (sym leads) nothing));
-  same = laws.same t events valid run quiet;
-  links = laws.links t events valid run quiet;
+-- the fleet is new
+pub record IsNew (p : Plan) (f : FleetState) : Type 0 where
+  pub stands : StandsFor p.topology [] f new_record
+  pub postable : ArePostable p.topology [] p.lines
+
+starts : (p : Plan) (f : FleetState) → IsNew p f → StandsAt p.topology f new_stage
+starts p f new = record { stands = new.stands; going = refl }
+
+one_run : RunLaws → (p : Plan) (how : How) (f : FleetState) (lines : List Line) (more : List Stage)
+    (text : List ℕ) → IsNew p f → Prints p how lines new_stage more text →
+    AllByRecursion (HasStood p.topology) more → IsOneRun p more
+one_run laws p how f lines more text new prints stood = record {
+  topology = new.stands.stations.valid;
+  laws = all_lawful laws p.topology new.stands.stations.valid (new_stage ∷ more)
+      (record { fleet = f; stands = new.stands }, stood);
+  grows = scripts_grow laws.rounds p how lines new_stage more text prints;
+}
+
+begun : RunLaws → (p : Plan) (how : How) (f new : FleetState) (text : List ℕ) → IsNew p f →
+    AreBegun p how (script_of p) new new_stage text → IsBegun p how text
+begun laws p how f new text is x = record {
+  more = x.more;
+  one_run = one_run laws p how f x.printed.0 x.more text is x.printed.3 x.stood;
+  printed = x.printed;
+}
+
+-- One output
+
+not_both : (o : Option NodeId) (n : NodeId) → o ≡ None → o ≡ Some n → ⊥
+not_both o n none some = absurd (cc (none, some))
+
+same_end : {xs ys : List Stage} {a b : List ℕ} → AreSame xs ys a b → (end_of xs).stopped ≡ (end_of ys).stopped
+same_end same = ap (λ ss. (end_of ss).stopped) same.stages
+
+one_output : (p : Plan) (how : How) (more others : List Stage) (text other : List ℕ) → how.workers ≡ 1 →
+    IsOneRun p others → Prints p how (script_of p) new_stage others other →
+    Prints p how (script_of p) new_stage more text → AreSame others more other text
+one_output p how more others text other one run that this =
+    one_list p how (script_of p) new_stage others more other text one run.laws that this
+
+pub the_output : (p : Plan) (how : How) (more : List Stage) (text : List ℕ) → IsOutput p how more text →
+    IsTheOutput p how more text
+the_output p how more text is = record {
+  output = is;
+  only = λ one others other that.
+      one_output p how more others text other one that.one_run that.printed is.printed;
+  never_stopped = λ one n others other that.
+      not_both (end_of more).stopped n is.ended
+      (sym (same_end (one_output p how more others text other one that.one_run that.printed is.printed))
+      ∙ that.stopped);
+}
+
+the_cut : (p : Plan) (how : How) (n : NodeId) (more : List Stage) (text : List ℕ) → IsCutShort p how n more text →
+    IsTheCut p how n more text
+the_cut p how n more text is = record {
+  output = is;
+  only = λ one m others other that.
+      let same = one_output p how more others text other one that.one_run that.printed is.printed in
+      (same_node (end_of others).stopped m n that.stopped (same_end same ∙ is.stopped), same);
+  never_ended = λ one others other that.
+      not_both (end_of others).stopped n that.ended
+      (same_end (one_output p how more others text other one that.one_run that.printed is.printed) ∙ is.stopped);
 }
   where
-    nothing : mesh_quiet.IsQuiet (image (after t (start t) events))
-    nothing = laws.quiet t events run (record { desks = quiet.desks; hops = quiet.hops })
-
-    are : LawsHold t (mesh_events t (start t) events)
-    are = laws.laws t events (laws.topology t valid) run
-
-    leads : mesh_runs.after t mesh.start (mesh_events t (start t) events) ≡ image (after t (start t) events)
-    leads = (laws.shown t events (laws.topology t valid) run).leads
-
-lawful : WorldLaws → (t : Network) → IsTopology t → (events : List Event) → IsRun t (start t) events →
-    IsLawful t events
-lawful laws t valid events run =
-    let each = laws.topology t valid in
-    record {
-      shown = laws.shown t events each run;
-      laws = laws.laws t events each run;
-      quiet = quiet_laws laws t valid events run;
-    }
-
--- the run of a plan, whose first parts are lawful
-pub one_run : WorldLaws → (p : Plan) → IsTopology p.topology → ArePostable p.topology [] p.lines → IsOneRun p
-one_run laws p valid postable = record {
-  topology = valid;
-  run = (the_run laws p postable).run;
-  laws = λ first left is.
-      lawful laws p.topology valid first (first_part p.topology (start p.topology) first left
-      (subst (IsRun p.topology (start p.topology)) (sym is) (the_run laws p postable).run));
-  leads = lead_through laws p.topology (script_of p) new_history;
-}
-
--- where it is stopped the node has made all events that it may
-pub full_where_stopped : WorldLaws → (p : Plan) (n : NodeId) → ArePostable p.topology [] p.lines →
-    (run_of p).stopped ≡ Some n → events_of n.0 (run_of p).events ≡ 50000
-full_where_stopped laws p n postable stopped =
-    let running = the_run laws p postable in
-    sym (laws.counts p.topology (run_of p).events running.run n.0).made ∙ running.full n stopped
-
-begun : WorldLaws → (p : Plan) (text : List ℕ) → IsTopology p.topology → ArePostable p.topology [] p.lines →
-    PrintsFirst p (script_of p) new_history text → IsBegun p text
-begun laws p text valid postable printed = record { one_run = one_run laws p valid postable; printed = printed }
+    same_node : (o : Option NodeId) (m n : NodeId) → o ≡ Some m → o ≡ Some n → m ≡ n
+    same_node o m n a b = cc (a, b)
 
 -- What was written
 
-pub run_ended : WorldLaws → (p : Plan) (a b : RunState) → ArePostable p.topology [] p.lines →
-    StandsFor p.topology a.fleet new_history → DoesAll p (script_of p) a b →
-    HasWritten a.written b.written (IsTheOutput p)
-run_ended laws p a b postable stands does =
-    let are = does.done new_history stands (postable_script 1000 p postable) in (
-      are.printed.0,
-      the_output p are.printed.0
-          (record {
-            one_run = one_run laws p stands.valid postable;
-            ended = are.led.stands.going;
-            printed = are.printed.1;
-          }),
-      are.printed.2,
-    )
+kept : RunLaws → (p : Plan) (new : FleetState) (stop : Option NodeId) (more : List Stage) →
+    AreLed p.topology new stop new_stage more → IsKept p new (end_of more)
+kept laws p new stop more led = record {
+  stands = led.stands;
+  made = laws.made p.topology (end_of more).lines new (end_of more).made led.stands;
+}
 
-pub run_stopped : WorldLaws → (p : Plan) (a b : RunState) (n : NodeId) → ArePostable p.topology [] p.lines →
-    StandsFor p.topology a.fleet new_history → CutsAll p (script_of p) a b n →
-    HasWritten a.written b.written (IsCutShort p n)
-run_stopped laws p a b n postable stands cuts =
-    let are = cuts.cut new_history stands (postable_script 1000 p postable) in (
-      are.printed.0,
-      record {
-        output = the_stopped_output p n (are.printed.0 ++ stopped_text p n) (record {
-          one_run = one_run laws p stands.valid postable;
-          stopped = are.stopped;
-          full = full_where_stopped laws p n postable are.stopped;
-          printed = (are.printed.0, are.printed.1, refl);
-        });
-        begun = begun laws p are.printed.0 stands.valid postable
-            (script_of p, [], append-nil (script_of p), are.printed.1);
-      },
-      are.printed.2,
-    )
+pub run_ended : RunLaws → (p : Plan) (how : How) (a b : RunState) → IsNew p a.fleet →
+    DoesAll p how (script_of p) a b None → HasEnded p how b.fleet a.written b.written
+run_ended laws p how a b new does =
+    let x = does.done new_stage (starts p a.fleet new) (postable_script 1000 p new.postable) in
+    record {
+      more = x.more;
+      text = x.text;
+      output = the_output p how x.more x.text (record {
+        one_run = one_run laws p how a.fleet (script_of p) x.more x.text new x.printed x.led.stood;
+        ended = x.led.stopped;
+        printed = x.printed;
+      });
+      kept = kept laws p b.fleet None x.more x.led;
+      written = x.written;
+    }
 
-pub run_failed : WorldLaws → (p : Plan) (a b : RunState) → ArePostable p.topology [] p.lines →
-    StandsFor p.topology a.fleet new_history → FailsIn p (script_of p) a b →
-    HasWrittenPart a.written b.written (IsBegun p)
-run_failed laws p a b postable stands fails =
-    let part = fails.part new_history stands (postable_script 1000 p postable) in
-    (part.0, begun laws p part.0 stands.valid postable part.1, part.2)
+pub run_cut : RunLaws → (p : Plan) (how : How) (n : NodeId) (a b : RunState) → IsNew p a.fleet →
+    DoesAll p how (script_of p) a b (Some n) → HasBeenCut p how n b.fleet a.written b.written
+run_cut laws p how n a b new does =
+    let x = does.done new_stage (starts p a.fleet new) (postable_script 1000 p new.postable) in
+    record {
+      more = x.more;
+      text = x.text;
+      output = the_cut p how n x.more x.text (record {
+        one_run = one_run laws p how a.fleet (script_of p) x.more x.text new x.printed x.led.stood;
+        stopped = x.led.stopped;
+        full = subst (IsFull (end_of x.more).made) x.led.stopped
+            (stops_full p how (script_of p) new_stage x.more x.text tt x.printed);
+        printed = x.printed;
+      });
+      kept = kept laws p b.fleet (Some n) x.more x.led;
+      written = x.written;
+    }
 
-pub run_unfinished : WorldLaws → (p : Plan) (a b : RunState) → ArePostable p.topology [] p.lines →
-    StandsFor p.topology a.fleet new_history → EndsIn p (script_of p) a b →
-    HasWritten a.written b.written (IsBegun p)
-run_unfinished laws p a b postable stands ends =
-    let part = ends.part new_history stands (postable_script 1000 p postable) in
-    (part.0, begun laws p part.0 stands.valid postable part.1, part.2)
+-- a first part was written, and the stations stand for some record
+pub run_failed : RunLaws → (p : Plan) (how : How) (a b : RunState) → IsNew p a.fleet →
+    FailsIn p how (script_of p) a b →
+    HasWrittenPart a.written b.written (IsBegun p how) × StandsYet p.topology b.fleet
+run_failed laws p how a b new fails =
+    let x = fails.part new_stage (starts p a.fleet new) (postable_script 1000 p new.postable) in
+    ((x.0, begun laws p how a.fleet b.fleet x.0 new x.1, x.2), x.1.yet)
 
--- nothing was written
-pub run_not_begun : WorldLaws → (p : Plan) (w : Option (List ℕ)) → IsTopology p.topology →
-    ArePostable p.topology [] p.lines → HasWritten w w (IsBegun p)
-run_not_begun laws p w valid postable =
-    ([], begun laws p [] valid postable ([], script_of p, refl, refl), Appends-nil w)
+pub run_starved : RunLaws → (p : Plan) (how : How) (a b : RunState) → IsNew p a.fleet →
+    EndsIn p how (script_of p) a b → HasWritten a.written b.written (IsBegun p how) × StandsYet p.topology b.fleet
+run_starved laws p how a b new ends =
+    let x = ends.part new_stage (starts p a.fleet new) (postable_script 1000 p new.postable) in
+    ((x.0, begun laws p how a.fleet b.fleet x.0 new x.1, x.2), x.1.yet)

@@ -1,85 +1,100 @@
 -- What the lines of a script print, one after the other.
-use Rattle.std.proofs.Common.{◌≡◌, ◌<◌, ◌+◌, ℕ, List, [], ◌∷◌, ◌++◌, length, take, refl, sym, ap, ◌∙◌, subst, append-nil, append_assoc, arith}
-use Rattle.std.specs.Prelude.{Option, Some}
+use Rattle.std.proofs.Common.{◌≡◌, ◌<◌, ◌+◌, ℕ, Bool, true, false, List, [], ◌∷◌, ◌++◌, length, take, refl, sym, ap, ◌∙◌, subst, append-nil, append_assoc, arith}
+use Rattle.std.specs.Prelude.{Option, None, Some, is_some}
 use Rattle.std.specs.Io.KnownBytes.{Appends}
 use Rattle.std.proofs.KnownBytes.{Appends-trans}
 use Rattle.std.proofs.Math.Seq.{take-append-add}
 use Rattle.std.proofs.lemmas.List.{length-append}
 use Rattle.ason_base.specs.declared.ids.NodeId.{NodeId}
-use Rattle.station.specs.Histories.{History}
+use Rattle.ason_base.specs.Network.{Network}
 use Rattle.plan_reader.specs.declared.lines.Line.{Line}
+use Rattle.plan_reader.specs.declared.lines.Line.TheVariants as said
+use Rattle.plan_reader.specs.declared.lines.Line.TheVariants.{Noise, Post, Settle, Show, Wait}
 use Rattle.plan_reader.specs.declared.plan.Plan.{Plan}
-use Rattle.ason_main.specs.Outputs.{LinePrints, Prints, PrintsFirst, line_done, lines_done}
-use Rattle.ason_main.specs.Running.{HasWritten, HasWrittenPart}
-use Rattle.ason_main.proofs.Lines.{nothing_printed}
-use Rattle.ason_main.proofs.Stopping.{IsStoppedAt, line_stays}
+use Rattle.script_rules.specs.Outputs.{How, LinePrints, Prints, PrintsFirst, Shows, UnlessStopped}
+use Rattle.script_rules.specs.Stages.{LineMakes, Stage, is_stopped, last_of, with_post, world_at}
+use Rattle.script_rules.proofs.Follows.{lines_follow}
+use Rattle.ason_main.proofs.Settling.{settles_stay}
+use Rattle.ason_main.proofs.Waiting.{waits_stay}
 
--- Texts
+-- One line
 
-prints_append : (p : Plan) (xs ys : List Line) (h : History) (a b : List ℕ) → Prints p xs h a →
-    Prints p ys (lines_done p.topology xs h) b → Prints p (xs ++ ys) h (a ++ b)
-prints_append p [] ys h a b first second = subst (λ text. Prints p ys h (text ++ b)) (sym first) second
-prints_append p (x ∷ xs) ys h a b first second = (
-  first.0,
-  first.1 ++ b,
-  first.2,
-  prints_append p xs ys (line_done p.topology h x) first.1 b first.3 second,
-  ap (λ text. text ++ b) first.4 ∙ append_assoc first.0 first.1 b,
-)
+pub prints_one : (p : Plan) (how : How) (line : Line) (s : Stage) (more : List Stage) (text : List ℕ) →
+    LineMakes p.topology how.workers line s more → LinePrints how.tables p line (last_of s more) text →
+    Prints p how (line ∷ []) s more text
+prints_one p how line s more text makes prints =
+    (more, [], text, [], makes, prints, (refl, refl), sym (append-nil more), sym (append-nil text))
 
-pub prints_one : (p : Plan) (line : Line) (h : History) (a : List ℕ) →
-    LinePrints p line (line_done p.topology h line) a → Prints p (line ∷ []) h a
-prints_one p line h a is = (a, [], is, refl, sym (append-nil a))
+-- a stage at which the run isn't stopped
+pub shown : (tables : Bool) (p : Plan) (line : Line) (s : Stage) (text : List ℕ) → tables ≡ true → s.stopped ≡ None →
+    Shows p line (world_at p.topology s) text → LinePrints tables p line s text
+shown tables p line s text is going shows =
+    subst (λ b. LinePrints b p line s text) (sym is)
+    (subst (λ o. UnlessStopped o (Shows p line (world_at p.topology s) text) text) (sym going) shows)
 
--- nothing once the run is stopped
-prints_nothing : (p : Plan) (lines : List Line) (h : History) (k : NodeId) → IsStoppedAt k h → Prints p lines h []
-prints_nothing p [] h k is = refl
-prints_nothing p (line ∷ lines) h k is = (
+pub not_shown : (tables : Bool) (p : Plan) (line : Line) (s : Stage) → tables ≡ false → LinePrints tables p line s []
+not_shown tables p line s is = subst (λ b. LinePrints b p line s []) (sym is) refl
+
+-- nothing is printed of one at which it is
+pub stopped_shows : (tables : Bool) (p : Plan) (line : Line) (s : Stage) (k : NodeId) → s.stopped ≡ Some k →
+    LinePrints tables p line s []
+stopped_shows false p line s k stopped = refl
+stopped_shows true p line s k stopped =
+    subst (λ o. UnlessStopped o (Shows p line (world_at p.topology s) []) []) (sym stopped) refl
+
+-- nor is a stage made after it
+stopped_makes : (t : Network) (workers : ℕ) (line : Line) (s : Stage) → is_stopped s ≡ true →
+    LineMakes t workers line s []
+stopped_makes t workers (Post c) s stop = rw stop refl
+stopped_makes t workers (said.Disturb d) s stop = rw stop refl
+stopped_makes t workers (Noise u d bytes) s stop = rw stop refl
+stopped_makes t workers (Settle rounds) s stop = settles_stay t workers rounds s stop
+stopped_makes t workers (Wait rounds) s stop = waits_stay t workers rounds s stop
+stopped_makes t workers Show s stop = refl
+
+prints_nothing : (p : Plan) (how : How) (lines : List Line) (s : Stage) (k : NodeId) → s.stopped ≡ Some k →
+    Prints p how lines s [] []
+prints_nothing p how [] s k stopped = (refl, refl)
+prints_nothing p how (line ∷ lines) s k stopped = (
   [],
   [],
-  nothing_printed p line (line_done p.topology h line) k still.stopped,
-  prints_nothing p lines (line_done p.topology h line) k still,
+  [],
+  [],
+  stopped_makes p.topology how.workers line s (ap is_some stopped),
+  stopped_shows how.tables p line s k stopped,
+  prints_nothing p how lines s k stopped,
+  refl,
   refl,
 )
-  where
-    still : IsStoppedAt k (line_done p.topology h line)
-    still = subst (IsStoppedAt k) (sym (line_stays p.topology line h k is)) is
+
+-- where the first lines come to a stop, all lines do
+pub prints_stopped : (p : Plan) (how : How) (xs ys : List Line) (s : Stage) (more : List Stage) (text : List ℕ)
+    (k : NodeId) → (last_of s more).stopped ≡ Some k → Prints p how xs s more text → Prints p how (xs ++ ys) s more text
+prints_stopped p how xs ys s more text k stopped prints =
+    subst (λ ss. Prints p how (xs ++ ys) s ss text) (append-nil more)
+    (subst (λ zs. Prints p how (xs ++ ys) s (more ++ []) zs) (append-nil text)
+    (lines_follow p how xs ys s more [] text [] prints (prints_nothing p how ys (last_of s more) k stopped)))
+
+-- First lines
 
 -- some first lines of the later ones, after all of the earlier ones
-prints_first_later : (p : Plan) (xs ys : List Line) (h : History) (a b : List ℕ) → Prints p xs h a →
-    PrintsFirst p ys (lines_done p.topology xs h) b → PrintsFirst p (xs ++ ys) h (a ++ b)
-prints_first_later p xs ys h a b first second = (
+pub prints_first_later : (p : Plan) (how : How) (xs ys : List Line) (s : Stage) (ss zs : List Stage)
+    (a b : List ℕ) → Prints p how xs s ss a → PrintsFirst p how ys (last_of s ss) zs b →
+    PrintsFirst p how (xs ++ ys) s (ss ++ zs) (a ++ b)
+prints_first_later p how xs ys s ss zs a b first second = (
   xs ++ second.0,
   second.1,
-  append_assoc xs second.0 second.1 ∙ ap (λ zs. xs ++ zs) second.2,
-  prints_append p xs second.0 h a b first second.3,
+  append_assoc xs second.0 second.1 ∙ ap (λ ls. xs ++ ls) second.2,
+  lines_follow p how xs second.0 s ss zs a b first second.3,
 )
 
 -- some first lines of the earlier ones
-prints_first_early : (p : Plan) (xs ys : List Line) (h : History) (a : List ℕ) → PrintsFirst p xs h a →
-    PrintsFirst p (xs ++ ys) h a
-prints_first_early p xs ys h a first =
-    (first.0, first.1 ++ ys, sym (append_assoc first.0 first.1 ys) ∙ ap (λ zs. zs ++ ys) first.2, first.3)
+pub prints_first_early : (p : Plan) (how : How) (xs ys : List Line) (s : Stage) (ss : List Stage) (a : List ℕ) →
+    PrintsFirst p how xs s ss a → PrintsFirst p how (xs ++ ys) s ss a
+prints_first_early p how xs ys s ss a first =
+    (first.0, first.1 ++ ys, sym (append_assoc first.0 first.1 ys) ∙ ap (λ ls. ls ++ ys) first.2, first.3)
 
 -- What was written
-
-pub written_both : (p : Plan) (xs ys : List Line) (h : History) (a b c : Option (List ℕ)) →
-    HasWritten a b (Prints p xs h) → HasWritten b c (Prints p ys (lines_done p.topology xs h)) →
-    HasWritten a c (Prints p (xs ++ ys) h)
-written_both p xs ys h a b c first second = (
-  first.0 ++ second.0,
-  prints_append p xs ys h first.0 second.0 first.1 second.1,
-  Appends-trans a b c first.0 second.0 first.2 second.2,
-)
-
-pub written_later : (p : Plan) (xs ys : List Line) (h : History) (a b c : Option (List ℕ)) →
-    HasWritten a b (Prints p xs h) → HasWritten b c (PrintsFirst p ys (lines_done p.topology xs h)) →
-    HasWritten a c (PrintsFirst p (xs ++ ys) h)
-written_later p xs ys h a b c first second = (
-  first.0 ++ second.0,
-  prints_first_later p xs ys h first.0 second.0 first.1 second.1,
-  Appends-trans a b c first.0 second.0 first.2 second.2,
-)
 
 -- a part of the second text, after the first
 pub part_after : (a b c : Option (List ℕ)) (xs ys : List ℕ) (n : ℕ) → n < length ys → Appends a b xs →
@@ -92,31 +107,3 @@ part_after a b c xs ys n below first second = (
   where
     within : length xs + n < length xs + length ys
     within = omega arith
-
-pub written_part_later : (p : Plan) (xs ys : List Line) (h : History) (a b c : Option (List ℕ)) →
-    HasWritten a b (Prints p xs h) → HasWrittenPart b c (PrintsFirst p ys (lines_done p.topology xs h)) →
-    HasWrittenPart a c (PrintsFirst p (xs ++ ys) h)
-written_part_later p xs ys h a b c first second = (
-  first.0 ++ second.0,
-  prints_first_later p xs ys h first.0 second.0 first.1 second.1,
-  part_after a b c first.0 second.0 second.2.0 second.2.1 first.2 second.2.2,
-)
-
-pub written_early : (p : Plan) (xs ys : List Line) (h : History) (a b : Option (List ℕ)) →
-    HasWritten a b (PrintsFirst p xs h) → HasWritten a b (PrintsFirst p (xs ++ ys) h)
-written_early p xs ys h a b first = (first.0, prints_first_early p xs ys h first.0 first.1, first.2)
-
-pub written_part_early : (p : Plan) (xs ys : List Line) (h : History) (a b : Option (List ℕ)) →
-    HasWrittenPart a b (PrintsFirst p xs h) → HasWrittenPart a b (PrintsFirst p (xs ++ ys) h)
-written_part_early p xs ys h a b first = (first.0, prints_first_early p xs ys h first.0 first.1, first.2)
-
--- the later lines print nothing
-pub written_stopped : (p : Plan) (xs ys : List Line) (h : History) (a b : Option (List ℕ)) (k : NodeId) →
-    (lines_done p.topology xs h).stopped ≡ Some k → HasWritten a b (Prints p xs h) →
-    HasWritten a b (Prints p (xs ++ ys) h)
-written_stopped p xs ys h a b k stopped first = (
-  first.0,
-  subst (Prints p (xs ++ ys) h) (append-nil first.0) (prints_append p xs ys h first.0 [] first.1
-      (prints_nothing p ys (lines_done p.topology xs h) k (record { stopped = stopped }))),
-  first.2,
-)

@@ -1,5 +1,5 @@
 -- What is answered to an input, of what was written.
-use Rattle.std.proofs.Common.{◌≡◌, ◌≤◌, ℕ, List, [], ◌++◌, inl, inr, refl, sym, subst, append-nil}
+use Rattle.std.proofs.Common.{◌≡◌, ◌≤◌, ℕ, List, [], ◌++◌, take, inl, inr, refl, sym, subst, append-nil}
 use Rattle.std.specs.Prelude.{Option, Some, None, Ok}
 use Rattle.std.specs.Io.KnownBytes.{Appends}
 use Rattle.std.proofs.KnownBytes.{Appends-nil, Appends-trans}
@@ -10,95 +10,208 @@ use Rattle.plan_reader.specs.Plans.{PlanOf}
 use Rattle.table_text.specs.TableText.{stopped_text}
 use Rattle.ason_main.specs.declared.answers.Status.{Status}
 use Rattle.ason_main.specs.Answers.{Ask, Decode, Done, EventLimit, Reply, Request, Run, Survey, Unfinished, Usage}
-use Rattle.ason_main.specs.Answers.{IsAnswered, IsReply, IsReplyFor, IsReplyTo, WasToldOrNothing, request_of}
-use Rattle.ason_main.specs.Outputs.{IsBegun, IsTheOutput}
-use Rattle.ason_main.specs.Surveys.{IsStoppedSurvey}
-use Rattle.ason_main.specs.Running.{HasWritten, HasWrittenPart, IsCutShort}
+use Rattle.ason_main.specs.Answers.{HasKept, IsAnswered, IsReply, IsReplyFor, IsReplyTo, MayKeep, WasTold, WasToldOrNothing, printing, request_of}
+use Rattle.ason_main.specs.declared.runner.stops.Stop.{Stop}
+use Rattle.fleet.specs.Standing.{FleetState}
+use Rattle.script_rules.specs.Outputs.{How, script_of}
+use Rattle.script_rules.specs.Stages.{Stage}
+use Rattle.ason_main.specs.Outputs.{HasBeenCut, HasEnded, IsBegun, IsKept, IsTheCut, end_of}
+use Rattle.ason_main.specs.Surveys.{StopsSurvey, TellsTheSurvey}
+use Rattle.command_words.specs.Paces.{PaceView}
+use Rattle.ason_main.specs.Running.{HasWritten, HasWrittenPart, StandsYet}
 use Rattle.ason_main.proofs.Printing.{part_after}
-use Rattle.ason_main.proofs.Scripts.{rose_later}
+use Rattle.ason_main.proofs.OneLine.{rose_later}
 
 -- Runs
 
-pub ended : {K : Type 0} (written : K → Option (List ℕ)) (faults : K → ℕ) (bs : List ℕ) (p : Plan) (old new : K) →
-    PlanOf bs (Ok p) → HasWritten (written old) (written new) (IsTheOutput p) →
-    IsAnswered written faults Run bs old new Status.Done
-ended written faults bs p old new plan is = (Done is.0, (p, plan, is.1), inl (refl, is.2))
+-- what is kept of a run
+pub may_keep : (p : Plan) (f : FleetState) (o : Option FleetState) → o ≡ Some f → StandsYet p.topology f → MayKeep p o
+may_keep p f o is yet = subst (MayKeep p) (sym is) yet
 
-pub failed : {K : Type 0} (written : K → Option (List ℕ)) (faults : K → ℕ) (bs : List ℕ) (p : Plan) (old new : K) →
-    PlanOf bs (Ok p) → Rose (faults old) (faults new) → HasWrittenPart (written old) (written new) (IsBegun p) →
-    IsAnswered written faults Run bs old new Status.WriteFault
-failed written faults bs p old new plan rose is =
-    (Unfinished is.0, inr (p, plan, is.1), inr (refl, rose, is.2))
+has_kept : (p : Plan) (f : FleetState) (o : Option FleetState) (s : Stage) → o ≡ Some f → IsKept p f s → HasKept p o s
+has_kept p f o s is kept = subst (λ q. HasKept p q s) (sym is) kept
+
+-- a fleet that made a stage stands for it
+pub made_yet : (p : Plan) (f : FleetState) (s : Stage) → IsKept p f s → StandsYet p.topology f
+made_yet p f s kept = record { lines = s.lines; made = s.made; stands = kept.stands }
+
+pub ended : {K : Type 0} (written : K → Option (List ℕ)) (faults : K → ℕ) (bs : List ℕ) (p : Plan) (pace : PaceView)
+    (f : FleetState) (kept : Option FleetState) (old new : K) → PlanOf bs (Ok p) → kept ≡ Some f →
+    HasEnded p (printing pace.workers) f (written old) (written new) →
+    IsAnswered written faults (Run pace) bs old new kept Status.Done
+ended written faults bs p pace f kept old new plan keeps is = (
+  Done is.text,
+  (p, plan, (is.more, is.output, has_kept p f kept (end_of is.more) keeps is.kept)),
+  inl (refl, is.written),
+)
+
+pub failed : {K : Type 0} (written : K → Option (List ℕ)) (faults : K → ℕ) (bs : List ℕ) (p : Plan) (pace : PaceView)
+    (f : FleetState) (kept : Option FleetState) (old new : K) → PlanOf bs (Ok p) → kept ≡ Some f →
+    Rose (faults old) (faults new) →
+    HasWrittenPart (written old) (written new) (IsBegun p (printing pace.workers)) → StandsYet p.topology f →
+    IsAnswered written faults (Run pace) bs old new kept Status.WriteFault
+failed written faults bs p pace f kept old new plan keeps rose is yet =
+    (Unfinished is.0, inr (p, plan, is.1, may_keep p f kept keeps yet), inr (refl, rose, is.2))
 
 pub unfinished : {K : Type 0} (written : K → Option (List ℕ)) (faults : K → ℕ) (bs : List ℕ) (p : Plan)
-    (old new : K) → PlanOf bs (Ok p) → HasWritten (written old) (written new) (IsBegun p) →
-    IsAnswered written faults Run bs old new Status.OutOfMemory
-unfinished written faults bs p old new plan is = (Unfinished is.0, inr (p, plan, is.1), inl (refl, is.2))
+    (pace : PaceView) (f : FleetState) (kept : Option FleetState) (old new : K) → PlanOf bs (Ok p) → kept ≡ Some f →
+    HasWritten (written old) (written new) (IsBegun p (printing pace.workers)) → StandsYet p.topology f →
+    IsAnswered written faults (Run pace) bs old new kept Status.OutOfMemory
+unfinished written faults bs p pace f kept old new plan keeps is yet =
+    (Unfinished is.0, inr (p, plan, is.1, may_keep p f kept keeps yet), inl (refl, is.2))
+
+-- what was told before the stop is begun
+cut_begun : (p : Plan) (how : How) (n : NodeId) (more : List Stage) (text : List ℕ) → IsTheCut p how n more text →
+    IsBegun p how text
+cut_begun p how n more text cut = record {
+  more = more;
+  one_run = cut.output.one_run;
+  printed = (script_of p, [], append-nil (script_of p), cut.output.printed);
+}
 
 -- the line of the stop comes last
-pub stopped : {K : Type 0} (written : K → Option (List ℕ)) (faults : K → ℕ) (bs : List ℕ) (p : Plan) (n : NodeId)
-    (old now new : K) (s : Status) → PlanOf bs (Ok p) → faults old ≤ faults now →
-    HasWritten (written old) (written now) (IsCutShort p n) →
+pub stopped : {K : Type 0} (written : K → Option (List ℕ)) (faults : K → ℕ) (bs : List ℕ) (p : Plan) (pace : PaceView)
+    (n : NodeId) (f : FleetState) (kept : Option FleetState) (old now new : K) (s : Status) → PlanOf bs (Ok p) →
+    kept ≡ Some f → faults old ≤ faults now →
+    HasBeenCut p (printing pace.workers) n f (written old) (written now) →
     WasToldOrNothing written faults now new (stopped_text p n) Status.EventLimit s →
-    IsAnswered written faults Run bs old new s
-stopped written faults bs p n old now new s plan rises is (inl (inl told)) = (
-  EventLimit (is.0 ++ stopped_text p n),
-  (p, plan, (n, is.1.output)),
-  inl (told.0, Appends-trans (written old) (written now) (written new) is.0 (stopped_text p n) is.2 told.1),
+    IsAnswered written faults (Run pace) bs old new kept s
+stopped written faults bs p pace n f kept old now new s plan keeps rises is (inl (inl told)) = (
+  EventLimit (is.text ++ stopped_text p n),
+  (
+    p,
+    plan,
+    (
+      n,
+      is.more,
+      record { told = is.text; cut = is.output; all = refl },
+      has_kept p f kept (end_of is.more) keeps is.kept,
+    ),
+  ),
+  inl (told.0, Appends-trans (written old) (written now) (written new) is.text (stopped_text p n) is.written told.1),
 )
-stopped written faults bs p n old now new s plan rises is (inl (inr part)) = (
-  EventLimit (is.0 ++ stopped_text p n),
-  (p, plan, (n, is.1.output)),
+stopped written faults bs p pace n f kept old now new s plan keeps rises is (inl (inr part)) = (
+  EventLimit (is.text ++ stopped_text p n),
+  (
+    p,
+    plan,
+    (
+      n,
+      is.more,
+      record { told = is.text; cut = is.output; all = refl },
+      has_kept p f kept (end_of is.more) keeps is.kept,
+    ),
+  ),
   inr (
     part.0,
     rose_later (faults old) (faults now) (faults new) rises part.1,
-    part_after (written old) (written now) (written new) is.0 (stopped_text p n) part.2.0 part.2.1 is.2 part.2.2,
+    part_after (written old) (written now) (written new) is.text (stopped_text p n) part.2.0 part.2.1 is.written
+        part.2.2,
   ),
 )
-stopped written faults bs p n old now new s plan rises is (inr none) = (
-  Unfinished is.0,
-  inr (p, plan, is.1.begun),
+stopped written faults bs p pace n f kept old now new s plan keeps rises is (inr none) = (
+  Unfinished is.text,
+  inr (
+    p,
+    plan,
+    cut_begun p (printing pace.workers) n is.more is.text is.output,
+    may_keep p f kept keeps (made_yet p f (end_of is.more) is.kept),
+  ),
   inl (
     none.0,
-    subst (Appends (written old) (written new)) (append-nil is.0)
-        (Appends-trans (written old) (written now) (written new) is.0 [] is.2 none.1),
+    subst (Appends (written old) (written new)) (append-nil is.text)
+        (Appends-trans (written old) (written now) (written new) is.text [] is.written none.1),
   ),
 )
 
 -- Surveys
 
+-- what was told after a run of which nothing was written
+told_after : {K : Type 0} (written : K → Option (List ℕ)) (faults : K → ℕ) (old now new : K) (text : List ℕ)
+    (status s : Status) → Appends (written old) (written now) [] → faults old ≤ faults now →
+    WasTold written faults now new text status s → WasTold written faults old new text status s
+told_after written faults old now new text status s none rises (inl told) =
+    inl (told.0, Appends-trans (written old) (written now) (written new) [] text none told.1)
+told_after written faults old now new text status s none rises (inr part) = inr (
+  part.0,
+  rose_later (faults old) (faults now) (faults new) rises part.1,
+  (
+    part.2.0,
+    part.2.1,
+    Appends-trans (written old) (written now) (written new) [] (take part.2.0 text) none part.2.2,
+  ),
+)
+
+pub surveyed : {K : Type 0} (written : K → Option (List ℕ)) (faults : K → ℕ) (bs : List ℕ) (p : Plan)
+    (f : FleetState) (kept : Option FleetState) (old now new : K) (text : List ℕ) (s : Status) → PlanOf bs (Ok p) →
+    kept ≡ Some f → Appends (written old) (written now) [] → faults old ≤ faults now → TellsTheSurvey p f text →
+    WasTold written faults now new text Status.Done s → IsAnswered written faults Survey bs old new kept s
+surveyed written faults bs p f kept old now new text s plan keeps none rises tells told = (
+  Done text,
+  (p, plan, (tells.more, tells.survey, has_kept p f kept (end_of tells.more) keeps tells.kept)),
+  told_after written faults old now new text Status.Done s none rises told,
+)
+
 -- the line of the stop is all that is told
 pub stopped_survey : {K : Type 0} (written : K → Option (List ℕ)) (faults : K → ℕ) (bs : List ℕ) (p : Plan)
-    (n : NodeId) (old new : K) (s : Status) → PlanOf bs (Ok p) → IsStoppedSurvey p n (stopped_text p n) →
-    WasToldOrNothing written faults old new (stopped_text p n) Status.EventLimit s →
-    IsAnswered written faults Survey bs old new s
-stopped_survey written faults bs p n old new s plan is (inl told) =
-    (EventLimit (stopped_text p n), (p, plan, (n, is)), told)
-stopped_survey written faults bs p n old new s plan is (inr none) = (Unfinished [], refl, inl none)
+    (n : NodeId) (f : FleetState) (kept : Option FleetState) (old now new : K) (s : Status) → PlanOf bs (Ok p) →
+    kept ≡ Some f → Appends (written old) (written now) [] → faults old ≤ faults now →
+    StopsSurvey p f (Stop.AtLimit n) → WasToldOrNothing written faults now new (stopped_text p n) Status.EventLimit s →
+    IsAnswered written faults Survey bs old new kept s
+stopped_survey written faults bs p n f kept old now new s plan keeps none rises stops (inl told) = (
+  EventLimit (stopped_text p n),
+  (p, plan, (n, stops.0, stops.1, has_kept p f kept (end_of stops.0) keeps stops.2)),
+  told_after written faults old now new (stopped_text p n) Status.EventLimit s none rises told,
+)
+stopped_survey written faults bs p n f kept old now new s plan keeps none rises stops (inr nothing) = (
+  Unfinished [],
+  (refl, inr (p, plan, may_keep p f kept keeps (made_yet p f (end_of stops.0) stops.2))),
+  inl (nothing.0, Appends-trans (written old) (written now) (written new) [] [] none nothing.1),
+)
+
+-- memory was wanting, and nothing was written
+pub survey_starved : {K : Type 0} (written : K → Option (List ℕ)) (faults : K → ℕ) (bs : List ℕ) (p : Plan)
+    (f : FleetState) (kept : Option FleetState) (old new : K) → PlanOf bs (Ok p) → kept ≡ Some f →
+    Appends (written old) (written new) [] → StandsYet p.topology f →
+    IsAnswered written faults Survey bs old new kept Status.OutOfMemory
+survey_starved written faults bs p f kept old new plan keeps none yet =
+    (Unfinished [], (refl, inr (p, plan, may_keep p f kept keeps yet)), inl (refl, none))
 
 -- Want of memory before anything is told
 
-pub no_memory : {K : Type 0} (written : K → Option (List ℕ)) (faults : K → ℕ) (k : Request) (bs : List ℕ) (out : K) →
-    IsAnswered written faults k bs out out Status.OutOfMemory
-no_memory written faults Run bs out = (Unfinished [], inl refl, inl (refl, Appends-nil (written out)))
-no_memory written faults Decode bs out = (Unfinished [], refl, inl (refl, Appends-nil (written out)))
-no_memory written faults Survey bs out = (Unfinished [], refl, inl (refl, Appends-nil (written out)))
-no_memory written faults (Ask question from to) bs out = (Unfinished [], refl, inl (refl, Appends-nil (written out)))
+pub no_memory : {K : Type 0} (written : K → Option (List ℕ)) (faults : K → ℕ) (k : Request) (bs : List ℕ) (out : K)
+    (kept : Option FleetState) → kept ≡ None → IsAnswered written faults k bs out out kept Status.OutOfMemory
+no_memory written faults (Run pace) bs out kept none =
+    (Unfinished [], inl (refl, none), inl (refl, Appends-nil (written out)))
+no_memory written faults Decode bs out kept none =
+    (Unfinished [], (refl, none), inl (refl, Appends-nil (written out)))
+no_memory written faults Survey bs out kept none =
+    (Unfinished [], (refl, inl none), inl (refl, Appends-nil (written out)))
+no_memory written faults (Ask question from to) bs out kept none =
+    (Unfinished [], (refl, none), inl (refl, Appends-nil (written out)))
+
+-- a reply where no fleet is kept
+pub kept_none : {K : Type 0} (written : K → Option (List ℕ)) (faults : K → ℕ) (k : Request) (bs : List ℕ)
+    (old new : K) (kept : Option FleetState) (s : Status) → kept ≡ None →
+    IsAnswered written faults k bs old new None s → IsAnswered written faults k bs old new kept s
+kept_none written faults k bs old new kept s none is =
+    subst (λ o. IsAnswered written faults k bs old new o s) (sym none) is
 
 -- Reading
 
 -- what is said of the source, where the words have this meaning
 pub reply_read :
     {S : Type 0} (left : S → Option (List ℕ)) (handed : S → List ℕ → S → Type 0) (ended : S → Type 0)
-    (faults : S → ℕ) (words : List (List ℕ)) (old new : S) (k : Request) (r : Reply) → request_of words ≡ Some k →
-    IsReplyFor left handed ended faults old new k r → IsReply left handed ended faults words old new r
-reply_read left handed ended faults words old new k r word is =
-    subst (IsReplyTo left handed ended faults old new r) (sym word) is
+    (faults : S → ℕ) (words : List (List ℕ)) (old new : S) (k : Request) (r : Reply) (kept : Option FleetState) →
+    request_of words ≡ Some k → IsReplyFor left handed ended faults old new k r kept →
+    IsReply left handed ended faults words old new r kept
+reply_read left handed ended faults words old new k r kept word is =
+    subst (IsReplyTo left handed ended faults old new r kept) (sym word) is
 
 -- nothing is read where they have none
 pub usage_reply :
     {S : Type 0} (left : S → Option (List ℕ)) (handed : S → List ℕ → S → Type 0) (ended : S → Type 0)
-    (faults : S → ℕ) (words : List (List ℕ)) (src : S) → request_of words ≡ None →
-    IsReply left handed ended faults words src src Usage
-usage_reply left handed ended faults words src none =
-    subst (IsReplyTo left handed ended faults src src Usage) (sym none) (refl, refl)
+    (faults : S → ℕ) (words : List (List ℕ)) (src : S) (kept : Option FleetState) → request_of words ≡ None →
+    kept ≡ None → IsReply left handed ended faults words src src Usage kept
+usage_reply left handed ended faults words src kept none keeps =
+    subst (IsReplyTo left handed ended faults src src Usage kept) (sym none) (refl, refl, keeps)

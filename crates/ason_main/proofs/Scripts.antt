@@ -1,191 +1,237 @@
 -- The lines of a script that are done, and where they stop.
-use Rattle.std.proofs.Common.{◌<◌, ◌≤◌, ◌+◌, ℕ, List, [], ◌∷◌, ◌++◌, length, get_or, take, drop, inl, inr, refl, sym, subst, arith}
-use Rattle.std.specs.Prelude.{Option}
+use Rattle.std.proofs.Common.{◌≡◌, ◌<◌, ◌≤◌, ◌+◌, ℕ, true, false, List, [], ◌∷◌, ◌++◌, length, get_or, take, drop, inl, inr, refl, sym, ap, ◌∙◌, subst, append_assoc, arith}
+use Rattle.std.specs.Prelude.{Option, None, Some, is_some}
 use Rattle.std.specs.Io.KnownBytes.{Appends}
-use Rattle.std.proofs.KnownBytes.{Appends-nil}
-use Rattle.std.proofs.lemmas.List.{take_more}
+use Rattle.std.proofs.KnownBytes.{Appends-nil, Appends-trans}
+use Rattle.std.proofs.lemmas.List.{take-append-drop, take_more}
+use Rattle.std.proofs.lemmas.List.Sums.{fold-append}
 use Rattle.ason_io.specs.Faults.{Rose}
-use Rattle.station.specs.Histories.{world_after}
+use Rattle.ason_base.specs.declared.ids.CallNo.{CallNo}
+use Rattle.ason_base.specs.declared.ids.NodeId.{NodeId}
+use Rattle.ason_base.specs.Network.{Network}
 use Rattle.fleet.specs.Standing.{FleetState}
 use Rattle.plan_reader.specs.declared.lines.Line.{Line}
+use Rattle.plan_reader.specs.declared.lines.Line.TheVariants.{Settle, Show}
 use Rattle.plan_reader.specs.declared.plan.Plan.{Plan}
+use Rattle.plan_reader.specs.Plans.{ArePostable, calls_after_line, calls_after_lines}
+use Rattle.script_rules.specs.Laws.{RoundLaws}
+use Rattle.script_rules.specs.Outputs.{How, settling_script}
+use Rattle.script_rules.specs.Stages.{Stage, last_of, world_at}
+use Rattle.script_rules.proofs.Posts.{posts_follow}
 use Rattle.ason_main.specs.declared.runner.stops.Stop.{Stop}
-use Rattle.ason_main.specs.Outputs.{line_done, lines_done, settling_script}
-use Rattle.ason_main.specs.Running.{Does, DoesAll, FailsIn, RunState, Stops, StopsAll, at}
-use Rattle.ason_main.proofs.Leading.{can_later, first_lines, last_lines, led_both, parts, postable_first, stopped_early, stopped_later}
-use Rattle.ason_main.proofs.Lines.{nothing_printed}
-use Rattle.ason_main.proofs.Printing.{prints_one, written_both, written_early, written_later, written_part_early, written_part_later, written_stopped}
-use Rattle.ason_main.proofs.ScriptRuns.{line_posted}
+use Rattle.ason_main.specs.Running.{AreBegun, AreDone, AreLed, CanDoAll, Does, DoesAll, EndsIn, FailsIn, HasStood, RunState, StandsAt, Stops, StopsAll, Tells, at}
+use Rattle.script_rules.proofs.Follows.{lines_follow}
+use Rattle.ason_main.proofs.Printing.{not_shown, part_after, prints_first_early, prints_first_later, prints_one, prints_stopped, shown, stopped_shows}
+use Rattle.ason_main.proofs.Rounding.{all_both, led_at, led_both, led_none}
+use Rattle.ason_main.proofs.OneLine.{no_fall, rose_later, two_rises}
 
--- Counts of faults
+-- Calls that were posted
 
-pub rose_later : (a b c : ℕ) → a ≤ b → Rose b c → Rose a c
-rose_later a b c rises (inl more) = inl (omega arith)
-rose_later a b c rises (inr last) = inr last
+postable_first : (t : Network) (q : List CallNo) (xs ys : List Line) → ArePostable t q (xs ++ ys) → ArePostable t q xs
+postable_first t q [] ys are = tt
+postable_first t q (x ∷ xs) ys are = (are.0, postable_first t (calls_after_line q x) xs ys are.1)
 
-no_fall : (n : ℕ) → n ≤ n
-no_fall n = omega arith
+postable_rest : (t : Network) (q : List CallNo) (xs ys : List Line) → ArePostable t q (xs ++ ys) →
+    ArePostable t (calls_after_lines q xs) ys
+postable_rest t q [] ys are = are
+postable_rest t q (x ∷ xs) ys are = postable_rest t (calls_after_line q x) xs ys are.1
 
-two_rises : (a b c : ℕ) → a ≤ b → b ≤ c → a ≤ c
-two_rises a b c h k = omega arith
-
--- One line
-
-pub does_line : (p : Plan) (line : Line) (f g : FleetState) (a b : Option (List ℕ)) (n m : ℕ) (text : List ℕ) →
-    Does p line f g text → Appends a b text → n ≤ m → DoesAll p (line ∷ []) (at f a n) (at g b m)
-does_line p line f g a b n m text does written rises = record {
-  done = λ h stands can.
-      let is = does.done h stands can.0 in
-      record {
-        led = record { stands = is.stands; posted = line_posted p.topology line h stands.going };
-        printed = (text, prints_one p line h text is.printed, written);
-      };
-  rises = rises;
-}
-
--- the sink failed while it took what the line prints
-pub fails_line :
-    (p : Plan) (line : Line) (f g : FleetState) (a b : Option (List ℕ)) (n m : ℕ) (text : List ℕ) →
-    Does p line f g text → (k : ℕ) × (k < length text) × Appends a b (take k text) → Rose n m →
-    FailsIn p (line ∷ []) (at f a n) (at g b m)
-fails_line p line f g a b n m text does part rose = record {
-  rose = rose;
-  part = λ h stands can.
-      (text, (line ∷ [], [], refl, prints_one p line h text (does.done h stands can.0).printed), part);
-}
-
--- the line isn't done, and nothing was written
-pub stops_line : (p : Plan) (line : Line) (f g : FleetState) (a : Option (List ℕ)) (n : ℕ) (s : Stop) →
-    Stops p line f s → StopsAll p (line ∷ []) (at f a n) (at g a n) s
-stops_line p line f g a n (Stop.AtLimit k) stops = record {
-  cut = λ h stands can. record {
-    stopped = stops.cut h stands;
-    printed = (
-      [],
-      prints_one p line h [] (nothing_printed p line (line_done p.topology h line) k (stops.cut h stands)),
-      Appends-nil a,
-    );
-  };
-  rises = no_fall n;
-}
-stops_line p line f g a n Stop.Failed stops = absurd stops
-stops_line p line f g a n Stop.OutOfMemory stops = record {
-  part = λ h stands can. ([], ([], line ∷ [], refl, refl), Appends-nil a);
-}
+-- after the first lines the later ones can be posted
+can_later : RoundLaws → (p : Plan) (how : How) (xs ys : List Line) (a b : RunState) (s : Stage) →
+    (x : AreDone p how xs a b None s) → ArePostable p.topology (world_at p.topology s).posted (xs ++ ys) →
+    ArePostable p.topology (world_at p.topology (last_of s x.more)).posted ys
+can_later laws p how xs ys a b s x can =
+    subst (λ q. ArePostable p.topology q ys)
+    (sym (posts_follow laws p how xs s x.more x.text x.printed (ap is_some x.led.stopped)))
+    (postable_rest p.topology (world_at p.topology s).posted xs ys can)
 
 -- Lines one after the other
 
-pub does_none : (p : Plan) (f : FleetState) (a : Option (List ℕ)) (n : ℕ) → DoesAll p [] (at f a n) (at f a n)
-does_none p f a n = record {
-  done = λ h stands can. record {
-    led = record { stands = stands; posted = refl };
-    printed = ([], refl, Appends-nil a);
+pub does_none : (p : Plan) (how : How) (f : FleetState) (a : Option (List ℕ)) (n : ℕ) →
+    DoesAll p how [] (at f a n) (at f a n) None
+does_none p how f a n = record {
+  done = λ s stands can. record {
+    more = [];
+    text = [];
+    printed = (refl, refl);
+    led = led_none p.topology f s stands;
+    written = Appends-nil a;
   };
   rises = no_fall n;
 }
 
-pub does_both : (p : Plan) (xs ys : List Line) (a b c : RunState) → DoesAll p xs a b → DoesAll p ys b c →
-    DoesAll p (xs ++ ys) a c
-does_both p xs ys a b c first second = record {
-  done = λ h stands can.
+pub does_both : RoundLaws → (p : Plan) (how : How) (xs ys : List Line) (a b c : RunState) (stop : Option NodeId) →
+    DoesAll p how xs a b None → DoesAll p how ys b c stop → DoesAll p how (xs ++ ys) a c stop
+does_both laws p how xs ys a b c stop first second = record {
+  done = λ s stands can.
       let t = p.topology in
-      let here = first.done h stands (postable_first t (world_after t h).posted xs ys can) in
-      let there = second.done (lines_done t xs h) here.led.stands (can_later p xs ys b.fleet h here.led can) in
+      let x = first.done s stands (postable_first t (world_at t s).posted xs ys can) in
+      let z = last_of s x.more in
+      let y = second.done z (led_at t b.fleet s x.more x.led)
+      (can_later laws p how xs ys a b s x can) in
       record {
-        led = led_both p xs ys b.fleet c.fleet h here.led there.led;
-        printed = written_both p xs ys h a.written b.written c.written here.printed there.printed;
+        more = x.more ++ y.more;
+        text = x.text ++ y.text;
+        printed = lines_follow p how xs ys s x.more y.more x.text y.text x.printed y.printed;
+        led = led_both t b.fleet c.fleet None stop s x.more y.more x.led y.led;
+        written = Appends-trans a.written b.written c.written x.text y.text x.written y.written;
       };
   rises = two_rises a.faults b.faults c.faults first.rises second.rises;
 }
 
-pub stops_early : (p : Plan) (xs ys : List Line) (a b : RunState) (s : Stop) → StopsAll p xs a b s →
-    StopsAll p (xs ++ ys) a b s
-stops_early p xs ys a b (Stop.AtLimit k) stops = record {
-  cut = λ h stands can.
+-- some first lines of the later ones
+begun_later : (p : Plan) (how : How) (xs ys : List Line) (a b : RunState) (new : FleetState) (s : Stage)
+    (text : List ℕ) (x : AreDone p how xs a b None s) → AreBegun p how ys new (last_of s x.more) text →
+    AreBegun p how (xs ++ ys) new s (x.text ++ text)
+begun_later p how xs ys a b new s text x y = record {
+  more = x.more ++ y.more;
+  printed = prints_first_later p how xs ys s x.more y.more x.text text x.printed y.printed;
+  stood = all_both (HasStood p.topology) x.more y.more x.led.stood y.stood;
+  yet = y.yet;
+}
+
+begun_early : (p : Plan) (how : How) (xs ys : List Line) (new : FleetState) (s : Stage) (text : List ℕ) →
+    AreBegun p how xs new s text → AreBegun p how (xs ++ ys) new s text
+begun_early p how xs ys new s text x = record {
+  more = x.more;
+  printed = prints_first_early p how xs ys s x.more text x.printed;
+  stood = x.stood;
+  yet = x.yet;
+}
+
+pub stops_early : (p : Plan) (how : How) (xs ys : List Line) (a b : RunState) (e : Stop) → StopsAll p how xs a b e →
+    StopsAll p how (xs ++ ys) a b e
+stops_early p how xs ys a b (Stop.AtLimit k) stops = record {
+  done = λ s stands can.
       let t = p.topology in
-      let here = stops.cut h stands (postable_first t (world_after t h).posted xs ys can) in
+      let x = stops.done s stands (postable_first t (world_at t s).posted xs ys can) in
       record {
-        stopped = stopped_early p xs ys h k here.stopped;
-        printed = written_stopped p xs ys h a.written b.written k here.stopped here.printed;
+        more = x.more;
+        text = x.text;
+        printed = prints_stopped p how xs ys s x.more x.text k x.led.stopped x.printed;
+        led = x.led;
+        written = x.written;
       };
   rises = stops.rises;
 }
-stops_early p xs ys a b Stop.Failed stops = record {
+stops_early p how xs ys a b Stop.Failed stops = record {
   rose = stops.rose;
-  part = λ h stands can.
-      written_part_early p xs ys h a.written b.written
-      (stops.part h stands (postable_first p.topology (world_after p.topology h).posted xs ys can));
+  part = λ s stands can.
+      let x = stops.part s stands (postable_first p.topology (world_at p.topology s).posted xs ys can) in
+      (x.0, begun_early p how xs ys b.fleet s x.0 x.1, x.2);
 }
-stops_early p xs ys a b Stop.OutOfMemory stops = record {
-  part = λ h stands can.
-      written_early p xs ys h a.written b.written
-      (stops.part h stands (postable_first p.topology (world_after p.topology h).posted xs ys can));
+stops_early p how xs ys a b Stop.OutOfMemory stops = record {
+  part = λ s stands can.
+      let x = stops.part s stands (postable_first p.topology (world_at p.topology s).posted xs ys can) in
+      (x.0, begun_early p how xs ys b.fleet s x.0 x.1, x.2);
+  rises = stops.rises;
 }
 
-pub stops_later : (p : Plan) (xs ys : List Line) (a b c : RunState) (s : Stop) → DoesAll p xs a b →
-    StopsAll p ys b c s → StopsAll p (xs ++ ys) a c s
-stops_later p xs ys a b c (Stop.AtLimit k) first stops = record {
-  cut = λ h stands can.
+pub stops_later : RoundLaws → (p : Plan) (how : How) (xs ys : List Line) (a b c : RunState) (e : Stop) →
+    DoesAll p how xs a b None → StopsAll p how ys b c e → StopsAll p how (xs ++ ys) a c e
+stops_later laws p how xs ys a b c (Stop.AtLimit k) first stops =
+    does_both laws p how xs ys a b c (Some k) first stops
+stops_later laws p how xs ys a b c Stop.Failed first stops = record {
+  rose = rose_later a.faults b.faults c.faults first.rises stops.rose;
+  part = λ s stands can.
       let t = p.topology in
-      let here = first.done h stands (postable_first t (world_after t h).posted xs ys can) in
-      let there = stops.cut (lines_done t xs h) here.led.stands (can_later p xs ys b.fleet h here.led can) in
-      record {
-        stopped = stopped_later p xs ys h k there.stopped;
-        printed = written_both p xs ys h a.written b.written c.written here.printed there.printed;
-      };
+      let x = first.done s stands (postable_first t (world_at t s).posted xs ys can) in
+      let y = stops.part (last_of s x.more) (led_at t b.fleet s x.more x.led)
+      (can_later laws p how xs ys a b s x can) in (
+        x.text ++ y.0,
+        begun_later p how xs ys a b c.fleet s y.0 x y.1,
+        part_after a.written b.written c.written x.text y.0 y.2.0 y.2.1 x.written y.2.2,
+      );
+}
+stops_later laws p how xs ys a b c Stop.OutOfMemory first stops = record {
+  part = λ s stands can.
+      let t = p.topology in
+      let x = first.done s stands (postable_first t (world_at t s).posted xs ys can) in
+      let y = stops.part (last_of s x.more) (led_at t b.fleet s x.more x.led)
+      (can_later laws p how xs ys a b s x can) in (
+        x.text ++ y.0,
+        begun_later p how xs ys a b c.fleet s y.0 x y.1,
+        Appends-trans a.written b.written c.written x.text y.0 x.written y.2,
+      );
   rises = two_rises a.faults b.faults c.faults first.rises stops.rises;
 }
-stops_later p xs ys a b c Stop.Failed first stops = record {
-  rose = rose_later a.faults b.faults c.faults first.rises stops.rose;
-  part = λ h stands can.
-      let t = p.topology in
-      let here = first.done h stands (postable_first t (world_after t h).posted xs ys can) in
-      written_part_later p xs ys h a.written b.written c.written here.printed
-      (stops.part (lines_done t xs h) here.led.stands (can_later p xs ys b.fleet h here.led can));
-}
-stops_later p xs ys a b c Stop.OutOfMemory first stops = record {
-  part = λ h stands can.
-      let t = p.topology in
-      let here = first.done h stands (postable_first t (world_after t h).posted xs ys can) in
-      written_later p xs ys h a.written b.written c.written here.printed
-      (stops.part (lines_done t xs h) here.led.stands (can_later p xs ys b.fleet h here.led can));
-}
+
+-- after the first lines the later ones can be done
+pub can_then : RoundLaws → (p : Plan) (how : How) (xs ys : List Line) (a b : RunState) → DoesAll p how xs a b None →
+    CanDoAll p.topology a.fleet (xs ++ ys) → CanDoAll p.topology b.fleet ys
+can_then laws p how xs ys a b does can =
+    let t = p.topology in
+    let s = can.stage in
+    let x = does.done s can.stands (postable_first t (world_at t s).posted xs ys can.can) in
+    record {
+      stage = last_of s x.more;
+      stands = led_at t b.fleet s x.more x.led;
+      can = can_later laws p how xs ys a b s x can.can;
+    }
 
 -- Lines by number
 
-pub does_more : (p : Plan) (lines : List Line) (i : ℕ) (d : Line) (a b c : RunState) → i < length lines →
-    DoesAll p (take i lines) a b → DoesAll p (get_or lines i d ∷ []) b c → DoesAll p (take (i + 1) lines) a c
-does_more p lines i d a b c below first second =
-    subst (λ ls. DoesAll p ls a c) (sym (take_more lines i d below))
-    (does_both p (take i lines) (get_or lines i d ∷ []) a b c first second)
+-- the first lines, the next one, and the others
+parts : (lines : List Line) (i : ℕ) (d : Line) → i < length lines →
+    take i lines ++ (get_or lines i d ∷ drop (i + 1) lines) ≡ lines
+parts lines i d below =
+    sym (append_assoc (take i lines) (get_or lines i d ∷ []) (drop (i + 1) lines))
+    ∙ (ap (λ xs. xs ++ drop (i + 1) lines) (sym (take_more lines i d below)) ∙ take-append-drop (i + 1) lines)
 
-pub stops_at : (p : Plan) (lines : List Line) (i : ℕ) (d : Line) (a b c : RunState) (s : Stop) → i < length lines →
-    DoesAll p (take i lines) a b → StopsAll p (get_or lines i d ∷ []) b c s → StopsAll p lines a c s
-stops_at p lines i d a b c s below first stops =
-    subst (λ ls. StopsAll p ls a c s) (parts lines i d below)
-    (stops_later p (take i lines) (get_or lines i d ∷ drop (i + 1) lines) a b c s first
-    (stops_early p (get_or lines i d ∷ []) (drop (i + 1) lines) b c s stops))
+-- the next line can be done
+pub can_next : RoundLaws → (p : Plan) (how : How) (lines : List Line) (i : ℕ) (d : Line) (a b : RunState) →
+    i < length lines → DoesAll p how (take i lines) a b None → CanDoAll p.topology a.fleet lines →
+    CanDoAll p.topology b.fleet (get_or lines i d ∷ [])
+can_next laws p how lines i d a b below does can =
+    let rest = can_then laws p how (take i lines) (get_or lines i d ∷ drop (i + 1) lines) a b does
+    (subst (CanDoAll p.topology a.fleet) (sym (parts lines i d below)) can) in
+    record { stage = rest.stage; stands = rest.stands; can = (rest.can.0, tt) }
+
+pub does_more : RoundLaws → (p : Plan) (how : How) (lines : List Line) (i : ℕ) (d : Line) (a b c : RunState) →
+    i < length lines → DoesAll p how (take i lines) a b None → DoesAll p how (get_or lines i d ∷ []) b c None →
+    DoesAll p how (take (i + 1) lines) a c None
+does_more laws p how lines i d a b c below first second =
+    subst (λ ls. DoesAll p how ls a c None) (sym (take_more lines i d below))
+    (does_both laws p how (take i lines) (get_or lines i d ∷ []) a b c None first second)
+
+pub stops_at : RoundLaws → (p : Plan) (how : How) (lines : List Line) (i : ℕ) (d : Line) (a b c : RunState)
+    (e : Stop) → i < length lines → DoesAll p how (take i lines) a b None →
+    StopsAll p how (get_or lines i d ∷ []) b c e → StopsAll p how lines a c e
+stops_at laws p how lines i d a b c e below first stops =
+    subst (λ ls. StopsAll p how ls a c e) (parts lines i d below)
+    (stops_later laws p how (take i lines) (get_or lines i d ∷ drop (i + 1) lines) a b c e first
+    (stops_early p how (get_or lines i d ∷ []) (drop (i + 1) lines) b c e stops))
 
 -- The whole script
 
-pub does_script : (p : Plan) (rounds : ℕ) (a b c d : RunState) → DoesAll p (first_lines rounds) a b →
-    DoesAll p p.lines b c → DoesAll p (last_lines rounds) c d → DoesAll p (settling_script rounds p) a d
-does_script p rounds a b c d first lines last =
-    does_both p (first_lines rounds) (p.lines ++ last_lines rounds) a b d first
-    (does_both p p.lines (last_lines rounds) b c d lines last)
+abbrev pub first_lines : ℕ → List Line
+first_lines rounds = Settle rounds ∷ []
 
-pub stops_first : (p : Plan) (rounds : ℕ) (a b : RunState) (s : Stop) → StopsAll p (first_lines rounds) a b s →
-    StopsAll p (settling_script rounds p) a b s
-stops_first p rounds a b s stops = stops_early p (first_lines rounds) (p.lines ++ last_lines rounds) a b s stops
+abbrev pub last_lines : ℕ → List Line
+last_lines rounds = Settle rounds ∷ Show ∷ []
 
-pub stops_lines : (p : Plan) (rounds : ℕ) (a b c : RunState) (s : Stop) → DoesAll p (first_lines rounds) a b →
-    StopsAll p p.lines b c s → StopsAll p (settling_script rounds p) a c s
-stops_lines p rounds a b c s first stops =
-    stops_later p (first_lines rounds) (p.lines ++ last_lines rounds) a b c s first
-    (stops_early p p.lines (last_lines rounds) b c s stops)
+pub does_script : RoundLaws → (p : Plan) (how : How) (rounds : ℕ) (a b c d : RunState) (stop : Option NodeId) →
+    DoesAll p how (first_lines rounds) a b None → DoesAll p how p.lines b c None →
+    DoesAll p how (last_lines rounds) c d stop → DoesAll p how (settling_script rounds p) a d stop
+does_script laws p how rounds a b c d stop first lines last =
+    does_both laws p how (first_lines rounds) (p.lines ++ last_lines rounds) a b d stop first
+    (does_both laws p how p.lines (last_lines rounds) b c d stop lines last)
 
-pub stops_last : (p : Plan) (rounds : ℕ) (a b c d : RunState) (s : Stop) → DoesAll p (first_lines rounds) a b →
-    DoesAll p p.lines b c → StopsAll p (last_lines rounds) c d s → StopsAll p (settling_script rounds p) a d s
-stops_last p rounds a b c d s first lines stops =
-    stops_later p (first_lines rounds) (p.lines ++ last_lines rounds) a b d s first
-    (stops_later p p.lines (last_lines rounds) b c d s lines stops)
+pub stops_first : (p : Plan) (how : How) (rounds : ℕ) (a b : RunState) (e : Stop) →
+    StopsAll p how (first_lines rounds) a b e → StopsAll p how (settling_script rounds p) a b e
+stops_first p how rounds a b e stops =
+    stops_early p how (first_lines rounds) (p.lines ++ last_lines rounds) a b e stops
+
+pub stops_lines : RoundLaws → (p : Plan) (how : How) (rounds : ℕ) (a b c : RunState) (e : Stop) →
+    DoesAll p how (first_lines rounds) a b None → StopsAll p how p.lines b c e →
+    StopsAll p how (settling_script rounds p) a c e
+stops_lines laws p how rounds a b c e first stops =
+    stops_later laws p how (first_lines rounds) (p.lines ++ last_lines rounds) a b c e first
+    (stops_early p how p.lines (last_lines rounds) b c e stops)
+
+pub stops_last : RoundLaws → (p : Plan) (how : How) (rounds : ℕ) (a b c d : RunState) (e : Stop) →
+    DoesAll p how (first_lines rounds) a b None → DoesAll p how p.lines b c None →
+    StopsAll p how (last_lines rounds) c d e → StopsAll p how (settling_script rounds p) a d e
+stops_last laws p how rounds a b c d e first lines stops =
+    stops_later laws p how (first_lines rounds) (p.lines ++ last_lines rounds) a b d e first
+    (stops_later laws p how p.lines (last_lines rounds) b c d e lines stops)

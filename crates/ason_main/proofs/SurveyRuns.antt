@@ -1,37 +1,44 @@
 -- The survey of a plan's last table, and what it says of all that may follow.
-use Rattle.std.proofs.Common.{◌≡◌, ◌∙◌, ℕ, Bool, true, false, List, [], ◌∷◌, ◌++◌, refl, sym, ap, subst, append-nil}
-use Rattle.std.specs.Prelude.{◌↔◌, ◌&&◌, IsTrue, Some}
+use Rattle.std.proofs.Common.{◌≡◌, ◌<◌, ◌∙◌, ℕ, Bool, true, false, List, [], ◌∷◌, ◌++◌, length, refl, sym, ap, subst, append-nil, arith}
+use Rattle.std.specs.Prelude.{◌↔◌, ◌&&◌, IsTrue, Option}
+use Rattle.std.specs.Io.KnownBytes.{Appends}
 use Rattle.std.specs.List.{AllByRecursion, list_all}
 use Rattle.std.proofs.lemmas.List.Sorted.{Contains-permutation}
 use Rattle.ason_base.specs.declared.calls.LegRow.{LegRow}
 use Rattle.ason_base.specs.declared.calls.TableRows.{TableRows}
-use Rattle.ason_base.specs.Network.{Network}
+use Rattle.ason_base.specs.declared.commands.Disturb.{Disturb}
+use Rattle.ason_base.specs.declared.commands.Entry.{Entry}
+use Rattle.ason_base.specs.declared.ids.NodeId.{NodeId}
+use Rattle.ason_base.specs.Network.{IsTopology, Network}
 use Rattle.ason_base.proofs.Ordered.{same_test}
 use Rattle.mesh_rules.specs.Events as mesh_runs
 use Rattle.mesh_rules.specs.Machine as mesh
 use Rattle.mesh_rules.specs.Machine.{Mesh}
 use Rattle.mesh_rules.specs.Quiet as mesh_quiet
 use Rattle.mesh_rules.specs.Rows.{all_call_rows, all_leg_rows}
+use Rattle.mesh_rules.specs.declared.events.MeshEvent.{MeshEvent}
 use Rattle.mesh_laws.specs.AloneLaw.{Calm}
 use Rattle.mesh_laws.specs.Survey.{contends_of, hits_of}
 use Rattle.mesh_laws.specs.SurveyLaw.{NoSurveyedContend, ShowsAll, is_reserved_row}
-use Rattle.message_text.specs.OneText.{IsOne}
-use Rattle.world_rules.specs.Images.{IsQuiet, image}
-use Rattle.world_rules.specs.Worlds.{World}
-use Rattle.station.specs.Histories.{History, new_history, world_after}
+use Rattle.world_rules.specs.Images.{IsQuiet, image, mesh_events}
+use Rattle.world_rules.specs.Worlds.{World, start}
+use Rattle.world_merge.specs.Merges.{events_of}
+use Rattle.round_rules.specs.Records.{Record, world_of}
 use Rattle.fleet.specs.Standing.{FleetState, StandsFor}
+use Rattle.plan_reader.specs.declared.lines.Line.{Line}
 use Rattle.plan_reader.specs.declared.plan.Plan.{Plan}
-use Rattle.plan_reader.specs.Plans.{ArePostable}
 use Rattle.table_text.specs.SurveyText.{survey_text}
+use Rattle.script_rules.specs.Lawful.{IsLawful, IsLawfulRecord, IsLawfulRun}
+use Rattle.script_rules.specs.Outputs.{Prints, script_of}
+use Rattle.script_rules.specs.Stages.{Stage, last_of, new_stage, world_at}
+use Rattle.script_rules.specs.Tables.{IsTable}
+use Rattle.script_rules.proofs.Lawful.{HasOneTable, lawful_table}
+use Rattle.script_rules.proofs.OneTable.{one_table}
 use Rattle.ason_main.specs.declared.runner.stops.Stop.{Stop}
-use Rattle.ason_main.specs.Laws.{WorldLaws}
-use Rattle.ason_main.specs.Outputs.{IsLawful, IsOneRun, IsTable, run_of, script_of}
-use Rattle.ason_main.specs.Running.{AreLed, LeadsAll, StopsLeading}
-use Rattle.ason_main.specs.Surveys.{CalmHolds, IsCalmWorld, IsSurveyOf, IsSurveyed, StopsSurvey, TellsSurvey, last_events, last_world}
+use Rattle.ason_main.specs.Outputs.{HasBeenCut, HasEnded, IsBegun, IsOneRun, IsTheCut, IsTheOutput, end_of}
+use Rattle.ason_main.specs.Running.{HasWritten, HasWrittenPart}
+use Rattle.ason_main.specs.Surveys.{HoldsOf, IsCalmWorld, IsSurveyOf, IsTheSurvey, StopsSurvey, TellsSurvey, TellsTheSurvey, silent}
 use Rattle.ason_main.proofs.Lines.{AreInOrder, AreRows, sorted_table}
-use Rattle.ason_main.proofs.OneOutput.{HasOneTable, lawful_table}
-use Rattle.ason_main.proofs.OneTable.{one_table}
-use Rattle.ason_main.proofs.PlanRuns.{full_where_stopped, one_run, postable_script}
 
 -- Rows
 
@@ -67,23 +74,24 @@ calm_world w legs true false quiet unfailed =
     (λ all. absurd (cc (all)), λ is. unfailed.1 is.failed)
 calm_world w legs false unfailed quiet is = (λ all. absurd (cc (all)), λ calm. quiet.1 calm.quiet)
 
--- the mesh to which the run's own events lead
-abbrev last_mesh : Plan → Mesh
-last_mesh p = mesh_runs.after p.topology mesh.start (last_events p)
+-- the last stage is lawful
+last_all : (P : Stage → Type 0) (s : Stage) (more : List Stage) → AllByRecursion P (s ∷ more) → P (last_of s more)
+last_all P s [] all = all.0
+last_all P s (a ∷ more) all = last_all P a more all.1
 
-lawful_end : (p : Plan) → IsOneRun p → IsLawful p.topology (run_of p).events
-lawful_end p run = run.laws (run_of p).events [] (append-nil (run_of p).events)
+lawful_end : (p : Plan) (more : List Stage) → IsOneRun p more → IsLawfulRecord p.topology (end_of more).made
+lawful_end p more run = last_all (λ (s : Stage). IsLawfulRecord p.topology s.made) new_stage more run.laws
 
 -- where the survey tells that it is calm, this holds of all that may follow
-pub calm_holds : NoSurveyedContend → (p : Plan) (rows : TableRows) → IsOneRun p →
-    IsTable p.topology (image (last_world p)) rows → IsCalmWorld (last_world p) rows.legs →
-    CalmHolds p.topology (last_events p) rows
-calm_holds law p rows run table is = record {
+pub calm_holds : NoSurveyedContend → (t : Network) (r : Record) (rows : TableRows) → IsTopology t →
+    IsLawfulRecord t r → IsTable t (image (world_of t r)) rows → IsCalmWorld (world_of t r) rows.legs →
+    HoldsOf t r rows
+calm_holds law t r rows valid lawful table is m merge = record {
   quiet = quiet;
   calm = calm;
   admitted = λ g h differ none since goes only.
-      law p.topology (last_events p ++ since) run.topology goes g h differ (record {
-        before = last_events p;
+      law t (events ++ since) valid goes g h differ (record {
+        before = events;
         since = since;
         parts = refl;
         quiet = quiet;
@@ -92,18 +100,28 @@ calm_holds law p rows run table is = record {
       }) rows.calls rows.legs shows none;
 }
   where
-    leads : last_mesh p ≡ image (last_world p)
-    leads = (lawful_end p run).shown.leads
+    run : IsLawfulRun t r m
+    run = lawful.runs m merge
 
-    shows : ShowsAll p.topology (last_mesh p) rows.calls rows.legs
-    shows = subst (λ s. ShowsAll p.topology s rows.calls rows.legs) (sym leads)
-        (table_shows p.topology (image (last_world p)) rows table)
+    whole : IsLawful t (events_of m)
+    whole = run.laws (events_of m) [] (append-nil (events_of m))
 
-    quiet : mesh_quiet.IsQuiet (last_mesh p)
-    quiet = subst mesh_quiet.IsQuiet (sym leads) ((lawful_end p run).quiet is.quiet).shown
+    events : List MeshEvent
+    events = mesh_events t (start t) (events_of m)
 
-    calm : Calm (last_mesh p)
-    calm = (lawful_end p run).laws.shown run.topology rows.calls rows.legs shows (record {
+    leads : mesh_runs.after t mesh.start events ≡ image (world_of t r)
+    leads = whole.shown.leads ∙ ap image run.leads
+
+    shows : ShowsAll t (mesh_runs.after t mesh.start events) rows.calls rows.legs
+    shows = subst (λ s. ShowsAll t s rows.calls rows.legs) (sym leads)
+        (table_shows t (image (world_of t r)) rows table)
+
+    quiet : mesh_quiet.IsQuiet (mesh_runs.after t mesh.start events)
+    quiet = subst mesh_quiet.IsQuiet (sym whole.shown.leads)
+        (whole.quiet (subst IsQuiet (sym run.leads) is.quiet)).shown
+
+    calm : Calm (mesh_runs.after t mesh.start events)
+    calm = whole.laws.shown valid rows.calls rows.legs shows (record {
       quiet = quiet;
       failed = ap (λ (s : Mesh). s.failed) leads ∙ is.failed;
       backups = each_reserved rows.legs is.backups;
@@ -114,16 +132,17 @@ calm_holds law p rows run table is = record {
 -- what the stations' rows give, in order, is told
 pub tells_survey : (p : Plan) (f : FleetState) (rows sorted : TableRows) (calm : Bool) (text : List ℕ) →
     AreRows f rows → AreInOrder rows sorted →
-    ((t : Network) (h : History) → StandsFor t f h → IsTrue calm ↔ IsCalmWorld (world_after t h) sorted.legs) →
+    ((t : Network) (lines : List Disturb) (r : Record) → StandsFor t lines f r →
+    IsTrue calm ↔ IsCalmWorld (world_of t r) sorted.legs) →
     text ≡ survey_text p calm (hits_of p.topology sorted.calls sorted.legs)
     (contends_of p.topology sorted.calls sorted.legs) →
     TellsSurvey p f text
 tells_survey p f rows sorted calm text are order exact told = record {
-  tells = λ h stands. record {
+  tells = λ lines r stands. record {
     rows = sorted;
-    table = sorted_table p.topology f rows sorted are order h stands;
+    table = sorted_table p.topology f rows sorted are order lines r stands;
     calm = calm;
-    exact = exact p.topology h stands;
+    exact = exact p.topology lines r stands;
     told = told;
   };
 }
@@ -133,53 +152,96 @@ text_of p rows calm =
     survey_text p calm (hits_of p.topology rows.calls rows.legs) (contends_of p.topology rows.calls rows.legs)
 
 -- a table has one survey
-one_survey : (p : Plan) (run : IsOneRun p) (a b : List ℕ) → IsSurveyOf p (last_world p) a →
-    IsSurveyOf p (last_world p) b → a ≡ b
-one_survey p run a b this that = this.told ∙ ((λ i. text_of p (rows i) (calm i)) ∙ sym that.told)
+one_survey : (p : Plan) (w : World) (a b : List ℕ) → HasOneTable (image w) → IsSurveyOf p w a → IsSurveyOf p w b → a ≡ b
+one_survey p w a b one this that = this.told ∙ ((λ i. text_of p (rows i) (calm i)) ∙ sym that.told)
   where
-    one : HasOneTable (image (last_world p))
-    one = lawful_table p.topology (run_of p).events (lawful_end p run)
-
     rows : this.rows ≡ that.rows
-    rows = one_table p.topology (image (last_world p)) this.rows that.rows one.legs one.calls this.table that.table
+    rows = one_table p.topology (image w) this.rows that.rows one.legs one.calls this.table that.table
 
     calm : this.calm ≡ that.calm
     calm = same_test this.calm that.calm
-        (λ is. that.exact.1 (subst (λ (r : TableRows). IsCalmWorld (last_world p) r.legs) rows (this.exact.0 is)))
-        (λ is. this.exact.1 (subst (λ (r : TableRows). IsCalmWorld (last_world p) r.legs) (sym rows) (that.exact.0 is)))
+        (λ is. that.exact.1 (subst (λ (r : TableRows). IsCalmWorld w r.legs) rows (this.exact.0 is)))
+        (λ is. this.exact.1 (subst (λ (r : TableRows). IsCalmWorld w r.legs) (sym rows) (that.exact.0 is)))
 
--- the survey of what the script leads to is told
-pub surveyed : WorldLaws → NoSurveyedContend → (p : Plan) (old new : FleetState) (text : List ℕ) →
-    ArePostable p.topology [] p.lines → StandsFor p.topology old new_history → LeadsAll p (script_of p) old new →
-    TellsSurvey p new text → IsOne (IsSurveyed p) text
-surveyed laws law p old new text postable stands led tells = record {
-  is = record { one_run = run; ended = here.stands.going; survey = survey; holds = holds };
-  only = λ other that. one_survey p run other text that.survey survey;
+-- the survey of the run's last stage is the plan's one survey
+the_survey : NoSurveyedContend → (p : Plan) (more : List Stage) (text : List ℕ) → IsTheOutput p silent more [] →
+    IsSurveyOf p (world_at p.topology (end_of more)) text → IsTheSurvey p more text
+the_survey law p more text output survey = record {
+  is = record {
+    output = output.output;
+    survey = survey;
+    holds = λ calm. calm_holds law p.topology (end_of more).made survey.rows output.output.one_run.topology lawful
+        survey.table (survey.exact.0 calm);
+  };
+  only = λ others other that.
+      let same = output.only refl others [] that.output in
+      record {
+        stages = same.stages;
+        text = one_survey p (world_at p.topology (end_of more)) other text
+            (lawful_table p.topology (end_of more).made lawful)
+            (subst (λ ss. IsSurveyOf p (world_at p.topology (end_of ss)) other) same.stages that.survey) survey;
+      };
+  never_stopped = λ n others that. output.never_stopped refl n others [] that;
 }
   where
-    run : IsOneRun p
-    run = one_run laws p stands.valid postable
+    lawful : IsLawfulRecord p.topology (end_of more).made
+    lawful = lawful_end p more output.output.one_run
 
-    here : AreLed p (script_of p) new new_history
-    here = led.led new_history stands (postable_script 1000 p postable)
+-- where no tables are asked for nothing is printed
+pub nothing_printed : (p : Plan) (workers : ℕ) (lines : List Line) (s : Stage) (more : List Stage) (text : List ℕ) →
+    Prints p (record { workers = workers; tables = false }) lines s more text → text ≡ []
+nothing_printed p workers [] s more text prints = prints.1
+nothing_printed p workers (line ∷ lines) s more text prints =
+    prints.8 ∙ (ap (λ xs. xs ++ prints.3) prints.5
+    ∙ nothing_printed p workers lines (last_of s prints.0) prints.1 prints.3 prints.6)
 
-    survey : IsSurveyOf p (last_world p) text
-    survey = tells.tells (run_of p) here.stands
+-- what is told of the fleet that came to the end
+pub surveyed : NoSurveyedContend → (p : Plan) (f : FleetState) (old new : Option (List ℕ)) (text : List ℕ) →
+    HasEnded p silent f old new → TellsSurvey p f text → TellsTheSurvey p f text
+surveyed law p f old new text ended tells = record {
+  more = ended.more;
+  survey = the_survey law p ended.more text (subst (IsTheOutput p silent ended.more) none ended.output)
+      (tells.tells (end_of ended.more).lines (end_of ended.more).made ended.kept.stands);
+  kept = ended.kept;
+}
+  where
+    none : ended.text ≡ []
+    none = nothing_printed p 1 (script_of p) new_stage ended.more ended.text ended.output.output.printed
 
-    holds : IsTrue survey.calm → CalmHolds p.topology (last_events p) survey.rows
-    holds is = calm_holds law p survey.rows run survey.table (survey.exact.0 is)
+pub ended_silently : (p : Plan) (f : FleetState) (old new : Option (List ℕ)) → HasEnded p silent f old new →
+    Appends old new []
+ended_silently p f old new ended =
+    subst (Appends old new) (nothing_printed p 1 (script_of p) new_stage ended.more ended.text
+    ended.output.output.printed) ended.written
 
 -- or the run is stopped
-pub survey_stopped : WorldLaws → (p : Plan) (old : FleetState) (s : Stop) → ArePostable p.topology [] p.lines →
-    StandsFor p.topology old new_history → StopsLeading p (script_of p) old s → StopsSurvey p s
-survey_stopped laws p old (Stop.AtLimit n) postable stands stops = record {
-  one_run = one_run laws p stands.valid postable;
-  stopped = stopped;
-  full = full_where_stopped laws p n postable stopped;
-  told = refl;
-}
+pub survey_stopped : (p : Plan) (n : NodeId) (f : FleetState) (old new : Option (List ℕ)) →
+    HasBeenCut p silent n f old new → StopsSurvey p f (Stop.AtLimit n)
+survey_stopped p n f old new cut = (
+  cut.more,
+  record { cut = subst (IsTheCut p silent n cut.more) none cut.output; told = refl },
+  cut.kept,
+)
   where
-    stopped : (run_of p).stopped ≡ Some n
-    stopped = stops.stopped new_history stands (postable_script 1000 p postable)
-survey_stopped laws p old Stop.Failed postable stands stops = absurd stops
-survey_stopped laws p old Stop.OutOfMemory postable stands stops = tt
+    none : cut.text ≡ []
+    none = nothing_printed p 1 (script_of p) new_stage cut.more cut.text cut.output.output.printed
+
+pub cut_silently : (p : Plan) (n : NodeId) (f : FleetState) (old new : Option (List ℕ)) →
+    HasBeenCut p silent n f old new → Appends old new []
+cut_silently p n f old new cut =
+    subst (Appends old new) (nothing_printed p 1 (script_of p) new_stage cut.more cut.text cut.output.output.printed)
+    cut.written
+
+none_below : (n : ℕ) (text : List ℕ) → text ≡ [] → n < length text → ⊥
+none_below n text none below = let few : n < 0 = subst (λ xs. n < length xs) none below in absurd (omega arith)
+
+-- no part of nothing is written
+pub never_failed : (p : Plan) (old new : Option (List ℕ)) → HasWrittenPart old new (IsBegun p silent) → ⊥
+never_failed p old new part =
+    none_below part.2.0 part.0 (nothing_printed p 1 part.1.printed.0 new_stage part.1.more part.0 part.1.printed.3)
+    part.2.1
+
+pub begun_silently : (p : Plan) (old new : Option (List ℕ)) → HasWritten old new (IsBegun p silent) →
+    Appends old new []
+begun_silently p old new part =
+    subst (Appends old new) (nothing_printed p 1 part.1.printed.0 new_stage part.1.more part.0 part.1.printed.3) part.2

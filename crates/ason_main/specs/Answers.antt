@@ -1,12 +1,10 @@
 -- What the program answers to its words and to its input.
-use Rattle.std.specs.Prelude.{◌≡◌, ◌<◌, ◌≤◌, ◌+◌, ◌⊎◌, ℕ, Bool, false, List, [], ◌∷◌, ◌++◌, Option, Some, None, Ok, Err, bytes_eq, codes, length, option_map, take, if◌then◌else◌}
+use Rattle.std.specs.Prelude.{◌≡◌, ◌<◌, ◌≤◌, ◌+◌, ◌⊎◌, ℕ, Bool, true, false, List, [], ◌∷◌, ◌++◌, Option, Some, None, Ok, Err, bytes_eq, codes, length, option_map, take, if◌then◌else◌}
 use Rattle.std.specs.Io.KnownBytes.{Appends}
 use Rattle.ason_io.specs.Faults.{Rose}
 use Rattle.ason_io.specs.Reading.{HasRead, WasReadToEnd}
 use Rattle.plan_reader.specs.declared.plan.Plan.{Plan}
-use Rattle.ason_main.specs.declared.answers.Question.{Question}
 use Rattle.ason_main.specs.declared.answers.Status.{Status}
-use Rattle.ason_main.specs.declared.answers.Task.{Task}
 use Rattle.ason_base.specs.declared.ids.NodeId.{NodeId}
 use Rattle.plan_reader.specs.declared.faults.PlanFault.{PlanFault}
 use Rattle.message_text.specs.DecodeText.{IsDecodeText}
@@ -14,46 +12,30 @@ use Rattle.message_text.specs.OneText.{IsOne}
 use Rattle.table_text.specs.BestText.{IsBestText}
 use Rattle.table_text.specs.FaultText.{refused_text}
 use Rattle.table_text.specs.RouteText.{route_text}
-use Rattle.ason_main.specs.Outputs.{IsBegun, IsTheOutput, IsTheStoppedOutput, run_of}
-use Rattle.ason_main.specs.Surveys.{IsStoppedSurvey, IsSurveyed}
+use Rattle.fleet.specs.Standing.{FleetState}
+use Rattle.script_rules.specs.OneWorker.{script_end}
+use Rattle.script_rules.specs.Outputs.{How, Prints, script_of}
+use Rattle.script_rules.specs.Stages.{Stage, new_stage}
+use Rattle.ason_main.specs.Outputs.{IsBegun, IsKept, IsTheOutput, IsTheStoppedOutput, end_of}
+use Rattle.command_words.specs.Paces.{PaceView}
+use Rattle.command_words.specs.Tasks.{task_of}
+use Rattle.command_words.specs.declared.tasks.Question.{Question}
+use Rattle.command_words.specs.declared.tasks.Task.{Task}
+use Rattle.ason_main.specs.Running.{StandsYet}
+use Rattle.ason_main.specs.Surveys.{IsStoppedSurvey, IsTheSurvey, silent}
 use Rattle.plan_reader.specs.PlanTexts.{word_at}
 use Rattle.plan_reader.specs.Plans.{PlanOf}
 
--- the words are this one word
-abbrev pub is_word : List (List ℕ) → List ℕ → Bool
-is_word [] word = false
-is_word (w ∷ []) word = bytes_eq w word
-is_word (w ∷ v ∷ ws) word = false
-
--- they are this word and two more
-abbrev pub names_two : List (List ℕ) → List ℕ → Bool
-names_two [] word = false
-names_two (w ∷ []) word = false
-names_two (w ∷ from ∷ []) word = false
-names_two (w ∷ from ∷ to ∷ []) word = bytes_eq w word
-names_two (w ∷ from ∷ to ∷ v ∷ ws) word = false
-
--- the task that the words name: one of the words `run`, `decode` and `survey` alone, or `route` or `best` with two
--- names; all else has no meaning
-abbrev pub task_of : List (List ℕ) → Option Task
-task_of words =
-    if is_word words (codes "run") then Some Task.Run
-    else if is_word words (codes "decode") then Some Task.Decode
-    else if is_word words (codes "survey") then Some Task.Survey
-    else if names_two words (codes "route") then Some (Task.Ask Question.Route)
-    else if names_two words (codes "best") then Some (Task.Ask Question.Best)
-    else None
-
 -- what is asked for
 pub data Request : Type 0 where
-  Run : Request  -- to run a plan
+  Run : (pace : PaceView) → Request  -- to run a plan so
   Decode : Request  -- to tell what messages say
   Survey : Request  -- to tell the survey of a plan's last table
   Ask : (question : Question) (from to : List ℕ) → Request  -- to tell this of the nodes of these names
 
 -- a task with its words
 abbrev pub request_for : List (List ℕ) → Task → Request
-request_for words Task.Run = Run
+request_for words (Task.Run pace) = Run pace
 request_for words Task.Decode = Decode
 request_for words Task.Survey = Survey
 request_for words (Task.Ask question) = Ask question (word_at words 1) (word_at words 2)
@@ -108,29 +90,59 @@ text_of_reply TooLong = codes "refused input too long\n"
 
 -- Judging
 
--- nothing was told yet, or what is told of a plan is begun
-abbrev pub IsFirstPart : List ℕ → List ℕ → Type 0
-IsFirstPart bs text = (text ≡ []) ⊎ ((p : Plan) × PlanOf bs (Ok p) × IsBegun p text)
+-- `run` prints tables and what is unsettled
+abbrev pub printing : ℕ → How
+printing workers = record { workers = workers; tables = true }
 
--- what the reply to `run` says of the bytes that were read to their end
-abbrev pub IsRunReply : List ℕ → Reply → Type 0
-IsRunReply bs (Done text) = (p : Plan) × PlanOf bs (Ok p) × IsTheOutput p text
-IsRunReply bs (PlanRefused text) = (f : PlanFault) × PlanOf bs (Err f) × (text ≡ refused_text f)
-IsRunReply bs (EventLimit text) = (p : Plan) × PlanOf bs (Ok p) × ((n : NodeId) × IsTheStoppedOutput p n text)
-IsRunReply bs (Unfinished text) = IsFirstPart bs text
-IsRunReply bs Usage = ⊥
-IsRunReply bs ReadFault = ⊥
-IsRunReply bs TooLong = ⊥
+-- the fleet that is kept made this stage, which is the last one
+abbrev pub HasKept : Plan → Option FleetState → Stage → Type 0
+HasKept p None s = ⊥
+HasKept p (Some f) s = IsKept p f s
+
+-- if a fleet is kept it stands for some record, which has all that its nodes did
+abbrev pub MayKeep : Plan → Option FleetState → Type 0
+MayKeep p None = Unit {0}
+MayKeep p (Some f) = StandsYet p.topology f
+
+-- nothing was told yet, or what is told of a plan is begun
+abbrev pub IsFirstPart : ℕ → List ℕ → List ℕ → Option FleetState → Type 0
+IsFirstPart workers bs text kept =
+    ((text ≡ []) × (kept ≡ None))
+    ⊎ ((p : Plan) × PlanOf bs (Ok p) × IsBegun p (printing workers) text × MayKeep p kept)
+
+-- the plan has this fault, and no fleet was made
+abbrev pub IsRefused : List ℕ → List ℕ → Option FleetState → Type 0
+IsRefused bs text kept = ((f : PlanFault) × PlanOf bs (Err f) × (text ≡ refused_text f)) × (kept ≡ None)
+
+-- what the reply to `run` says of the bytes that were read to their end, and of the fleet that is kept
+abbrev pub IsRunReply : ℕ → List ℕ → Reply → Option FleetState → Type 0
+IsRunReply workers bs (Done text) kept =
+    (p : Plan) × PlanOf bs (Ok p)
+    × ((more : List Stage) × IsTheOutput p (printing workers) more text × HasKept p kept (end_of more))
+IsRunReply workers bs (PlanRefused text) kept = IsRefused bs text kept
+IsRunReply workers bs (EventLimit text) kept =
+    (p : Plan) × PlanOf bs (Ok p)
+    × ((n : NodeId) × (more : List Stage) × IsTheStoppedOutput p (printing workers) n more text
+    × HasKept p kept (end_of more))
+IsRunReply workers bs (Unfinished text) kept = IsFirstPart workers bs text kept
+IsRunReply workers bs Usage kept = ⊥
+IsRunReply workers bs ReadFault kept = ⊥
+IsRunReply workers bs TooLong kept = ⊥
 
 -- what the reply to `survey` says of them
-abbrev pub IsSurveyReply : List ℕ → Reply → Type 0
-IsSurveyReply bs (Done text) = (p : Plan) × PlanOf bs (Ok p) × IsOne (IsSurveyed p) text
-IsSurveyReply bs (PlanRefused text) = (f : PlanFault) × PlanOf bs (Err f) × (text ≡ refused_text f)
-IsSurveyReply bs (EventLimit text) = (p : Plan) × PlanOf bs (Ok p) × ((n : NodeId) × IsStoppedSurvey p n text)
-IsSurveyReply bs (Unfinished text) = text ≡ []
-IsSurveyReply bs Usage = ⊥
-IsSurveyReply bs ReadFault = ⊥
-IsSurveyReply bs TooLong = ⊥
+abbrev pub IsSurveyReply : List ℕ → Reply → Option FleetState → Type 0
+IsSurveyReply bs (Done text) kept =
+    (p : Plan) × PlanOf bs (Ok p)
+    × ((more : List Stage) × IsTheSurvey p more text × HasKept p kept (end_of more))
+IsSurveyReply bs (PlanRefused text) kept = IsRefused bs text kept
+IsSurveyReply bs (EventLimit text) kept =
+    (p : Plan) × PlanOf bs (Ok p)
+    × ((n : NodeId) × (more : List Stage) × IsStoppedSurvey p n more text × HasKept p kept (end_of more))
+IsSurveyReply bs (Unfinished text) kept =
+    (text ≡ []) × ((kept ≡ None) ⊎ ((p : Plan) × PlanOf bs (Ok p) × MayKeep p kept))
+IsSurveyReply bs Usage kept = ⊥
+IsSurveyReply bs ReadFault kept = ⊥
+IsSurveyReply bs TooLong kept = ⊥
 
 -- what the reply to `decode` says of them
 abbrev pub IsDecodeReply : List ℕ → Reply → Type 0
@@ -157,55 +169,58 @@ IsAskReply question from to bs Usage = ⊥
 IsAskReply question from to bs ReadFault = ⊥
 IsAskReply question from to bs TooLong = ⊥
 
-abbrev pub IsJudged : Request → List ℕ → Reply → Type 0
-IsJudged Run bs r = IsRunReply bs r
-IsJudged Decode bs r = IsDecodeReply bs r
-IsJudged Survey bs r = IsSurveyReply bs r
-IsJudged (Ask question from to) bs r = IsAskReply question from to bs r
+-- what the reply to this says of them; a fleet is kept where a run was made alone
+abbrev pub IsJudged : Request → List ℕ → Reply → Option FleetState → Type 0
+IsJudged (Run pace) bs r kept = IsRunReply pace.workers bs r kept
+IsJudged Decode bs r kept = IsDecodeReply bs r × (kept ≡ None)
+IsJudged Survey bs r kept = IsSurveyReply bs r kept
+IsJudged (Ask question from to) bs r kept = IsAskReply question from to bs r × (kept ≡ None)
 
 -- Reading
 
 -- the source was read to its end, which came after at most 4,194,304 bytes, and that is what is judged
 abbrev pub IsReadAndJudged :
     {S : Type 0} → (S → Option (List ℕ)) → (S → List ℕ → S → Type 0) → (S → Type 0) → S → S → Request →
-    Reply → Type 0
-IsReadAndJudged left handed ended old new k r =
-    (bs : List ℕ) × WasReadToEnd left handed ended old new bs × (length bs ≤ 4194304) × IsJudged k bs r
+    Reply → Option FleetState → Type 0
+IsReadAndJudged left handed ended old new k r kept =
+    (bs : List ℕ) × WasReadToEnd left handed ended old new bs × (length bs ≤ 4194304) × IsJudged k bs r kept
 
 -- at most 4,194,304 bytes were read
 abbrev pub HasReadFew : {S : Type 0} → (S → Option (List ℕ)) → (S → List ℕ → S → Type 0) → S → S → Type 0
 HasReadFew left handed old new = HasRead left handed old new (λ n. n ≤ 4194304)
 
--- what the reply to this says of the source
+-- what the reply to this says of the source, and of the fleet that is kept
 abbrev pub IsReplyFor :
     {S : Type 0} → (S → Option (List ℕ)) → (S → List ℕ → S → Type 0) → (S → Type 0) → (S → ℕ) → S → S →
-    Request → Reply → Type 0
-IsReplyFor left handed ended faults old new k (Done text) =
-    IsReadAndJudged left handed ended old new k (Done text)
-IsReplyFor left handed ended faults old new k Usage = ⊥
-IsReplyFor left handed ended faults old new k (PlanRefused text) =
-    IsReadAndJudged left handed ended old new k (PlanRefused text)
-IsReplyFor left handed ended faults old new k ReadFault =
-    Rose (faults old) (faults new) × HasReadFew left handed old new
-IsReplyFor left handed ended faults old new k (EventLimit text) =
-    IsReadAndJudged left handed ended old new k (EventLimit text)
-IsReplyFor left handed ended faults old new k (Unfinished text) =
-    HasReadFew left handed old new × ((text ≡ []) ⊎ IsReadAndJudged left handed ended old new k (Unfinished text))
-IsReplyFor left handed ended faults old new k TooLong =
-    HasRead left handed old new (λ n. n ≡ 4194304 + 1)
+    Request → Reply → Option FleetState → Type 0
+IsReplyFor left handed ended faults old new k (Done text) kept =
+    IsReadAndJudged left handed ended old new k (Done text) kept
+IsReplyFor left handed ended faults old new k Usage kept = ⊥
+IsReplyFor left handed ended faults old new k (PlanRefused text) kept =
+    IsReadAndJudged left handed ended old new k (PlanRefused text) kept
+IsReplyFor left handed ended faults old new k ReadFault kept =
+    Rose (faults old) (faults new) × HasReadFew left handed old new × (kept ≡ None)
+IsReplyFor left handed ended faults old new k (EventLimit text) kept =
+    IsReadAndJudged left handed ended old new k (EventLimit text) kept
+IsReplyFor left handed ended faults old new k (Unfinished text) kept =
+    HasReadFew left handed old new
+    × (((text ≡ []) × (kept ≡ None)) ⊎ IsReadAndJudged left handed ended old new k (Unfinished text) kept)
+IsReplyFor left handed ended faults old new k TooLong kept =
+    HasRead left handed old new (λ n. n ≡ 4194304 + 1) × (kept ≡ None)
 
 -- where the words have no meaning the reply is the usage, and nothing is read
 abbrev pub IsReplyTo :
     {S : Type 0} → (S → Option (List ℕ)) → (S → List ℕ → S → Type 0) → (S → Type 0) → (S → ℕ) → S → S →
-    Reply → Option Request → Type 0
-IsReplyTo left handed ended faults old new r None = (r ≡ Usage) × (new ≡ old)
-IsReplyTo left handed ended faults old new r (Some k) = IsReplyFor left handed ended faults old new k r
+    Reply → Option FleetState → Option Request → Type 0
+IsReplyTo left handed ended faults old new r kept None = (r ≡ Usage) × (new ≡ old) × (kept ≡ None)
+IsReplyTo left handed ended faults old new r kept (Some k) = IsReplyFor left handed ended faults old new k r kept
 
--- what the reply says of the words and the source
+-- what the reply says of the words, the source, and the fleet that is kept
 abbrev pub IsReply :
     {S : Type 0} → (S → Option (List ℕ)) → (S → List ℕ → S → Type 0) → (S → Type 0) → (S → ℕ) →
-    List (List ℕ) → S → S → Reply → Type 0
-IsReply left handed ended faults words old new r = IsReplyTo left handed ended faults old new r (request_of words)
+    List (List ℕ) → S → S → Reply → Option FleetState → Type 0
+IsReply left handed ended faults words old new r kept =
+    IsReplyTo left handed ended faults old new r kept (request_of words)
 
 -- Writing
 
@@ -226,17 +241,28 @@ abbrev pub WasGiven : {K : Type 0} → (K → Option (List ℕ)) → (K → ℕ)
 WasGiven written faults old new r s = WasTold written faults old new (text_of_reply r) (status_of r) s
 
 -- a reply to the bytes was given
-abbrev pub IsAnswered : {K : Type 0} → (K → Option (List ℕ)) → (K → ℕ) → Request → List ℕ → K → K → Status → Type 0
-IsAnswered written faults k bs old new s = (r : Reply) × IsJudged k bs r × WasGiven written faults old new r s
+abbrev pub IsAnswered : {K : Type 0} → (K → Option (List ℕ)) → (K → ℕ) → Request → List ℕ → K → K →
+    Option FleetState → Status → Type 0
+IsAnswered written faults k bs old new kept s =
+    (r : Reply) × IsJudged k bs r kept × WasGiven written faults old new r s
 
 -- How it ends
 
+-- The plan's script makes such stages, of which the last one is stopped so; with one worker it is the one that the
+-- function makes.
+pub record ComesTo (p : Plan) (how : How) (stop : Option NodeId) : Type 0 where
+  pub more : List Stage
+  pub text : List ℕ
+  pub printed : Prints p how (script_of p) new_stage more text
+  pub stopped : (end_of more).stopped ≡ stop
+  pub one : how.workers ≡ 1 → (script_end p).stopped ≡ stop
+
 -- the status is one of these, for this plan: done where the run comes to its end, the event limit where it doesn't, or
 -- want of memory
-abbrev pub IsEnd : Plan → Status → Type 0
-IsEnd p s =
-    ((s ≡ Status.Done) × ((run_of p).stopped ≡ None))
-    ⊎ (((s ≡ Status.EventLimit) × ((n : NodeId) × ((run_of p).stopped ≡ Some n)))
+abbrev pub IsEnd : Plan → How → Status → Type 0
+IsEnd p how s =
+    ((s ≡ Status.Done) × ComesTo p how None)
+    ⊎ (((s ≡ Status.EventLimit) × ((n : NodeId) × ComesTo p how (Some n)))
     ⊎ (s ≡ Status.OutOfMemory))
 
 abbrev pub IsDoneOrOutOfMemory : Status → Type 0
@@ -244,9 +270,9 @@ IsDoneOrOutOfMemory s = (s ≡ Status.Done) ⊎ (s ≡ Status.OutOfMemory)
 
 -- how what is asked for ends on these bytes: `decode` always, the others for a plan without fault
 abbrev pub EndsWell : Request → List ℕ → Status → Type 0
-EndsWell Run bs s = (p : Plan) → PlanOf bs (Ok p) → IsEnd p s
+EndsWell (Run pace) bs s = (p : Plan) → PlanOf bs (Ok p) → IsEnd p (printing pace.workers) s
 EndsWell Decode bs s = IsDoneOrOutOfMemory s
-EndsWell Survey bs s = (p : Plan) → PlanOf bs (Ok p) → IsEnd p s
+EndsWell Survey bs s = (p : Plan) → PlanOf bs (Ok p) → IsEnd p silent s
 EndsWell (Ask question from to) bs s = (p : Plan) → PlanOf bs (Ok p) → IsDoneOrOutOfMemory s
 
 -- and where there are more than 4,194,304

@@ -1,19 +1,12 @@
 -- The laws on which a run rests.
-use Rattle.world_rules.specs.Laws.{EventsAreCounted, EveryImageHasTheLaws, EveryRunIsShown, JoinedKnowTheLinks, JoinedKnowTheSame, QuietIsShown, TopologiesFindEach}
-use Rattle.fleet.specs.Laws.{PostsAreRunning, SettlingGoesOn, SettlingIsRunning, TheStartIsRunning, WaitingGoesOn, WaitingIsRunning}
+use Rattle.fleet.specs.Laws.{FullIsTheLogs, QuietIsTheWorlds, StandingHasMade, StandingIsARecord}
+use Rattle.script_rules.specs.Laws.{RecordsAreLawful, RoundLaws}
 
--- the laws of worlds, and of posts and rounds
-pub record WorldLaws : Type 0 where
-  pub topology : TopologiesFindEach
-  pub shown : EveryRunIsShown
-  pub laws : EveryImageHasTheLaws
-  pub quiet : QuietIsShown
-  pub same : JoinedKnowTheSame
-  pub links : JoinedKnowTheLinks
-  pub counts : EventsAreCounted
-  pub begin : TheStartIsRunning
-  pub post : PostsAreRunning
-  pub settle : SettlingIsRunning
-  pub goes_on : SettlingGoesOn
-  pub wait : WaitingIsRunning
-  pub waits_on : WaitingGoesOn
+-- the laws of fleets, of rounds and of records
+pub record RunLaws : Type 0 where
+  pub possible : StandingIsARecord
+  pub made : StandingHasMade
+  pub quiet : QuietIsTheWorlds
+  pub full : FullIsTheLogs
+  pub rounds : RoundLaws
+  pub lawful : RecordsAreLawful

@@ -1,187 +1,107 @@
--- What the program prints of a plan.
-use Rattle.std.specs.Prelude.{◌≡◌, ◌↔◌, ℕ, ◌==◌, ◌||◌, ◌&&◌, nat_lt, All, Bool, IsTrue, List, [], ◌∷◌, ◌++◌, Option, Some, None, fold, is_some, if◌then◌else◌}
-use Rattle.std.specs.List.Sorted.{IsPermutation, IsSortedBy}
-use Rattle.ason_base.specs.declared.calls.CallRow.{CallRow}
-use Rattle.ason_base.specs.declared.calls.LegRow.{LegRow}
-use Rattle.ason_base.specs.declared.calls.TableRows.{TableRows}
-use Rattle.ason_base.specs.declared.commands.Command.{Command}
-use Rattle.ason_base.specs.declared.commands.Event.{Event}
-use Rattle.ason_base.specs.declared.commands.Event.TheVariants as event
-use Rattle.ason_base.specs.declared.commands.Group.{Group}
+-- What the program makes and prints of a plan.
+use Rattle.std.specs.Prelude.{◌≡◌, ◌≤◌, ℕ, List, ◌∷◌, ◌++◌, Option, Some, None, length}
+use Rattle.std.specs.List.{AllByRecursion}
+use Rattle.ason_io.specs.Faults.{Rose}
 use Rattle.ason_base.specs.declared.ids.NodeId.{NodeId}
-use Rattle.ason_base.specs.Lsps.{same_lsp, lsp_before}
-use Rattle.ason_base.specs.Network.{IsTopology, Network}
-use Rattle.mesh_rules.specs.Machine.{Mesh}
-use Rattle.mesh_rules.specs.Quiet as mesh_quiet
-use Rattle.mesh_rules.specs.declared.events.MeshEvent.{MeshEvent}
-use Rattle.mesh_rules.specs.Rows.{all_call_rows, all_leg_rows}
-use Rattle.mesh_laws.specs.AloneLaw.{Alone}
-use Rattle.mesh_laws.specs.Laws.{LawsHold}
-use Rattle.mesh_laws.specs.RestorationLaw.{IsRestored, is_guarded}
-use Rattle.world_rules.specs.Worlds.{World, start}
-use Rattle.world_rules.specs.Runs.{IsRun, after, events_of}
-use Rattle.world_rules.specs.Images.{IsQuiet, image, mesh_events}
-use Rattle.world_rules.specs.Laws.{IsShown, KnowTheLinks, KnowTheSame}
-use Rattle.station.specs.Histories.{History, new_history, with_event, world_after}
-use Rattle.fleet.specs.Rounds.{is_quiet, items_waiting, rows_waiting, settled, unacked_waiting, waited}
-use Rattle.plan_reader.specs.declared.lines.Line.{Line}
-use Rattle.plan_reader.specs.declared.lines.Line.TheVariants.{Post, Settle, Wait, Show}
+use Rattle.ason_base.specs.Network.{IsTopology}
+use Rattle.round_rules.specs.Records.{log_at}
+use Rattle.std.specs.Io.KnownBytes.{Appends}
+use Rattle.fleet.specs.Standing.{FleetState, HasMade, StandsFor}
 use Rattle.plan_reader.specs.declared.plan.Plan.{Plan}
-use Rattle.table_text.specs.TableText.{stopped_text, table_text, unsettled_text}
+use Rattle.table_text.specs.TableText.{stopped_text}
+use Rattle.script_rules.specs.Growing.{AreGrowing}
+use Rattle.script_rules.specs.Laws.{AreSame}
+use Rattle.script_rules.specs.Lawful.{IsLawfulRecord}
+use Rattle.script_rules.specs.Outputs.{How, Prints, PrintsFirst, script_of}
+use Rattle.script_rules.specs.Stages.{Stage, last_of, new_stage}
+use Rattle.ason_main.specs.declared.runner.run.Ran.{Ran}
+use Rattle.ason_main.specs.Running.{HasWritten, HasWrittenPart, StandsYet}
 
--- The table
+-- The run
 
--- by number, then by ingress
-abbrev pub call_before : CallRow → CallRow → Bool
-call_before a b = nat_lt a.call.0 b.call.0 || (a.call.0 == b.call.0 && nat_lt a.ingress.0 b.ingress.0)
+-- the last of these stages
+abbrev pub end_of : List Stage → Stage
+end_of more = last_of new_stage more
 
--- by LSP, then by node
-abbrev pub leg_before : LegRow → LegRow → Bool
-leg_before a b = lsp_before a.lsp b.lsp || (same_lsp a.lsp b.lsp && nat_lt a.node.0 b.node.0)
-
--- the rows of all nodes: calls in order of number and ingress, legs in order of LSP and node
-pub record IsTable (t : Network) (s : Mesh) (rows : TableRows) : Type 0 where
-  pub same_calls : IsPermutation (all_call_rows t s) rows.calls
-  pub calls : IsSortedBy call_before rows.calls
-  pub same_legs : IsPermutation (all_leg_rows t s) rows.legs
-  pub legs : IsSortedBy leg_before rows.legs
-
--- The script
-
--- the command is posted, unless the run is stopped
-abbrev pub posted_on : Network → Command → History → History
-posted_on t c h = if is_some h.stopped then h else with_event t h (event.Post c)
-
--- what a line makes of the run
-abbrev pub line_done : Network → History → Line → History
-line_done t h (Post c) = posted_on t c h
-line_done t h (Settle r) = settled t r h
-line_done t h (Wait r) = waited t r h
-line_done t h Show = h
-
--- the network settles before the plan's lines and after them, and the table comes last
-abbrev pub settling_script : ℕ → Plan → List Line
-settling_script rounds p = Settle rounds ∷ (p.lines ++ (Settle rounds ∷ (Show ∷ [])))
-
-abbrev pub script_of : Plan → List Line
-script_of p = settling_script 1000 p
-
-abbrev pub lines_done : Network → List Line → History → History
-lines_done t lines h = fold (line_done t) h lines
-
--- the run of the plan
-abbrev pub run_of : Plan → History
-run_of p = lines_done p.topology (script_of p) new_history
-
--- What is printed
-
--- the line of what is unsettled, where it isn't quiet: desk items, unacknowledged messages, and rows of links that
--- aren't acknowledged
-abbrev pub unsettled_line : Network → World → List ℕ
-unsettled_line t w =
-    if is_quiet t w then [] else unsettled_text (items_waiting t w) (unacked_waiting t w) (rows_waiting t w)
-
--- what `settle` prints of the world that it leads to: no line just where nothing waits in all this world
-pub record IsUnsettledLine (t : Network) (w : World) (text : List ℕ) : Type 0 where
-  pub line : text ≡ unsettled_line t w
-  pub quiet : (text ≡ []) ↔ IsQuiet w
-
--- what a line prints of the world that it leads to; a table is that of the mesh which this world shows
-abbrev pub Shows : Plan → Line → World → List ℕ → Type 0
-Shows p (Post c) w text = text ≡ []
-Shows p (Settle r) w text = IsUnsettledLine p.topology w text
-Shows p (Wait r) w text = text ≡ []
-Shows p Show w text = (rows : TableRows) × IsTable p.topology (image w) rows × (text ≡ table_text p rows)
-
--- nothing is printed once the run is stopped
-abbrev pub UnlessStopped : Option NodeId → Type 0 → List ℕ → Type 0
-UnlessStopped None shows text = shows
-UnlessStopped (Some n) shows text = text ≡ []
-
--- what a line prints that leads to this history
-abbrev pub LinePrints : Plan → Line → History → List ℕ → Type 0
-LinePrints p line h text = UnlessStopped h.stopped (Shows p line (world_after p.topology h) text) text
-
--- what these lines print, one after the other
-abbrev pub Prints : Plan → List Line → History → List ℕ → Type 0
-Prints p [] h text = text ≡ []
-Prints p (line ∷ lines) h text =
-    (first : List ℕ) × (others : List ℕ) × LinePrints p line (line_done p.topology h line) first
-    × Prints p lines (line_done p.topology h line) others × (text ≡ first ++ others)
-
--- what some first ones of these lines print
-abbrev pub PrintsFirst : Plan → List Line → History → List ℕ → Type 0
-PrintsFirst p lines h text =
-    (first : List Line) × (left : List Line) × (first ++ left ≡ lines) × Prints p first h text
-
--- The run and its output
-
--- these events lead through the history of each line
-abbrev pub LeadThrough : Network → List Event → List Line → History → Type 0
-LeadThrough t es [] h = h.events ≡ es
-LeadThrough t es (line ∷ lines) h =
-    ((left : List Event) × (h.events ++ left ≡ es)) × LeadThrough t es lines (line_done t h line)
-
--- each call with a reserved backup is carried over fibres that are up, at each node of this mesh
-abbrev pub AreRestored : Network → List MeshEvent → Mesh → Type 0
-AreRestored t events s =
-    (n : ℕ) → All (λ c. IsTrue (is_guarded (s.nodes n) c) → IsRestored t events c) (s.nodes n).calls
-
--- what holds beside the laws where nothing waits in the world to which these events lead
-pub record QuietLawsHold (t : Network) (events : List Event) : Type 0 where
-  -- nothing waits in the mesh that it shows
-  pub shown : mesh_quiet.IsQuiet (image (after t (start t) events))
-  -- where since a calm state one group alone failed, each guarded call is restored
-  pub restored : (g : Group) → Alone t (mesh_events t (start t) events) g →
-      AreRestored t (mesh_events t (start t) events) (image (after t (start t) events))
-  -- nodes that a walk joins know the same links, those of each of them among these
-  pub same : KnowTheSame t (after t (start t) events)
-  pub links : KnowTheLinks t (after t (start t) events)
-
--- what these events of a world show is a run of the machine to the mesh that the last world shows, and the laws hold
--- of it, where nothing waits those of quiet too
-pub record IsLawful (t : Network) (events : List Event) : Type 0 where
-  pub shown : IsShown t events
-  pub laws : LawsHold t (mesh_events t (start t) events)
-  pub quiet : IsQuiet (after t (start t) events) → QuietLawsHold t events
-
--- over the plan's network, which is a topology, one run of a world leads through the whole script, and each first part
--- of it is lawful
-pub record IsOneRun (p : Plan) : Type 0 where
+-- Over the plan's network, which is a topology, each of these stages is a record whose merges are lawful runs, and from
+-- stage to stage logs and posts grow at their ends.
+pub record IsOneRun (p : Plan) (more : List Stage) : Type 0 where
   pub topology : IsTopology p.topology
-  pub run : IsRun p.topology (start p.topology) (run_of p).events
-  pub laws : (first left : List Event) → first ++ left ≡ (run_of p).events → IsLawful p.topology first
-  pub leads : LeadThrough p.topology (run_of p).events (script_of p) new_history
+  pub laws : AllByRecursion (λ (s : Stage). IsLawfulRecord p.topology s.made) (new_stage ∷ more)
+  pub grows : AreGrowing new_stage more
 
--- what is printed of a run that comes to the script's end
-pub record IsOutput (p : Plan) (text : List ℕ) : Type 0 where
-  pub one_run : IsOneRun p
-  pub ended : (run_of p).stopped ≡ None
-  pub printed : Prints p (script_of p) new_history text
+-- what is made and printed by a run that comes to the script's end
+pub record IsOutput (p : Plan) (how : How) (more : List Stage) (text : List ℕ) : Type 0 where
+  pub one_run : IsOneRun p more
+  pub ended : (end_of more).stopped ≡ None
+  pub printed : Prints p how (script_of p) new_stage more text
 
--- what is printed of a run that is stopped at the limit of this node, which has made 50,000 events: that, and the line
--- of the stop
-pub record IsStoppedOutput (p : Plan) (n : NodeId) (text : List ℕ) : Type 0 where
-  pub one_run : IsOneRun p
-  pub stopped : (run_of p).stopped ≡ Some n
-  pub full : events_of n.0 (run_of p).events ≡ 50000
-  pub printed : (told : List ℕ) × Prints p (script_of p) new_history told × (text ≡ told ++ stopped_text p n)
+-- what is made and printed by a run that is stopped at the limit of this node, whose log has 50,000 lines
+pub record IsCutShort (p : Plan) (how : How) (n : NodeId) (more : List Stage) (text : List ℕ) : Type 0 where
+  pub one_run : IsOneRun p more
+  pub stopped : (end_of more).stopped ≡ Some n
+  pub full : length (log_at (end_of more).made n.0) ≡ 50000
+  pub printed : Prints p how (script_of p) new_stage more text
 
 -- the first part of what is printed, up to the end of a line
-pub record IsBegun (p : Plan) (text : List ℕ) : Type 0 where
-  pub one_run : IsOneRun p
-  pub printed : PrintsFirst p (script_of p) new_history text
+pub record IsBegun (p : Plan) (how : How) (text : List ℕ) : Type 0 where
+  pub more : List Stage
+  pub one_run : IsOneRun p more
+  pub printed : PrintsFirst p how (script_of p) new_stage more text
 
 -- The one output of a plan
 
--- this is the plan's output, and the plan has no other one
-pub record IsTheOutput (p : Plan) (text : List ℕ) : Type 0 where
-  pub output : IsOutput p text
-  pub only : (other : List ℕ) → IsOutput p other → other ≡ text
-  pub never_stopped : (n : NodeId) (other : List ℕ) → ¬ IsStoppedOutput p n other
+-- this is an output of the plan; with one worker there is no other one, and the run is never stopped
+pub record IsTheOutput (p : Plan) (how : How) (more : List Stage) (text : List ℕ) : Type 0 where
+  pub output : IsOutput p how more text
+  pub only : how.workers ≡ 1 → (others : List Stage) (other : List ℕ) → IsOutput p how others other →
+      AreSame others more other text
+  pub never_stopped : how.workers ≡ 1 → (n : NodeId) (others : List Stage) (other : List ℕ) →
+      ¬ IsCutShort p how n others other
 
 -- the same of a run that is stopped
-pub record IsTheStoppedOutput (p : Plan) (n : NodeId) (text : List ℕ) : Type 0 where
-  pub output : IsStoppedOutput p n text
-  pub only : (m : NodeId) (other : List ℕ) → IsStoppedOutput p m other → (m ≡ n) × (other ≡ text)
-  pub never_ended : (other : List ℕ) → ¬ IsOutput p other
+pub record IsTheCut (p : Plan) (how : How) (n : NodeId) (more : List Stage) (text : List ℕ) : Type 0 where
+  pub output : IsCutShort p how n more text
+  pub only : how.workers ≡ 1 → (m : NodeId) (others : List Stage) (other : List ℕ) → IsCutShort p how m others other →
+      (m ≡ n) × AreSame others more other text
+  pub never_ended : how.workers ≡ 1 → (others : List Stage) (other : List ℕ) → ¬ IsOutput p how others other
+
+-- and the line of the stop
+pub record IsTheStoppedOutput (p : Plan) (how : How) (n : NodeId) (more : List Stage) (text : List ℕ) : Type 0 where
+  pub told : List ℕ
+  pub cut : IsTheCut p how n more told
+  pub all : text ≡ told ++ stopped_text p n
+
+-- What a run leaves
+
+-- the fleet stands for this stage, and its logs and posts are those of it
+pub record IsKept (p : Plan) (f : FleetState) (s : Stage) : Type 0 where
+  pub stands : StandsFor p.topology s.lines f s.made
+  pub made : HasMade p.topology f s.made
+
+-- the plan's output was written, and the fleet made it
+pub record HasEnded (p : Plan) (how : How) (f : FleetState) (old new : Option (List ℕ)) : Type 0 where
+  pub more : List Stage
+  pub text : List ℕ
+  pub output : IsTheOutput p how more text
+  pub kept : IsKept p f (end_of more)
+  pub written : Appends old new text
+
+-- the same of a run that is stopped at this node
+pub record HasBeenCut (p : Plan) (how : How) (n : NodeId) (f : FleetState) (old new : Option (List ℕ)) : Type 0 where
+  pub more : List Stage
+  pub text : List ℕ
+  pub output : IsTheCut p how n more text
+  pub kept : IsKept p f (end_of more)
+  pub written : Appends old new text
+
+-- what the runner answers of a plan, by what the sink took before and after, and how often it failed
+abbrev pub IsRan : {K : Type 0} → (K → Option (List ℕ)) → (K → ℕ) → Plan → How → FleetState → K → K → Ran → Type 0
+IsRan written faults p how f old new Ran.Ended =
+    (faults old ≤ faults new) × HasEnded p how f (written old) (written new)
+IsRan written faults p how f old new (Ran.AtLimit n) =
+    (faults old ≤ faults new) × HasBeenCut p how n f (written old) (written new)
+IsRan written faults p how f old new Ran.Failed =
+    Rose (faults old) (faults new) × HasWrittenPart (written old) (written new) (IsBegun p how) × StandsYet p.topology f
+IsRan written faults p how f old new Ran.OutOfMemory =
+    (faults old ≤ faults new) × HasWritten (written old) (written new) (IsBegun p how) × StandsYet p.topology f

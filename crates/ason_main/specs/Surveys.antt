@@ -1,5 +1,5 @@
 -- What the program tells of the last table of a plan's run: what fails together, and which calls would contend.
-use Rattle.std.specs.Prelude.{◌≡◌, ◌≢◌, ◌↔◌, ℕ, Bool, List, [], ◌∷◌, ◌++◌, Some, None, IsTrue}
+use Rattle.std.specs.Prelude.{◌≡◌, ◌≢◌, ◌↔◌, ℕ, Bool, false, List, [], ◌∷◌, ◌++◌, Some, None, IsTrue}
 use Rattle.std.specs.List.{AllByRecursion, list_all}
 use Rattle.ason_base.specs.declared.calls.LegRow.{LegRow}
 use Rattle.ason_base.specs.declared.calls.TableRows.{TableRows}
@@ -15,15 +15,23 @@ use Rattle.mesh_laws.specs.ContendLaw.{GoesOnWith}
 use Rattle.mesh_laws.specs.Survey.{contends_of, hits_of}
 use Rattle.mesh_laws.specs.SurveyLaw.{NoneListed, is_reserved_row}
 use Rattle.world_rules.specs.Images.{IsQuiet, image, mesh_events}
-use Rattle.world_rules.specs.Runs.{events_of}
 use Rattle.world_rules.specs.Worlds.{World, start}
-use Rattle.station.specs.Histories.{History, world_after}
+use Rattle.ason_base.specs.declared.commands.Disturb.{Disturb}
+use Rattle.ason_base.specs.declared.commands.Entry.{Entry}
+use Rattle.world_merge.specs.Merges.{events_of}
+use Rattle.world_merge.specs.Orders.{IsMerge}
+use Rattle.round_rules.specs.Records.{Record, log_at, posts_in, world_of}
+use Rattle.script_rules.specs.Laws.{AreSame}
+use Rattle.script_rules.specs.Outputs.{How}
+use Rattle.script_rules.specs.Stages.{Stage, world_at}
+use Rattle.script_rules.specs.Tables.{IsTable}
 use Rattle.fleet.specs.Standing.{FleetState, StandsFor}
 use Rattle.plan_reader.specs.declared.plan.Plan.{Plan}
 use Rattle.table_text.specs.SurveyText.{survey_text}
 use Rattle.table_text.specs.TableText.{stopped_text}
 use Rattle.ason_main.specs.declared.runner.stops.Stop.{Stop}
-use Rattle.ason_main.specs.Outputs.{IsOneRun, IsTable, run_of}
+use Rattle.ason_main.specs.Outputs.{IsCutShort, IsKept, IsOutput, IsTheCut, end_of}
+use Rattle.ason_main.specs.Running.{StandsYet}
 
 -- The text
 
@@ -42,9 +50,10 @@ pub record IsSurveyOf (p : Plan) (w : World) (text : List ℕ) : Type 0 where
   pub told : text
       ≡ survey_text p calm (hits_of p.topology rows.calls rows.legs) (contends_of p.topology rows.calls rows.legs)
 
--- this is the survey of the table, in whatever run the stations stand
+-- this is the survey of the table, for whatever record the stations stand
 pub record TellsSurvey (p : Plan) (f : FleetState) (text : List ℕ) : Type 0 where
-  pub tells : (h : History) → StandsFor p.topology f h → IsSurveyOf p (world_after p.topology h) text
+  pub tells : (lines : List Disturb) (r : Record) → StandsFor p.topology lines f r →
+      IsSurveyOf p (world_of p.topology r) text
 
 -- What it says of all that may follow
 
@@ -64,29 +73,41 @@ pub record CalmHolds (t : Network) (events : List MeshEvent) (rows : TableRows) 
 
 -- The run and its survey
 
-abbrev pub last_world : Plan → World
-last_world p = world_after p.topology (run_of p)
+-- a run of which nothing is printed, with one worker
+abbrev pub silent : How
+silent = record { workers = 1; tables = false }
 
--- the events of the run, as the mesh has them
-abbrev pub last_events : Plan → List MeshEvent
-last_events p = mesh_events p.topology (start p.topology) (run_of p).events
+-- however its logs and posts are merged, the mesh to which the record's run leads has these rows, and this holds of it
+abbrev pub HoldsOf : Network → Record → TableRows → Type 0
+HoldsOf t r rows =
+    (m : List Entry) → IsMerge (log_at r) (posts_in r) m → CalmHolds t (mesh_events t (start t) (events_of m)) rows
 
 -- the survey of the run's last table; where it is told to be calm, this is what it says
-pub record IsSurveyed (p : Plan) (text : List ℕ) : Type 0 where
-  pub one_run : IsOneRun p
-  pub ended : (run_of p).stopped ≡ None
-  pub survey : IsSurveyOf p (last_world p) text
-  pub holds : IsTrue survey.calm → CalmHolds p.topology (last_events p) survey.rows
+pub record IsSurveyed (p : Plan) (more : List Stage) (text : List ℕ) : Type 0 where
+  pub output : IsOutput p silent more []
+  pub survey : IsSurveyOf p (world_at p.topology (end_of more)) text
+  pub holds : IsTrue survey.calm → HoldsOf p.topology (end_of more).made survey.rows
+
+-- it is the plan's one survey
+pub record IsTheSurvey (p : Plan) (more : List Stage) (text : List ℕ) : Type 0 where
+  pub is : IsSurveyed p more text
+  pub only : (others : List Stage) (other : List ℕ) → IsSurveyed p others other → AreSame others more other text
+  pub never_stopped : (n : NodeId) (others : List Stage) → ¬ IsCutShort p silent n others []
 
 -- of a run that is stopped at the limit of this node the line of the stop is told alone
-pub record IsStoppedSurvey (p : Plan) (n : NodeId) (text : List ℕ) : Type 0 where
-  pub one_run : IsOneRun p
-  pub stopped : (run_of p).stopped ≡ Some n
-  pub full : events_of n.0 (run_of p).events ≡ 50000
+pub record IsStoppedSurvey (p : Plan) (n : NodeId) (more : List Stage) (text : List ℕ) : Type 0 where
+  pub cut : IsTheCut p silent n more []
   pub told : text ≡ stopped_text p n
 
 -- why there is no survey
-abbrev pub StopsSurvey : Plan → Stop → Type 0
-StopsSurvey p (Stop.AtLimit n) = IsStoppedSurvey p n (stopped_text p n)
-StopsSurvey p Stop.Failed = ⊥
-StopsSurvey p Stop.OutOfMemory = Unit {0}
+abbrev pub StopsSurvey : Plan → FleetState → Stop → Type 0
+StopsSurvey p f (Stop.AtLimit n) =
+    (more : List Stage) × IsStoppedSurvey p n more (stopped_text p n) × IsKept p f (end_of more)
+StopsSurvey p f Stop.Failed = ⊥
+StopsSurvey p f Stop.OutOfMemory = StandsYet p.topology f
+
+-- the fleet made the run of which this is the survey
+pub record TellsTheSurvey (p : Plan) (f : FleetState) (text : List ℕ) : Type 0 where
+  pub more : List Stage
+  pub survey : IsTheSurvey p more text
+  pub kept : IsKept p f (end_of more)

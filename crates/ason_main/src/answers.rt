@@ -1,23 +1,30 @@
 //! The top call: reads an input, and writes what a plan's network came to, the survey of its last table, its routes,
 //! its best pair of them, or what messages say.
 
-ghost use Rattle.std.specs.Prelude.{◌≡◌, ℕ, List, [], Ok, Err, IfOk, map, string_bytes};
+ghost use Rattle.std.specs.Prelude.{◌≡◌, ℕ, List, [], None, Some, Ok, Err, IfOk, map, string_bytes};
 ghost use Rattle.ason_base.specs.Network.{IsTopology};
 ghost use Rattle.ason_main.specs.Answers.{Ask, Decode, IsAnswered, IsComplete, IsReply, IsTold, Reply, Run, Survey};
-ghost use Rattle.ason_main.specs.Answers.{WasGiven, WasTold, WasToldOrNothing, exit_status, is_word, names_two};
-ghost use Rattle.ason_main.specs.Answers.{request_for, task_of};
+ghost use Rattle.ason_main.specs.Answers.{WasGiven, WasTold, WasToldOrNothing, exit_status, request_for};
+ghost use Rattle.command_words.specs.Paces.{PaceView};
 ghost use Rattle.plan_reader.specs.PlanTexts.{word_at};
 ghost use Rattle.plan_reader.specs.Plans.{ArePostable, PlanOf};
 ghost use Rattle.table_text.specs.TableText.{stopped_text};
+ghost use Rattle.round_rules.specs.Records.{new_record};
+ghost use Rattle.fleet.specs.Standing.{StandsFor};
 
+use crate::host::Host;
 use crate::runner::run::{Ran, run_plan};
 use crate::runner::stops::Stop;
 use crate::surveying::survey_of;
 use ason_base::{NodeId, OutOfMemory};
-use ason_io::{ReadAllFault, Sink, Source, read_all, write_all};
+use ason_io::{Gate, ReadAllFault, Sink, Source, read_all, write_all};
+use command_words::{Pace, Question, Task, task_of};
+use fleet::Fleet;
 use message_text::decode_text;
 use plan_reader::{Plan, PlanError, PlanFault, read_plan};
 use std::alloc::Global;
+use std::sync::Wait;
+use std::thread::Threads;
 use table_text::{best_text, refused_text, route_text, write_stopped};
 
 /// The most bytes of an input.
@@ -67,66 +74,6 @@ impl Status {
     }
 }
 
-// What the words ask for.
-#[derive(Clone, Copy, Debug, PartialEq, Eq, Drop)]
-enum Task {
-    // To run a plan.
-    Run,
-    // To tell what messages say.
-    Decode,
-    // To tell the survey of a plan's last table.
-    Survey,
-    // To tell something of two nodes of a plan.
-    Ask(Question),
-}
-
-// What is asked of two nodes of a plan.
-#[derive(Clone, Copy, Debug, PartialEq, Eq, Drop)]
-enum Question {
-    // The least route, its backup, and each node's potential.
-    Route,
-    // The best pair of routes.
-    Best,
-}
-
-// Whether the words are this one word.
-fn is_word(words: &[String], word: &str) -> bool
-    ensures { result ≡ is_word (map string_bytes words.now) word.now }
-{
-    match words {
-        [only] => only.as_str() == word,
-        _ => false,
-    }
-}
-
-// Whether they are this word and two more.
-fn names_two(words: &[String], word: &str) -> bool
-    ensures { result ≡ names_two (map string_bytes words.now) word.now }
-{
-    match words {
-        [command, _, _] => command.as_str() == word,
-        _ => false,
-    }
-}
-
-fn task_of(words: &[String]) -> Option<Task>
-    ensures { result ≡ task_of (map string_bytes words.now) }
-{
-    if is_word(words, "run") {
-        Some(Task::Run)
-    } else if is_word(words, "decode") {
-        Some(Task::Decode)
-    } else if is_word(words, "survey") {
-        Some(Task::Survey)
-    } else if names_two(words, "route") {
-        Some(Task::Ask(Question::Route))
-    } else if names_two(words, "best") {
-        Some(Task::Ask(Question::Best))
-    } else {
-        None
-    }
-}
-
 // The word at a place, from 0; empty where there is none.
 fn word_at(words: &[String], place: usize) -> &str
     ensures { result.now ≡ word_at (map string_bytes words.now) place }
@@ -159,43 +106,104 @@ fn tell_stop<K: Sink>(alloc: Global, plan: &Plan, node: NodeId, out: &mut K) -> 
     }
 }
 
-// Runs the plan.
-fn run<K: Sink>(alloc: Global, plan: &Plan, out: &mut K) -> Status
-    requires { ArePostable plan.now.topology [] plan.now.lines }
+// Runs the plan on this fleet.
+fn run_fleet<R: Threads + Wait + Sync, K: Sink, G: Gate>(
+    host: &Host<R, G>,
+    plan: &Plan,
+    pace: Pace,
+    fleet: &mut Fleet,
+    out: &mut K,
+) -> Status
+    requires new { StandsFor plan.now.topology [] fleet.old new_record }
+    requires postable { ArePostable plan.now.topology [] plan.now.lines }
     ensures { (bs : List ℕ) → PlanOf bs (Ok plan.now)
-        → IsAnswered K.written K.faults Run bs out.old out.new result }
+        → IsAnswered K.written K.faults (Run pace) bs out.old out.new (Some fleet.new) result }
 {
-    match run_plan(alloc, plan, out) {
+    let (workers, stride) = (pace.workers(), pace.stride());
+    match run_plan(
+        host.rt, host.alloc, fleet, plan, workers, stride, true, out, host.gate,
+    ) {
         Ran::Ended => Status::Done,
-        Ran::AtLimit(node) => tell_stop(alloc, plan, node, out),
+        Ran::AtLimit(node) => tell_stop(host.alloc, plan, node, out),
         Ran::Failed => Status::WriteFault,
         Ran::OutOfMemory => Status::OutOfMemory,
     }
 }
 
-// Tells the survey of the plan's last table.
-fn survey<K: Sink>(alloc: Global, plan: &Plan, out: &mut K) -> Status
-    requires { ArePostable plan.now.topology [] plan.now.lines }
+// Runs the plan, and keeps the fleet that made the run.
+fn run<R: Threads + Wait + Sync, K: Sink, G: Gate>(
+    host: &Host<R, G>,
+    plan: &Plan,
+    pace: Pace,
+    out: &mut K,
+    kept: &mut Option<Fleet>,
+) -> Status
+    requires postable { ArePostable plan.now.topology [] plan.now.lines }
+    requires none { kept.old ≡ None }
     ensures { (bs : List ℕ) → PlanOf bs (Ok plan.now)
-        → IsAnswered K.written K.faults Survey bs out.old out.new result }
+        → IsAnswered K.written K.faults (Run pace) bs out.old out.new kept.new result }
 {
-    match survey_of(alloc, plan) {
+    match Fleet::new(host.alloc, &plan.topology) {
+        Ok(mut fleet) => {
+            let status = run_fleet(host, plan, pace, &mut fleet, out);
+            *kept = Some(fleet);
+            status
+        }
+        Err(OutOfMemory) => Status::OutOfMemory,
+    }
+}
+
+// Tells the survey of the plan's last table, of a run on this fleet.
+fn survey_fleet<R: Threads + Wait + Sync, K: Sink, G: Gate>(
+    host: &Host<R, G>,
+    plan: &Plan,
+    fleet: &mut Fleet,
+    out: &mut K,
+) -> Status
+    requires new { StandsFor plan.now.topology [] fleet.old new_record }
+    requires postable { ArePostable plan.now.topology [] plan.now.lines }
+    ensures { (bs : List ℕ) → PlanOf bs (Ok plan.now)
+        → IsAnswered K.written K.faults Survey bs out.old out.new (Some fleet.new) result }
+{
+    match survey_of(host, plan, fleet, out) {
         Ok(text) => tell(out, &text, Status::Done),
-        Err(Stop::AtLimit(node)) => tell_stop(alloc, plan, node, out),
+        Err(Stop::AtLimit(node)) => tell_stop(host.alloc, plan, node, out),
         // Nothing is written before the survey is told.
         Err(Stop::Failed) => unreachable!(),
         Err(Stop::OutOfMemory) => Status::OutOfMemory,
     }
 }
 
+// Tells the survey of the plan's last table, and keeps the fleet that made the run.
+fn survey<R: Threads + Wait + Sync, K: Sink, G: Gate>(
+    host: &Host<R, G>,
+    plan: &Plan,
+    out: &mut K,
+    kept: &mut Option<Fleet>,
+) -> Status
+    requires postable { ArePostable plan.now.topology [] plan.now.lines }
+    requires none { kept.old ≡ None }
+    ensures { (bs : List ℕ) → PlanOf bs (Ok plan.now)
+        → IsAnswered K.written K.faults Survey bs out.old out.new kept.new result }
+{
+    match Fleet::new(host.alloc, &plan.topology) {
+        Ok(mut fleet) => {
+            let status = survey_fleet(host, plan, &mut fleet, out);
+            *kept = Some(fleet);
+            status
+        }
+        Err(OutOfMemory) => Status::OutOfMemory,
+    }
+}
+
 // Tells the fault of what is no plan.
 fn refuse<K: Sink>(alloc: Global, fault: PlanFault, out: &mut K) -> Status
-    ensures run { (bs : List ℕ) → PlanOf bs (Err fault)
-        → IsAnswered K.written K.faults Run bs out.old out.new result }
+    ensures run { (bs : List ℕ) (pace : PaceView) → PlanOf bs (Err fault)
+        → IsAnswered K.written K.faults (Run pace) bs out.old out.new None result }
     ensures survey { (bs : List ℕ) → PlanOf bs (Err fault)
-        → IsAnswered K.written K.faults Survey bs out.old out.new result }
+        → IsAnswered K.written K.faults Survey bs out.old out.new None result }
     ensures ask { (question : Question) (bs from to : List ℕ) → PlanOf bs (Err fault)
-        → IsAnswered K.written K.faults (Ask question from to) bs out.old out.new result }
+        → IsAnswered K.written K.faults (Ask question from to) bs out.old out.new None result }
 {
     match refused_text(alloc, fault) {
         Ok(text) => tell(out, &text, Status::PlanRefused),
@@ -204,30 +212,43 @@ fn refuse<K: Sink>(alloc: Global, fault: PlanFault, out: &mut K) -> Status
 }
 
 // What `run` answers of the input.
-fn run_input<K: Sink>(alloc: Global, bytes: &[u8], out: &mut K) -> Status
-    ensures { IsAnswered K.written K.faults Run bytes.now out.old out.new result }
+fn run_input<R: Threads + Wait + Sync, K: Sink, G: Gate>(
+    host: &Host<R, G>,
+    pace: Pace,
+    bytes: &[u8],
+    out: &mut K,
+    kept: &mut Option<Fleet>,
+) -> Status
+    requires { kept.old ≡ None }
+    ensures { IsAnswered K.written K.faults (Run pace) bytes.now out.old out.new kept.new result }
 {
-    match read_plan(alloc, bytes) {
-        Ok(plan) => run(alloc, &plan, out),
-        Err(PlanError::Fault(fault)) => refuse(alloc, fault, out),
+    match read_plan(host.alloc, bytes) {
+        Ok(plan) => run(host, &plan, pace, out, kept),
+        Err(PlanError::Fault(fault)) => refuse(host.alloc, fault, out),
         Err(PlanError::OutOfMemory) => Status::OutOfMemory,
     }
 }
 
 // What `survey` answers of the input.
-fn survey_input<K: Sink>(alloc: Global, bytes: &[u8], out: &mut K) -> Status
-    ensures { IsAnswered K.written K.faults Survey bytes.now out.old out.new result }
+fn survey_input<R: Threads + Wait + Sync, K: Sink, G: Gate>(
+    host: &Host<R, G>,
+    bytes: &[u8],
+    out: &mut K,
+    kept: &mut Option<Fleet>,
+) -> Status
+    requires { kept.old ≡ None }
+    ensures { IsAnswered K.written K.faults Survey bytes.now out.old out.new kept.new result }
 {
-    match read_plan(alloc, bytes) {
-        Ok(plan) => survey(alloc, &plan, out),
-        Err(PlanError::Fault(fault)) => refuse(alloc, fault, out),
+    match read_plan(host.alloc, bytes) {
+        Ok(plan) => survey(host, &plan, out, kept),
+        Err(PlanError::Fault(fault)) => refuse(host.alloc, fault, out),
         Err(PlanError::OutOfMemory) => Status::OutOfMemory,
     }
 }
 
 // What `decode` answers of the input.
 fn decode_input<K: Sink>(alloc: Global, bytes: &[u8], out: &mut K) -> Status
-    ensures { IsAnswered K.written K.faults Decode bytes.now out.old out.new result }
+    ensures { IsAnswered K.written K.faults Decode bytes.now out.old out.new None result }
 {
     match decode_text(alloc, bytes) {
         Ok(text) => tell(out, &text, Status::Done),
@@ -263,7 +284,7 @@ fn tell_ends<K: Sink>(
 ) -> Status
     requires { IsTopology plan.now.topology }
     ensures { (bs : List ℕ) → PlanOf bs (Ok plan.now)
-        → IsAnswered K.written K.faults (Ask question from.now to.now) bs out.old out.new result }
+        → IsAnswered K.written K.faults (Ask question from.now to.now) bs out.old out.new None result }
 {
     match told(alloc, plan, question, from, to) {
         Ok(text) => tell(out, &text, Status::Done),
@@ -281,7 +302,7 @@ fn ask_input<K: Sink>(
     out: &mut K,
 ) -> Status
     ensures { IsAnswered K.written K.faults (Ask question from.now to.now) bytes.now
-        out.old out.new result }
+        out.old out.new None result }
 {
     match read_plan(alloc, bytes) {
         Ok(plan) => tell_ends(alloc, &plan, question, from, to, out),
@@ -291,32 +312,47 @@ fn ask_input<K: Sink>(
 }
 
 // What is answered of the input.
-fn judge<K: Sink>(alloc: Global, words: &[String], task: Task, bytes: &[u8], out: &mut K) -> Status
+fn judge<R: Threads + Wait + Sync, K: Sink, G: Gate>(
+    host: &Host<R, G>,
+    words: &[String],
+    task: Task,
+    bytes: &[u8],
+    out: &mut K,
+    kept: &mut Option<Fleet>,
+) -> Status
+    requires { kept.old ≡ None }
     ensures { IsAnswered K.written K.faults (request_for (map string_bytes words.now) task)
-        bytes.now out.old out.new result }
+        bytes.now out.old out.new kept.new result }
 {
     match task {
-        Task::Run => run_input(alloc, bytes, out),
-        Task::Decode => decode_input(alloc, bytes, out),
-        Task::Survey => survey_input(alloc, bytes, out),
+        Task::Run(pace) => run_input(host, pace, bytes, out, kept),
+        Task::Decode => decode_input(host.alloc, bytes, out),
+        Task::Survey => survey_input(host, bytes, out, kept),
         Task::Ask(question) => {
             let from = word_at(words, 1);
-            ask_input(alloc, question, from, word_at(words, 2), bytes, out)
+            ask_input(host.alloc, question, from, word_at(words, 2), bytes, out)
         }
     }
 }
 
 // Reads the input, and answers.
-fn answer<S: Source, K: Sink>(alloc: Global, words: &[String], src: &mut S, out: &mut K) -> Status
+fn answer<R: Threads + Wait + Sync, S: Source, K: Sink, G: Gate>(
+    host: &Host<R, G>,
+    words: &[String],
+    src: &mut S,
+    out: &mut K,
+    kept: &mut Option<Fleet>,
+) -> Status
+    requires { kept.old ≡ None }
     ensures { (r : Reply)
-        × IsReply S.left S.handed S.ended S.faults (map string_bytes words.now) src.old src.new r
+        × IsReply S.left S.handed S.ended S.faults (map string_bytes words.now) src.old src.new r kept.new
         × WasGiven K.written K.faults out.old out.new r result }
 {
     let Some(task) = task_of(words) else {
         return tell(out, USAGE, Status::Usage);
     };
-    match read_all(alloc, src, LIMIT) {
-        Ok(bytes) => judge(alloc, words, task, &bytes, out),
+    match read_all(host.alloc, src, LIMIT) {
+        Ok(bytes) => judge(host, words, task, &bytes, out, kept),
         Err(ReadAllFault::Failed) => Status::ReadFault,
         Err(ReadAllFault::OutOfMemory) => Status::OutOfMemory,
         Err(ReadAllFault::TooLong) => tell(out, b"refused input too long\n", Status::TooLong),
@@ -326,16 +362,27 @@ fn answer<S: Source, K: Sink>(alloc: Global, words: &[String], src: &mut S, out:
 /// Answers the words, those after the program's name. `run` reads a plan, runs its script and writes what each line
 /// prints as it is done, or tells the plan's first fault. `survey` reads a plan and runs it so, prints nothing of that,
 /// and writes the survey of its last table, or the first fault. `route` and two names read a plan and write the least
-/// route between these nodes, its backup and the potentials, or the first fault. `best` and two names read one and write
-/// the pair of disjoint routes with the least total, or that there is none, and that its certificate was accepted, or
-/// the first fault. `decode` reads lines of RSVP messages in hexadecimal and writes what each says. If the sink fails
-/// the status is `WriteFault`; after that and after `OutOfMemory` a first part is written.
-pub fn ason<S: Source, K: Sink>(alloc: Global, words: &[String], src: &mut S, out: &mut K) -> Status
+/// route between these nodes, its backup and the potentials, or the first fault. `best` and two names read one and
+/// write the pair of disjoint routes with the least total, or that there is none, and that its certificate was
+/// accepted, or the first fault. `decode` reads lines of RSVP messages in hexadecimal and writes what each says. If the
+/// sink fails the status is `WriteFault`; after that and after `OutOfMemory` a first part is written. After `Done` and
+/// `EventLimit` of `run` and of `survey` the fleet that made the run is kept, with its logs and posts; after
+/// `WriteFault` and `OutOfMemory` it is that fleet or none, and after all else none.
+pub fn ason<R: Threads + Wait + Sync, S: Source, K: Sink, G: Gate>(
+    rt: &R,
+    alloc: Global,
+    words: &[String],
+    src: &mut S,
+    out: &mut K,
+    gate: &G,
+    kept: &mut Option<Fleet>,
+) -> Status
+    requires { kept.old ≡ None }
     ensures answer { (r : Reply)
-        × IsReply S.left S.handed S.ended S.faults (map string_bytes words.now) src.old src.new r
+        × IsReply S.left S.handed S.ended S.faults (map string_bytes words.now) src.old src.new r kept.new
         × WasGiven K.written K.faults out.old out.new r result }
     ensures complete { IsComplete S.left S.faults K.faults (map string_bytes words.now)
         src.old src.new out.old out.new result }
 {
-    answer(alloc, words, src, out)
+    answer(&Host { rt, alloc, gate }, words, src, out, kept)
 }

@@ -3,8 +3,11 @@
 #![tactic(auto)]
 
 pub mod answers;
+mod host;
+mod laws;
 mod runner;
 mod surveying;
 mod table_rows;
 
 pub use answers::{Status, ason};
+pub use runner::run::{Ran, run_plan};

@@ -1,6 +1,6 @@
 //! Runs a plan's script over a fleet of stations.
 
-pub mod doing;
+pub mod crew;
 pub mod lines;
 pub mod run;
 pub mod settling;

@@ -1,24 +1,29 @@
 //! Runs a plan, and tells what fails together in its last table, and which calls would contend.
 
-ghost use Rattle.std.specs.Prelude.{◌≡◌, ◌↔◌, ◌&&◌, [], IfErr, IfOk, IsTrue};
+ghost use Rattle.std.specs.Prelude.{◌≡◌, ◌≤◌, ◌↔◌, ◌&&◌, List, [], IfErr, IfOk, IsTrue};
+ghost use Rattle.std.specs.Io.KnownBytes.{Appends};
 ghost use Rattle.std.specs.List.{list_all};
 ghost use Rattle.ason_base.specs.Network.{Network};
 ghost use Rattle.mesh_laws.specs.SurveyLaw.{is_reserved_row};
-ghost use Rattle.message_text.specs.OneText.{IsOne};
-ghost use Rattle.station.specs.Histories.{History, world_after};
+ghost use Rattle.ason_base.specs.declared.commands.Disturb.{Disturb};
+ghost use Rattle.round_rules.specs.Records.{Record, new_record, world_of};
 ghost use Rattle.fleet.specs.Standing.{StandsFor};
 ghost use Rattle.plan_reader.specs.Plans.{ArePostable};
-ghost use Rattle.ason_main.specs.Surveys.{IsCalmWorld, IsSurveyed, StopsSurvey, TellsSurvey};
+ghost use Rattle.ason_main.specs.Surveys.{IsCalmWorld, StopsSurvey, TellsSurvey, TellsTheSurvey};
 
-use crate::runner::doing::do_script;
-use crate::runner::run::{ROUNDS, every_law};
+use crate::host::Host;
+use crate::laws::every_law;
+use crate::runner::run::{Ran, run_plan};
 use crate::runner::stops::Stop;
 use crate::table_rows::sort_rows;
 use ason_base::{LegRow, OutOfMemory, Phase, Role};
-use fleet::{Fleet, every_script};
+use ason_io::{Gate, Sink};
+use fleet::Fleet;
 use mesh_laws::no_contend;
 use plan_reader::Plan;
 use std::alloc::Global;
+use std::sync::Wait;
+use std::thread::Threads;
 use survey::survey;
 use table_text::survey_text;
 
@@ -43,10 +48,10 @@ fn are_all(quiet: bool, unfailed: bool, reserved: bool) -> bool
 
 // Whether nothing waits, no group has failed, and each backup's leg is Asked or Held.
 fn is_calm(fleet: &Fleet, legs: &[LegRow]) -> bool
-    ensures { (t : Network) (h : History) → StandsFor t fleet.now h →
-        IsTrue result ↔ IsCalmWorld (world_after t h) legs.now }
+    ensures { (t : Network) (lines : List Disturb) (r : Record) → StandsFor t lines fleet.now r →
+        IsTrue result ↔ IsCalmWorld (world_of t r) legs.now }
 {
-    every_script();
+    every_law();
     let quiet = fleet.quiet();
     let unfailed = fleet.unfailed();
     let reserved = are_reserved(legs);
@@ -69,18 +74,32 @@ fn told(alloc: Global, plan: &Plan, fleet: &Fleet) -> Result<Vec<u8>, OutOfMemor
     )
 }
 
-/// Runs the plan as `run` does, prints nothing of it, and tells the survey of its last table.
-pub fn survey_of(alloc: Global, plan: &Plan) -> Result<Vec<u8>, Stop>
-    requires { ArePostable plan.now.topology [] plan.now.lines }
-    ensures done { IfOk result (λ text. IsOne (IsSurveyed plan.now) text.items) }
-    ensures stops { IfErr result (StopsSurvey plan.now) }
+/// Runs the plan as `run` does, writes nothing of it, and tells the survey of its last table.
+pub fn survey_of<R: Threads + Wait + Sync, K: Sink, G: Gate>(
+    host: &Host<R, G>,
+    plan: &Plan,
+    fleet: &mut Fleet,
+    out: &mut K,
+) -> Result<Vec<u8>, Stop>
+    requires new { StandsFor plan.now.topology [] fleet.old new_record }
+    requires postable { ArePostable plan.now.topology [] plan.now.lines }
+    ensures done { IfOk result (λ text. TellsTheSurvey plan.now fleet.new text.items) }
+    ensures stops { IfErr result (StopsSurvey plan.now fleet.new) }
+    ensures written { Appends (K.written out.old) (K.written out.new) [] }
+    ensures rises { K.faults out.old ≤ K.faults out.new }
 {
     every_law();
     no_contend();
-    // So that it is known that the plan's network is a topology.
-    let _links = plan.topology.links();
-    let mut fleet = Fleet::new(alloc, &plan.topology)?;
-    do_script(plan, &mut fleet, ROUNDS)?;
-    let text = told(alloc, plan, &fleet)?;
-    Ok(text)
+    match run_plan(
+        host.rt, host.alloc, fleet, plan, 1, 1, false, out, host.gate,
+    ) {
+        Ran::Ended => {
+            let text = told(host.alloc, plan, fleet)?;
+            Ok(text)
+        }
+        Ran::AtLimit(node) => Err(Stop::AtLimit(node)),
+        // Nothing is written of the run.
+        Ran::Failed => unreachable!(),
+        Ran::OutOfMemory => Err(Stop::OutOfMemory),
+    }
 }

@@ -2,7 +2,7 @@
 
 ghost use Rattle.std.specs.Prelude.{IfOk};
 ghost use Rattle.std.specs.List.Sorted.{IsPermutation, IsSortedBy};
-ghost use Rattle.ason_main.specs.Outputs.{call_before, leg_before};
+ghost use Rattle.script_rules.specs.Tables.{call_before, leg_before};
 
 use ason_base::{CallRows, LegRows, OutOfMemory, TableRows};
 

@@ -1,71 +1,92 @@
--- Channels lead both ways, and join a node and its neighbours.
-use Rattle.std.proofs.Common.{◌≡◌, ℕ, Bool, true, false, nat_eq, not, List, [], ◌∷◌, refl, ap, ◌∙◌, sym}
-use Rattle.std.specs.Prelude.{◌&&◌, ◌||◌, Some, slice_get}
-use Rattle.std.specs.List.{list_any}
+-- The link of a station to the other end of a channel.
+use Rattle.std.proofs.Common.{◌≡◌, ℕ, true, false, nat_eq, List, refl, sym, ap, ◌∙◌}
+use Rattle.std.specs.Prelude.{None, Option, Some, position, slice_get}
+use Rattle.std.specs.List.{Contains}
 use Rattle.ason_base.specs.declared.ids.NodeId.{NodeId}
-use Rattle.ason_base.specs.declared.network.LinkSpec.{LinkSpec}
-use Rattle.ason_base.specs.Network.{Network, are_ends, is_node_id}
+use Rattle.ason_base.specs.declared.commands.Disturb.{Disturb}
+use Rattle.ason_base.specs.Network.{Network, is_node_id}
+use Rattle.flood.proofs.Members.{there_from_place}
 use Rattle.world_rules.specs.Runs.{is_channel, neighbours}
-use Rattle.station.proofs.Doing.{turned}
-use Rattle.station.proofs.Linking.{all-get}
-use Rattle.station.proofs.NewStations.{channels}
-use Rattle.fleet.proofs.Places.{IsAt, at-if}
+use Rattle.world_rules.proofs.Stepping.{self_test}
+use Rattle.station_rings.specs.LinkStates.{LinkState}
+use Rattle.station.specs.Sending.{is_to}
+use Rattle.round_rules.specs.OneWorker.{ids_of}
+use Rattle.round_rules.specs.Records.{Record}
+use Rattle.round_rules.specs.Rings.{count_of}
+use Rattle.station_doings.specs.States.{StationState}
+use Rattle.fleet_rounds.specs.Fleets.{AreStanding, IsStationAt, Wires}
+use Rattle.fleet_rounds.proofs.Nodes.{channel-back, joins-nodes, near-there, same-node}
+use Rattle.fleet_rounds.proofs.Wired.{link-count, link-peer, link-there, one-of}
+use Rattle.fleet.specs.declared.seats.Seat.{Seat}
+use Rattle.fleet.specs.Commands.{is_seat}
+use Rattle.fleet.specs.Noises.{sent_at, sent_by_link, sent_from, sent_of, sent_on}
+use Rattle.fleet.specs.Standing.{AreSeats, FleetState, StandsFor}
+use Rattle.fleet.proofs.Finding.{first-at, none-passes, seat-found, seat-lost}
+use Rattle.fleet.proofs.Places.{map-get, zip-get}
 
--- a channel leads from a node of the network to another, where a link joins them
-pub record IsJoined (t : Network) (u d : NodeId) : Type 0 where
-  pub from : is_node_id t.nodes u ≡ true
-  pub to : is_node_id t.nodes d ≡ true
-  pub other : nat_eq u.0 d.0 ≡ false
-  pub link : list_any (λ l. are_ends l.low l.high u d) t.links ≡ true
+-- the link to a neighbour is found
+pub record IsLinkTo (w : Wires) (n u : NodeId) (s : StationState) : Type 0 where
+  pub place : ℕ
+  pub found : position (is_to u) s.links ≡ Some place
+  pub is : slice_get s.links place ≡ Some (w n.0 u.0)
 
-pub parts : (t : Network) (u d : NodeId) → is_channel t u d ≡ true → IsJoined t u d
-parts t u d h =
-    go (is_node_id t.nodes u) refl (is_node_id t.nodes d) refl (nat_eq u.0 d.0) refl
-    (list_any (λ l. are_ends l.low l.high u d) t.links) refl h
+pub link-to : (t : Network) (lines : List Disturb) (r : Record) (w : Wires) (n : NodeId) (s : StationState) →
+    IsStationAt t lines r w n s → (u : NodeId) → Contains (neighbours t n) u → IsLinkTo w n u s
+link-to t lines r w n s is u near = go (position (is_to u) s.links) refl
   where
-    go : (a : Bool) → is_node_id t.nodes u ≡ a → (b : Bool) → is_node_id t.nodes d ≡ b → (c : Bool) →
-        nat_eq u.0 d.0 ≡ c → (e : Bool) → list_any (λ l. are_ends l.low l.high u d) t.links ≡ e →
-        (a && b && not c && e) ≡ true → IsJoined t u d
-    go true a true b false c true e k = record { from = a; to = b; other = c; link = e }
-    go true a true b false c false e k = absurd (cc (k))
-    go true a true b true c e f k = absurd (cc (k))
-    go true a false b c d e f k = absurd (cc (k))
-    go false a b c d e f g k = absurd (cc (k))
+    go : (o : Option ℕ) → position (is_to u) s.links ≡ o → IsLinkTo w n u s
+    go None e =
+        let lost = one-of (λ (l : LinkState). is_to u l ≡ false) s.links (w n.0 u.0)
+        (none-passes (is_to u) s.links e) (link-there t lines r w n s is u near) in
+        absurd (cc (lost, ap (λ (v : NodeId). nat_eq v.0 u.0) (link-peer t lines r w n s is u near), self_test u.0))
+    go (Some place) e =
+        let first = first-at (is_to u) s.links place e in
+        let v = map-get (λ (k : NodeId). w n.0 k.0) (neighbours t n) place first.item
+        (ap (λ ls. slice_get ls place) (sym is.links) ∙ first.there) in
+        let peer : (w n.0 v.0.0).peer ≡ v.0 =
+        link-peer t lines r w n s is v.0 (there_from_place (neighbours t n) place v.0 v.1) in
+        let same : v.0 ≡ u =
+        sym peer ∙ ap (λ (l : LinkState). l.peer) v.2 ∙ same-node first.item.peer u first.passes in
+        record {
+          place = place;
+          found = e;
+          is = first.there ∙ ap Some (sym v.2) ∙ ap (λ (k : NodeId). Some (w n.0 k.0)) same;
+        }
 
-or_turned : (a b : Bool) → (a || b) ≡ (b || a)
-or_turned true true = refl
-or_turned true false = refl
-or_turned false true = refl
-or_turned false false = refl
+-- the station of a node of the network, at the place of its seat
+pub record IsSeated (t : Network) (lines : List Disturb) (r : Record) (w : Wires) (seats : List Seat)
+    (stations : List StationState) (n : NodeId) : Type 0 where
+  pub place : ℕ
+  pub found : position (is_seat n) seats ≡ Some place
+  pub node : slice_get (ids_of t) place ≡ Some n
+  pub station : StationState
+  pub there : slice_get stations place ≡ Some station
+  pub is : IsStationAt t lines r w n station
 
-both_ways : (u d : NodeId) (links : List LinkSpec) → list_any (λ l. are_ends l.low l.high u d) links
-    ≡ list_any (λ l. are_ends l.low l.high d u) links
-both_ways u d [] = refl
-both_ways u d (l ∷ ls) =
-    ap (λ b. b || list_any (λ k. are_ends k.low k.high u d) ls)
-    (or_turned (nat_eq l.low.0 u.0 && nat_eq l.high.0 d.0) (nat_eq l.low.0 d.0 && nat_eq l.high.0 u.0))
-    ∙ ap (λ b. are_ends l.low l.high d u || b) (both_ways u d ls)
-
-pub back : (t : Network) (u d : NodeId) → is_channel t u d ≡ true → is_channel t d u ≡ true
-back t u d h =
-    let is : IsJoined t u d = parts t u d h in
-    all (is_node_id t.nodes d) (is_node_id t.nodes u) (nat_eq d.0 u.0)
-    (list_any (λ l. are_ends l.low l.high d u) t.links) is.to is.from (turned u.0 d.0 false is.other)
-    (sym (both_ways u d t.links) ∙ is.link)
+pub seated : (t : Network) (lines : List Disturb) (r : Record) (w : Wires) (seats : List Seat)
+    (stations : List StationState) → AreSeats t seats → AreStanding t lines r w stations → (n : NodeId) →
+    is_node_id t.nodes n ≡ true → IsSeated t lines r w seats stations n
+seated t lines r w seats stations are all n known = go (position (is_seat n) seats) refl
   where
-    all : (a b c e : Bool) → a ≡ true → b ≡ true → c ≡ false → e ≡ true → (a && b && not c && e) ≡ true
-    all true true false true p q r s = refl
-    all false b c e p q r s = absurd (cc (p))
-    all true false c e p q r s = absurd (cc (q))
-    all true true true e p q r s = absurd (cc (r))
-    all true true false false p q r s = absurd (cc (s))
+    go : (o : Option ℕ) → position (is_seat n) seats ≡ o → IsSeated t lines r w seats stations n
+    go None e = absurd (seat-lost t seats n are e known)
+    go (Some place) e =
+        let node = seat-found t seats n place are e in
+        let s = zip-get (IsStationAt t lines r w) (ids_of t) stations place n all.each node in
+        record { place = place; found = e; node = node; station = s.0; there = s.1; is = s.2 }
 
--- from each neighbour leads a channel
-pub from-near : (t : Network) (n u : NodeId) (place : ℕ) → slice_get (neighbours t n) place ≡ Some u →
-    is_channel t u n ≡ true
-from-near t n u place at = all-get (λ (m : NodeId). is_channel t m n ≡ true) (neighbours t n) place u (channels t n) at
+-- so many frames were sent on a channel as its station counts
+pub sent-is-count : (t : Network) (lines : List Disturb) (f : FleetState) (r : Record) → StandsFor t lines f r →
+    (u d : NodeId) → is_channel t u d ≡ true → sent_on f.seats f.stations u d ≡ Some (count_of t r u d)
+sent-is-count t lines f r s u d joined =
+    ap (sent_of d f.stations) at.found ∙ ap (sent_from d) at.there ∙ ap (sent_at at.station.links) link.found
+    ∙ ap sent_by_link link.is ∙ ap Some (link-count t lines r s.wires u at.station at.is d near)
+  where
+    at : IsSeated t lines r s.wires f.seats f.stations u
+    at = seated t lines r s.wires f.seats f.stations s.seats s.stations u (joins-nodes t u d joined).from
 
--- and whence one leads is a neighbour
-pub near-at : (t : Network) (n u : NodeId) → is_channel t u n ≡ true → IsAt (neighbours t n) u
-near-at t n u on = at-if (λ m. is_channel t m.id n) (λ m. is_channel t m n) (λ m. refl) u on t.nodes
-    (parts t u n on).from
+    near : Contains (neighbours t u) d
+    near = near-there t u d (channel-back t u d joined)
+
+    link : IsLinkTo s.wires u d at.station
+    link = link-to t lines r s.wires u at.station at.is d near

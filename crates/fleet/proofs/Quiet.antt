@@ -1,9 +1,10 @@
 -- Where nothing waits at the nodes of a fleet, nothing waits in the world, and the other way round.
-use Rattle.std.proofs.Common.{◌≡◌, ◌+◌, ℕ, Bool, true, false, nat_eq, List, [], ◌∷◌, length, refl, ◌∙◌, subst}
+use Rattle.std.proofs.Common.{◌≡◌, ◌+◌, ℕ, Bool, true, false, nat_eq, List, [], ◌∷◌, length, map, refl, ◌∙◌, subst}
 use Rattle.std.specs.Prelude.{◌&&◌, ◌||◌, sum_by}
-use Rattle.std.specs.List.{AllByRecursion, list_all}
+use Rattle.std.specs.List.{AllByRecursion, AllZip, list_all}
 use Rattle.std.proofs.lemmas.List.Sums.{sum_by-cons}
 use Rattle.ason_base.specs.declared.ids.NodeId.{NodeId}
+use Rattle.ason_base.specs.declared.commands.Disturb.{Disturb}
 use Rattle.ason_base.specs.declared.network.NodeSpec.{NodeSpec}
 use Rattle.ason_base.specs.Network.{Network, is_node_id}
 use Rattle.mesh_nodes.proofs.Cases.{both_left, both_right}
@@ -14,20 +15,25 @@ use Rattle.world_core.specs.Replays.{IsNowhere}
 use Rattle.world_rules.specs.Worlds.{World}
 use Rattle.world_core.proofs.Nowhere.{nowhere-run}
 use Rattle.world_core.proofs.Tabled.{IsStill, nothing-waits}
-use Rattle.station.specs.Histories.{History, world_after}
-use Rattle.station.specs.Standing.{StationState}
+use Rattle.world_rules.specs.Standing.{NodeStands}
+use Rattle.world_merge.specs.Merges.{IsRunOf, events_of}
+use Rattle.world_merge.specs.Picking.{merged_of}
+use Rattle.log_merge.specs.Logs.{EveryMergingMerges}
+use Rattle.round_rules.specs.Records.{Record, deeds_at, world_of}
+use Rattle.station_doings.specs.States.{StationState}
+use Rattle.fleet_rounds.specs.Waiting.{is_quiet, is_quiet_at}
+use Rattle.fleet_rounds.proofs.Numbers.{same_number}
 use Rattle.fleet.specs.Laws.{QuietIsTheWorlds}
-use Rattle.fleet.specs.Rounds.{is_quiet, is_quiet_at, unacked_at}
-use Rattle.fleet.specs.Standing.{FleetState, IsStationOf, StandsFor}
+use Rattle.fleet.specs.Standing.{FleetState, StandsFor}
 use Rattle.fleet.specs.Waiting.{has_nothing}
-use Rattle.fleet.proofs.Places.{same_number}
-use Rattle.fleet.proofs.Sums.{Along, quiet-stands, stations-along}
+use Rattle.fleet.proofs.Merged.{fleet-merges, log_of_station}
+use Rattle.fleet.proofs.Sums.{quiet-stands, stations-along}
 
 -- From the nodes to the world
 
 -- what holds of each node whose station passes, where all stations pass
 each-along : {X Y : Type 0} (p : X → Bool) (P : Y → Type 0) (xs : List X) (ys : List Y) →
-    Along (λ x y. p x ≡ true → P y) xs ys → list_all p xs ≡ true → AllByRecursion P ys
+    AllZip (λ x y. p x ≡ true → P y) xs ys → list_all p xs ≡ true → AllByRecursion P ys
 each-along p P [] [] all pass = tt
 each-along p P [] (y ∷ ys) all pass = absurd all
 each-along p P (x ∷ xs) [] all pass = absurd all
@@ -47,28 +53,38 @@ node-has P (m ∷ nodes) n all there = go (nat_eq m.id.0 n.0) refl there (node-h
     go true e h later = subst P (same_number m.id.0 n.0 e) all.0
     go false e h later = later h
 
-still-at : (t : Network) (f : FleetState) (h : History) → StandsFor t f h → is_quiet t (world_after t h) ≡ true →
-    (n : NodeId) → IsStill (world_after t h) n.0
-still-at t f h stands quiet n = go (is_node_id t.nodes n) refl
+-- the merge of its logs and posts is a run that leads to its world
+run_of : EveryMergingMerges → (t : Network) (lines : List Disturb) (f : FleetState) (r : Record) →
+    StandsFor t lines f r → IsRunOf t (deeds_at r) (merged_of (f.posts ∷ map log_of_station f.stations))
+run_of law t lines f r s = (fleet-merges law f t lines r s).run
+
+still_at : EveryMergingMerges → (t : Network) (lines : List Disturb) (f : FleetState) (r : Record) →
+    StandsFor t lines f r → is_quiet t (world_of t r) ≡ true → (n : NodeId) → IsStill (world_of t r) n.0
+still_at law t lines f r stands quiet n = go (is_node_id t.nodes n) refl
   where
     w : World
-    w = world_after t h
+    w = world_of t r
 
-    one : (x : StationState) (m : NodeSpec) → IsStationOf t w stands.wires m.id x → has_nothing x ≡ true →
+    one : (x : StationState) (m : NodeSpec) → NodeStands t w m.id x.controller x.desk → has_nothing x ≡ true →
         IsStill w m.id.0
     one x m is pass =
-        nothing-waits w m.id.0 x.desk x.controller.adjacencies x.controller.flood is.node.desk is.node.stands.hops
-        is.node.flood pass
+        nothing-waits w m.id.0 x.desk x.controller.adjacencies x.controller.flood is.desk is.stands.hops is.flood pass
+
+    run : IsRunOf t (deeds_at r) (merged_of (f.posts ∷ map log_of_station f.stations))
+    run = run_of law t lines f r stands
 
     go : (b : Bool) → is_node_id t.nodes n ≡ b → IsStill w n.0
     go false none =
-        let is : IsNowhere w n.0 = nowhere-run t h.events n stands.valid stands.running.run none in
+        let is : IsNowhere w n.0 =
+        subst (λ (v : World). IsNowhere v n.0) run.leads
+        (nowhere-run t (events_of (merged_of (f.posts ∷ map log_of_station f.stations))) n stands.stations.valid run.run
+        none) in
         record { desk = is.desk; hops = is.hops; flood = is.flood }
     go true there =
         node-has (IsStill w) t.nodes n
         (each-along has_nothing (λ (m : NodeSpec). IsStill w m.id.0) f.stations t.nodes
-        (stations-along t h f (λ x m. has_nothing x ≡ true → IsStill w m.id.0) stands one)
-        (quiet-stands t h f stands ∙ quiet)) there
+        (stations-along t lines f r (λ x m. has_nothing x ≡ true → IsStill w m.id.0) stands one)
+        (quiet-stands t lines f r stands ∙ quiet)) there
 
 -- From the world to the nodes
 
@@ -87,13 +103,13 @@ quiet-nodes : (t : Network) (w : World) (nodes : List NodeSpec) → IsQuiet w �
 quiet-nodes t w [] quiet = refl
 quiet-nodes t w (n ∷ nodes) quiet = λ i. quiet-at t w n.id quiet i && quiet-nodes t w nodes quiet i
 
--- a run's world is quiet just where its nodes are
-pub quiet-is-the-worlds : QuietIsTheWorlds
-quiet-is-the-worlds t f h stands = (
+-- the world of a record is quiet just where its nodes are
+pub quiet-is-the-worlds : EveryMergingMerges → QuietIsTheWorlds
+quiet-is-the-worlds law t lines f r stands = (
   λ quiet. record {
-    desks = λ n. (still-at t f h stands quiet (record { 0 = n })).desk;
-    hops = λ u d. (still-at t f h stands quiet (record { 0 = u })).hops d;
-    floods = λ n. (still-at t f h stands quiet (record { 0 = n })).flood;
+    desks = λ n. (still_at law t lines f r stands quiet (record { 0 = n })).desk;
+    hops = λ u d. (still_at law t lines f r stands quiet (record { 0 = u })).hops d;
+    floods = λ n. (still_at law t lines f r stands quiet (record { 0 = n })).flood;
   },
-  λ quiet. quiet-nodes t (world_after t h) t.nodes quiet,
+  λ quiet. quiet-nodes t (world_of t r) t.nodes quiet,
 )

@@ -1,81 +1,116 @@
--- The links of a node as a function of the neighbour.
-use Rattle.std.proofs.Common.{◌≡◌, ◌<◌, ℕ, zero, suc, Bool, true, false, cond, nat_eq, List, [], ◌∷◌, map, refl, sym, ap, ◌∙◌, subst, arith}
-use Rattle.std.specs.Prelude.{Some, slice_get, slice_set}
-use Rattle.std.specs.List.{AllByRecursion}
+-- The links of stations as a function of their nodes and neighbours, of which one changes.
+use Rattle.std.proofs.Common.{◌≡◌, ℕ, zero, suc, Bool, true, false, cond, nat_eq, List, [], ◌∷◌, map, refl, sym, ap, ◌∙◌}
+use Rattle.std.proofs.Common.{subst, arith}
+use Rattle.std.specs.Prelude.{◌&&◌, Some, slice_get, slice_set}
+use Rattle.std.specs.List.{AllByRecursion, AllZip}
 use Rattle.ason_base.specs.declared.ids.NodeId.{NodeId}
-use Rattle.station.specs.Links.{LinkState, new_link}
-use Rattle.station.proofs.Doing.{self_test}
-use Rattle.station.proofs.Linking.{all-get}
-use Rattle.station.proofs.NewStations.{AreAbove}
-use Rattle.fleet.proofs.Places.{Rising, other_if_above, other_if_below, same_node}
+use Rattle.ason_base.specs.Network.{IsTopology, Network}
+use Rattle.hop_reliable.proofs.Members.{each-get, each-more}
+use Rattle.world_rules.specs.Runs.{neighbours}
+use Rattle.world_rules.proofs.Stepping.{self_test}
+use Rattle.station_rings.specs.LinkStates.{LinkState}
+use Rattle.station_doings.specs.States.{StationState}
+use Rattle.station.specs.Joined.{with_link_at}
+use Rattle.fleet_rounds.specs.Fleets.{Wires}
+use Rattle.fleet_rounds.specs.Looks.{HasLinks}
+use Rattle.fleet_rounds.proofs.Nodes.{AreApart, apart-near}
 
--- One link changes
+pub turned : (a b : ℕ) → nat_eq a b ≡ false → nat_eq b a ≡ false
+turned a b h = grind (arith, h)
+
+-- with this link from n to u
+abbrev pub put : Wires → NodeId → NodeId → LinkState → Wires
+put w n u l a b = cond (nat_eq a n.0 && nat_eq b u.0) l (w a b)
+
+pub put-here : (w : Wires) (n u : NodeId) (l : LinkState) → put w n u l n.0 u.0 ≡ l
+put-here w n u l =
+    ap (λ x. cond (x && nat_eq u.0 u.0) l (w n.0 u.0)) (self_test n.0)
+    ∙ ap (λ x. cond x l (w n.0 u.0)) (self_test u.0)
+
+pub put-else : (w : Wires) (n u : NodeId) (l : LinkState) (a b : ℕ) → (nat_eq a n.0 && nat_eq b u.0) ≡ false →
+    put w n u l a b ≡ w a b
+put-else w n u l a b other = ap (λ x. cond x l (w a b)) other
+
+pub put-node : (w : Wires) (n u : NodeId) (l : LinkState) (a b : ℕ) → nat_eq a n.0 ≡ false → put w n u l a b ≡ w a b
+put-node w n u l a b other = ap (λ x. cond (x && nat_eq b u.0) l (w a b)) other
+
+and_false : (x y : Bool) → y ≡ false → (x && y) ≡ false
+and_false true y e = e
+and_false false y e = refl
+
+pub put-peer : (w : Wires) (n u : NodeId) (l : LinkState) (a b : ℕ) → nat_eq b u.0 ≡ false → put w n u l a b ≡ w a b
+put-peer w n u l a b other = put-else w n u l a b (and_false (nat_eq a n.0) (nat_eq b u.0) other)
+
+-- Lists of images
 
 pub same-map : {X : Type 0} (f g : NodeId → X) (us : List NodeId) → AllByRecursion (λ (u : NodeId). f u ≡ g u) us →
     map f us ≡ map g us
 same-map f g [] all = refl
 same-map f g (u ∷ us) all = ap (λ x. x ∷ map f us) all.0 ∙ ap (λ xs. g u ∷ xs) (same-map f g us all.1)
 
-pub all-above : (P : NodeId → Type 0) (n : ℕ) (us : List NodeId) → ((v : NodeId) → nat_eq v.0 n ≡ false → P v) →
-    AreAbove n us → AllByRecursion P us
-all-above P n [] f above = tt
-all-above P n (u ∷ us) f above = (f u (other_if_above n u.0 above.0), all-above P n us f above.1)
+all_same : {X : Type 0} (f g : NodeId → X) (us : List NodeId) → ((u : NodeId) → f u ≡ g u) → map f us ≡ map g us
+all_same f g [] all = refl
+all_same f g (u ∷ us) all = ap (λ x. x ∷ map f us) (all u) ∙ ap (λ xs. g u ∷ xs) (all_same f g us all)
 
-pub set-one : (f g : NodeId → LinkState) (us : List NodeId) (place : ℕ) (u : NodeId) → Rising us →
+set_one : {X : Type 0} (f g : NodeId → X) (us : List NodeId) (place : ℕ) (u : NodeId) → AreApart us →
     slice_get us place ≡ Some u → ((v : NodeId) → nat_eq v.0 u.0 ≡ false → f v ≡ g v) →
     slice_set (map f us) place (g u) ≡ map g us
-set-one f g [] place u rising at same = absurd (cc (at))
-set-one f g (v ∷ us) zero u rising at same =
+set_one f g [] place u apart at same = absurd (cc (at))
+set_one f g (v ∷ us) zero u apart at same =
     let here : v ≡ u = cc (at) in
     ap (λ (w : NodeId). g w ∷ map f us) (sym here)
-    ∙ ap (λ ls. g v ∷ ls) (same-map f g us (all-above (λ w. f w ≡ g w) u.0 us same
-    (subst (λ (w : NodeId). AreAbove w.0 us) here rising.0)))
-set-one f g (v ∷ us) (suc place) u rising at same =
-    ap (λ l. l ∷ slice_set (map f us) place (g u)) (same v (other_if_below v.0 u.0
-    (all-get (λ (w : NodeId). v.0 < w.0) us place u rising.0 at)))
-    ∙ ap (λ ls. g v ∷ ls) (set-one f g us place u rising.1 at same)
+    ∙ ap (λ ls. g v ∷ ls) (same-map f g us (each-more (λ (w : NodeId). nat_eq w.0 v.0 ≡ false) (λ (w : NodeId). f w ≡ g w)
+    (λ w other. same w (subst (λ (k : NodeId). nat_eq w.0 k.0 ≡ false) here other)) us apart.0))
+set_one f g (v ∷ us) (suc place) u apart at same =
+    ap (λ l. l ∷ slice_set (map f us) place (g u))
+    (same v (turned u.0 v.0 (each-get (λ (w : NodeId). nat_eq w.0 v.0 ≡ false) us place u apart.0 at)))
+    ∙ ap (λ ls. g v ∷ ls) (set_one f g us place u apart.1 at same)
 
--- The link to a neighbour
+-- Stations
 
-abbrev pub link_to : List LinkState → ℕ → LinkState
-link_to [] u = new_link (record { 0 = u })
-link_to (l ∷ ls) u = cond (nat_eq l.peer.0 u) l (link_to ls u)
+put_station : (t : Network) (w : Wires) (n u : NodeId) (l : LinkState) (link : ℕ) (s : StationState) → IsTopology t →
+    slice_get (neighbours t n) link ≡ Some u → HasLinks t w n s → HasLinks t (put w n u l) n (with_link_at s link l)
+put_station t w n u l link s valid near has =
+    ap (λ ls. slice_set ls link l) has
+    ∙ ap (slice_set (map (λ (v : NodeId). w n.0 v.0) (neighbours t n)) link) (sym (put-here w n u l))
+    ∙ set_one (λ v. w n.0 v.0) (λ v. put w n u l n.0 v.0) (neighbours t n) link u (apart-near t valid n) near
+    (λ v other. sym (put-peer w n u l n.0 v.0 other))
 
-pub links-by-peer : (links : List LinkState) → Rising (map (λ (l : LinkState). l.peer) links) →
-    links ≡ map (λ (u : NodeId). link_to links u.0) (map (λ (l : LinkState). l.peer) links)
-links-by-peer [] rising = refl
-links-by-peer (l ∷ ls) rising =
-    ap (λ ks. l ∷ ks) (links-by-peer ls rising.1
-    ∙ same-map (λ u. link_to ls u.0) (λ u. link_to (l ∷ ls) u.0) (map (λ (k : LinkState). k.peer) ls)
-    (all-above (λ u. link_to ls u.0 ≡ link_to (l ∷ ls) u.0) l.peer.0
-    (map (λ (k : LinkState). k.peer) ls) elsewhere rising.0))
-    ∙ ap (λ k. k ∷ map (λ (u : NodeId). link_to (l ∷ ls) u.0) (map (λ (k : LinkState). k.peer) ls))
-    (sym (ap (λ b. cond b l (link_to ls l.peer.0)) (self_test l.peer.0)))
-  where
-    turned : (a b : ℕ) → nat_eq a b ≡ false → nat_eq b a ≡ false
-    turned a b h = grind arith
+put_others : (t : Network) (w : Wires) (n u : NodeId) (l : LinkState) (ns : List NodeId) (xs : List StationState) →
+    AllByRecursion (λ (m : NodeId). nat_eq m.0 n.0 ≡ false) ns → AllZip (HasLinks t w) ns xs →
+    AllZip (HasLinks t (put w n u l)) ns xs
+put_others t w n u l [] [] apart all = tt
+put_others t w n u l [] (x ∷ xs) apart all = absurd all
+put_others t w n u l (m ∷ ns) [] apart all = absurd all
+put_others t w n u l (m ∷ ns) (x ∷ xs) apart all = (
+  all.0
+      ∙ all_same (λ v. w m.0 v.0) (λ v. put w n u l m.0 v.0) (neighbours t m)
+      (λ v. sym (put-node w n u l m.0 v.0 apart.0)),
+  put_others t w n u l ns xs apart.1 all.1,
+)
 
-    elsewhere : (u : NodeId) → nat_eq u.0 l.peer.0 ≡ false → link_to ls u.0 ≡ link_to (l ∷ ls) u.0
-    elsewhere u other = sym (ap (λ b. cond b l (link_to ls u.0)) (turned u.0 l.peer.0 other))
-
-pub record IsLinkTo (P : LinkState → Type 0) (u : NodeId) (l : LinkState) : Type 0 where
-  pub is : P l
-  pub peer : l.peer ≡ u
-
-pub link-found : (P : LinkState → Type 0) (links : List LinkState) (place : ℕ) (u : NodeId) →
-    AllByRecursion P links → slice_get (map (λ (l : LinkState). l.peer) links) place ≡ Some u →
-    IsLinkTo P u (link_to links u.0)
-link-found P [] place u all at = absurd (cc (at))
-link-found P (l ∷ ls) place u all at = go (nat_eq l.peer.0 u.0) refl place at (λ i k. link-found P ls i u all.1 k)
-  where
-    go : (b : Bool) → nat_eq l.peer.0 u.0 ≡ b → (i : ℕ) →
-        slice_get (l.peer ∷ map (λ (k : LinkState). k.peer) ls) i ≡ Some u →
-        ((j : ℕ) → slice_get (map (λ (k : LinkState). k.peer) ls) j ≡ Some u → IsLinkTo P u (link_to ls u.0)) →
-        IsLinkTo P u (cond b l (link_to ls u.0))
-    go true e i k rest = record { is = all.0; peer = same_node l.peer u e }
-    go false e zero k rest =
-        let same : l.peer ≡ u = cc (k) in
-        let on : nat_eq l.peer.0 u.0 ≡ true = ap (λ (n : NodeId). nat_eq l.peer.0 n.0) (sym same) ∙
-        self_test l.peer.0 in
-        absurd (cc (on, e))
-    go false e (suc i) k rest = rest i k
+-- One station has another link to u, and the others are as they were.
+pub put-links : (t : Network) (w : Wires) (n u : NodeId) (l : LinkState) (link : ℕ) (s : StationState) → IsTopology t →
+    slice_get (neighbours t n) link ≡ Some u → (ns : List NodeId) (xs : List StationState) (place : ℕ) → AreApart ns →
+    AllZip (HasLinks t w) ns xs → slice_get ns place ≡ Some n → slice_get xs place ≡ Some s →
+    AllZip (HasLinks t (put w n u l)) ns (slice_set xs place (with_link_at s link l))
+put-links t w n u l link s valid near [] [] place apart all at here = absurd (cc (at))
+put-links t w n u l link s valid near [] (x ∷ xs) place apart all at here = absurd all
+put-links t w n u l link s valid near (m ∷ ns) [] place apart all at here = absurd all
+put-links t w n u l link s valid near (m ∷ ns) (x ∷ xs) zero apart all at here =
+    let node : m ≡ n = cc (at) in
+    let station : x ≡ s = cc (here) in (
+      subst (λ (k : NodeId). HasLinks t (put w n u l) k (with_link_at s link l)) (sym node)
+          (put_station t w n u l link s valid near
+          (subst (λ (k : NodeId). HasLinks t w k s) node (subst (HasLinks t w m) station all.0))),
+      put_others t w n u l ns xs
+          (subst (λ (k : NodeId). AllByRecursion (λ (j : NodeId). nat_eq j.0 k.0 ≡ false) ns) node apart.0) all.1,
+    )
+put-links t w n u l link s valid near (m ∷ ns) (x ∷ xs) (suc place) apart all at here =
+    let other : nat_eq m.0 n.0 ≡ false =
+    turned n.0 m.0 (each-get (λ (j : NodeId). nat_eq j.0 m.0 ≡ false) ns place n apart.0 at) in (
+      all.0
+          ∙ all_same (λ v. w m.0 v.0) (λ v. put w n u l m.0 v.0) (neighbours t m)
+          (λ v. sym (put-node w n u l m.0 v.0 other)),
+      put-links t w n u l link s valid near ns xs place apart.1 all.1 at here,
+    )

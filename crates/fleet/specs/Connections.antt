@@ -1,48 +1,39 @@
--- What holds of the seats and stations of a fleet whatever was made of its run: after want of memory too, and where it
--- was stopped.
-use Rattle.std.specs.Prelude.{◌≡◌, ◌≤◌, ◌+◌, ◌==◌, ℕ, List, length, Option, Some, None, false, slice_get}
-use Rattle.station.specs.Links.{LinkState}
-use Rattle.station.specs.Standing.{StationState}
-use Rattle.fleet.specs.declared.seats.End.{End}
+-- What holds of the seats and stations of every fleet: after want of memory too, and where a round was cut.
+use Rattle.std.specs.Prelude.{◌≡◌, ◌≤◌, ◌+◌, true, List, length}
+use Rattle.std.specs.List.{AllZip}
+use Rattle.rtrb.specs.Ring.{received}
+use Rattle.ason_base.specs.declared.ids.NodeId.{NodeId}
+use Rattle.ason_base.specs.Network.{IsTopology, Network}
+use Rattle.world_rules.specs.Runs.{is_channel}
+use Rattle.station_rings.specs.LinkStates.{AreEnds, gone_of}
+use Rattle.round_rules.specs.OneWorker.{ids_of}
+use Rattle.station_doings.specs.States.{StationState}
+use Rattle.fleet_rounds.specs.Fleets.{Wires}
+use Rattle.fleet_rounds.specs.Looks.{HasLinks}
 use Rattle.fleet.specs.declared.seats.Seat.{Seat}
+use Rattle.fleet.specs.Standing.{AreSeats}
 
--- the far end of this link of a seat
-abbrev pub end_of : Option Seat → ℕ → Option End
-end_of (Some s) link = slice_get s.ends.items link
-end_of None link = None
+-- The ring from u to d: the links have its ends, and what was handed to it and wasn't taken is no more than the sender
+-- counts, which is 256 at most.
+pub record IsRing (wires : Wires) (u d : NodeId) : Type 0 where
+  pub peer : (wires u.0 d.0).peer ≡ d
+  pub ends : AreEnds (wires u.0 d.0) (wires d.0 u.0)
+  pub room : length (wires d.0 u.0).early + length (gone_of (wires u.0 d.0))
+      ≤ (wires u.0 d.0).standing + length (received (wires d.0 u.0).into)
+  pub most : (wires u.0 d.0).standing ≤ 256
 
-abbrev pub end_at : List Seat → ℕ → ℕ → Option End
-end_at seats place link = end_of (slice_get seats place) link
+-- Each station has a link to each neighbour of its node, and the two links between neighbours have the ends of two rings.
+pub record AreWired (t : Network) (wires : Wires) (stations : List StationState) : Type 0 where
+  pub links : AllZip (HasLinks t wires) (ids_of t) stations
+  pub rings : (u d : NodeId) → is_channel t u d ≡ true → IsRing wires u d
 
--- this link of a station
-abbrev pub link_of : Option StationState → ℕ → Option LinkState
-link_of (Some s) link = slice_get s.links link
-link_of None link = None
+-- a seat and a station for each node, with their links and far ends
+pub record AreConnected (t : Network) (seats : List Seat) (stations : List StationState) : Type 0 where
+  pub valid : IsTopology t
+  pub seated : AreSeats t seats
+  pub wires : Wires
+  pub wired : AreWired t wires stations
 
-abbrev pub link_at : List StationState → ℕ → ℕ → Option LinkState
-link_at stations place link = link_of (slice_get stations place) link
-
--- the far end is at another station, and its own far end is this link
-pub record IsMutual (seats : List Seat) (place link : ℕ) (e : End) : Type 0 where
-  pub apart : (place == e.station) ≡ false
-  pub back : end_at seats e.station e.link ≡ Some (record { station = place; link = link })
-
--- what came to the far end, and what goes there, stands in the ring, in which at most 256 frames stand
-pub record HasRoom (near far : LinkState) : Type 0 where
-  pub within : length far.early + length near.backlog ≤ near.standing
-  pub most : near.standing ≤ 256
-
--- the link is there, and the link at its far end
-pub record IsRing (stations : List StationState) (place link : ℕ) (e : End) : Type 0 where
-  pub near : LinkState
-  pub far : LinkState
-  pub is_near : link_at stations place link ≡ Some near
-  pub is_far : link_at stations e.station e.link ≡ Some far
-  pub room : HasRoom near far
-
--- a seat for each station, of which there are at most 64, and at each link the two ends of its rings
-pub record AreConnected (seats : List Seat) (stations : List StationState) : Type 0 where
-  pub count : length stations ≡ length seats
-  pub few : length stations ≤ 64
-  pub backs : (place link : ℕ) (e : End) → end_at seats place link ≡ Some e → IsMutual seats place link e
-  pub rings : (place link : ℕ) (e : End) → end_at seats place link ≡ Some e → IsRing stations place link e
+-- by some network
+abbrev pub HaveSeats : List Seat → List StationState → Type 0
+HaveSeats seats stations = (t : Network) × AreConnected t seats stations

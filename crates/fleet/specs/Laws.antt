@@ -1,60 +1,33 @@
--- What holds of every run that posts and rounds make.
-use Rattle.std.specs.Prelude.{◌≡◌, ◌↔◌, ℕ, IsTrue, List, ◌++◌, None}
-use Rattle.ason_base.specs.declared.commands.Command.{Command}
-use Rattle.ason_base.specs.declared.commands.Event.{Event}
-use Rattle.ason_base.specs.declared.commands.Event.TheVariants.{Post}
+-- What holds of every fleet, whatever it stands for.
+use Rattle.std.specs.Prelude.{◌≡◌, ◌↔◌, ◌==◌, IsTrue, List, length, true}
+use Rattle.ason_base.specs.declared.commands.Disturb.{Disturb}
+use Rattle.ason_base.specs.declared.ids.NodeId.{NodeId}
 use Rattle.ason_base.specs.Network.{Network}
-use Rattle.mesh_rules.specs.Machine as mesh
-use Rattle.mesh_rules.specs.Events as mesh_runs
-use Rattle.mesh_laws.specs.Laws.{LawsHold}
-use Rattle.world_rules.specs.Worlds.{start}
-use Rattle.world_rules.specs.Runs.{IsEnabled}
-use Rattle.world_rules.specs.Images.{IsQuiet, mesh_events}
-use Rattle.world_rules.specs.Laws.{EachIsFound}
-use Rattle.station.specs.Histories.{History, new_history, state_after, with_event, world_after}
-use Rattle.fleet.specs.Rounds.{is_quiet, settled, waited}
-use Rattle.fleet.specs.Running.{IsRunning}
-use Rattle.fleet.specs.Standing.{FleetState, StandsFor}
+use Rattle.world_rules.specs.Images.{IsQuiet}
+use Rattle.world_rules.specs.Runs.{is_channel}
+use Rattle.round_rules.specs.Records.{IsRecord, Record, log_at, world_of}
+use Rattle.fleet_rounds.specs.Waiting.{is_quiet}
+use Rattle.fleet.specs.Commands.{is_full}
+use Rattle.fleet.specs.Standing.{FleetState, HasMade, StandsFor}
 
--- where nothing was made, a run begins
-abbrev pub TheStartIsRunning : Type 0
-TheStartIsRunning = (t : Network) → IsRunning t new_history
+-- what the nodes did is a record: it could happen, so each merge of its logs and posts is a run of a world
+abbrev pub StandingIsARecord : Type 0
+StandingIsARecord =
+    (t : Network) (lines : List Disturb) (f : FleetState) (r : Record) → StandsFor t lines f r → IsRecord t r
 
--- a command that is valid, and whose number no setup had, is an event more
-abbrev pub PostsAreRunning : Type 0
-PostsAreRunning =
-    (t : Network) (h : History) (c : Command) → IsRunning t h → h.stopped ≡ None →
-    IsEnabled t (world_after t h) (Post c) → IsRunning t (with_event t h (Post c))
+-- its logs and posts are those that the fleet has
+abbrev pub StandingHasMade : Type 0
+StandingHasMade =
+    (t : Network) (lines : List Disturb) (f : FleetState) (r : Record) → StandsFor t lines f r → HasMade t f r
 
--- however many rounds are made
-abbrev pub SettlingIsRunning : Type 0
-SettlingIsRunning = (t : Network) (rounds : ℕ) (h : History) → IsRunning t h → IsRunning t (settled t rounds h)
-
--- what was made stays
-abbrev pub SettlingGoesOn : Type 0
-SettlingGoesOn = (t : Network) (rounds : ℕ) (h : History) → (left : List Event) ×
-    (h.events ++ left ≡ (settled t rounds h).events)
-
--- the same of rounds that don't end where it is quiet
-abbrev pub WaitingIsRunning : Type 0
-WaitingIsRunning = (t : Network) (rounds : ℕ) (h : History) → IsRunning t h → IsRunning t (waited t rounds h)
-
-abbrev pub WaitingGoesOn : Type 0
-WaitingGoesOn = (t : Network) (rounds : ℕ) (h : History) → (left : List Event) ×
-    (h.events ++ left ≡ (waited t rounds h).events)
-
--- the mesh that a run shows is where a run of the mesh leads, of which the laws of the mesh hold
-pub record IsShown (t : Network) (h : History) : Type 0 where
-  pub run : mesh_runs.IsRun t mesh.start (mesh_events t (start t) h.events)
-  pub leads : mesh_runs.after t mesh.start (mesh_events t (start t) h.events) ≡ state_after t h
-  pub laws : LawsHold t (mesh_events t (start t) h.events)
-
--- over every network where numbers tell links apart
-abbrev pub EveryRunIsShown : Type 0
-EveryRunIsShown = (t : Network) (h : History) → EachIsFound t → IsRunning t h → IsShown t h
-
--- In whatever run the stations stand: where nothing waits at the nodes and on their links, nothing waits in the world.
+-- where nothing waits at the nodes and on their links, nothing waits in the world
 abbrev pub QuietIsTheWorlds : Type 0
 QuietIsTheWorlds =
-    (t : Network) (f : FleetState) (h : History) → StandsFor t f h →
-    IsTrue (is_quiet t (world_after t h)) ↔ IsQuiet (world_after t h)
+    (t : Network) (lines : List Disturb) (f : FleetState) (r : Record) → StandsFor t lines f r →
+    IsTrue (is_quiet t (world_of t r)) ↔ IsQuiet (world_of t r)
+
+-- the log of a node that has a neighbour is full just where its station's is
+abbrev pub FullIsTheLogs : Type 0
+FullIsTheLogs =
+    (t : Network) (lines : List Disturb) (f : FleetState) (r : Record) (u d : NodeId) → StandsFor t lines f r →
+    is_channel t u d ≡ true → is_full d f ≡ (length (log_at r d.0) == 50000)

@@ -1,9 +1,12 @@
+pub mod Commands
 pub mod Connections
+pub mod Joining
 pub mod Laws
 pub mod Looks
-pub mod NewFleets
-pub mod Posts
+pub mod Noises
+pub mod Posting
+pub mod RoundLaws
 pub mod Rounds
-pub mod Running
 pub mod Standing
+pub mod Turning
 pub mod Waiting

@@ -1,21 +1,20 @@
--- What looks and turns make of a fleet.
-use Rattle.std.specs.Prelude.{◌≡◌, ◌<◌, ◌≤◌, ◌+◌, ◌==◌, ◌&&◌, ◌||◌, ℕ, List, [], length, Result, Ok, Err, Some, slice_get, slice_set, true, false, if◌then◌else◌}
+-- Looks at the rings of a fleet.
+use Rattle.std.specs.Prelude.{◌≡◌, ◌<◌, ◌==◌, ◌⊎◌, ℕ, true, false, List, Some, slice_get, slice_set}
+use Rattle.std.specs.List.{AllZip}
 use Rattle.ason_base.specs.declared.ids.NodeId.{NodeId}
 use Rattle.ason_base.specs.Network.{Network}
-use Rattle.station.specs.Histories.{History}
-use Rattle.station.specs.Links.{AreFew, LinkState, looked}
-use Rattle.station.specs.Standing.{StationState}
-use Rattle.station.specs.Turning.{IsTurn}
-use Rattle.world_rules.specs.Runs.{neighbours}
-use Rattle.station.specs.Turns.{turn}
-use Rattle.station.specs.declared.turns.Turn.{Turn}
-use Rattle.station.specs.declared.turns.Turn.TheVariants.{AtLimit, Idle, Starved, Worked}
-use Rattle.fleet.specs.declared.fleet.RoundFault.{RoundFault}
-use Rattle.fleet.specs.declared.fleet.RoundFault.TheVariants as fault
+use Rattle.world_rules.specs.Runs.{is_channel, neighbours}
+use Rattle.station_rings.specs.LinkStates.{AreEnds, AreFew, LinkState}
+use Rattle.round_rules.specs.OneWorker.{ids_of}
+use Rattle.station_doings.specs.States.{StationState}
+use Rattle.station.specs.Joined.{AreLooked as StationsAreLooked}
+use Rattle.fleet_rounds.specs.Fleets.{Wires}
+use Rattle.fleet_rounds.specs.Looks.{AreLooked, AreStill, HasKept, HasLinks}
 use Rattle.fleet.specs.declared.seats.End.{End}
-use Rattle.fleet.specs.Standing.{FleetState, KeepsRest, StandsFor, Wires, ids_of}
+use Rattle.fleet.specs.declared.seats.Seat.{Seat}
+use Rattle.fleet.specs.Connections.{AreConnected}
 
--- Both ends of a ring
+-- Of two stations
 
 -- two stations, and at each the link to the other
 pub record AreJoined (stations : List StationState) (place link : ℕ) (e : End) : Type 0 where
@@ -28,87 +27,57 @@ pub record AreJoined (stations : List StationState) (place link : ℕ) (e : End)
   pub far : LinkState
   pub is_near : slice_get here.links link ≡ Some near
   pub is_far : slice_get there.links e.link ≡ Some far
+  pub ends : AreEnds near far
   pub few : AreFew near far
 
--- the link at this place is this one
-abbrev pub with_link : StationState → ℕ → LinkState → StationState
-with_link s place l = record s { links = slice_set s.links place l }
+-- they looked at the rings between them, and no other station did anything
+pub record HaveMet (place link : ℕ) (e : End) (old new : List StationState) : Type 0 where
+  pub here : StationState
+  pub there : StationState
+  pub is_here : slice_get old place ≡ Some here
+  pub is_there : slice_get old e.station ≡ Some there
+  pub here_now : StationState
+  pub there_now : StationState
+  pub looked : StationsAreLooked link here here_now e.link there there_now
+  pub stations : new ≡ slice_set (slice_set old place here_now) e.station there_now
 
--- after a look at both links
-abbrev pub after_look : List StationState → ℕ → ℕ → End → StationState → StationState → LinkState → LinkState →
-    List StationState
-after_look stations place link e here there near far =
-    slice_set (slice_set stations place (with_link here link (looked near far))) e.station
-    (with_link there e.link (looked far near))
+-- Of a fleet
 
--- the wires after a look at the links between n and u
-abbrev pub met : Wires → ℕ → ℕ → Wires
-met wires n u a b = if (a == n && b == u) || (a == u && b == n) then looked (wires a b) (wires b a) else wires a b
+-- whether the rings between two nodes are among those that were looked at
+abbrev pub Pairs : Type 1
+Pairs = NodeId → NodeId → Type 0
 
--- what n and u sent each other came, and n knows how many of its frames wait at u
-pub record IsKnown (wires : Wires) (n u : ℕ) : Type 0 where
-  pub sent : (wires n u).backlog ≡ []
-  pub sent_back : (wires u n).backlog ≡ []
-  pub standing : (wires n u).standing ≡ length (wires u n).early
+-- The stations after looks at the rings between these pairs of neighbours. Every other ring was looked at, or is as it
+-- was.
+pub record HaveLooked (t : Network) (wires : Wires) (old new : List StationState) (Seen : Pairs) : Type 0 where
+  pub wires_now : Wires
+  pub kept : AllZip HasKept old new
+  pub links : AllZip (HasLinks t wires_now) (ids_of t) new
+  pub ways : (u d : NodeId) → is_channel t u d ≡ true → AreStill wires wires_now u d ⊎ AreLooked wires wires_now u d
+  pub seen : (u d : NodeId) → is_channel t u d ≡ true → Seen u d → AreLooked wires wires_now u d
 
--- The fleet after looks
+-- whatever network the stations are those of, and whatever their links are called
+abbrev pub LooksOver : List Seat → (Network → Pairs) → List StationState → List StationState → Type 0
+LooksOver seats Seen old new =
+    (t : Network) → AreConnected t seats old → (wires : Wires) → AllZip (HasLinks t wires) (ids_of t) old →
+    HaveLooked t wires old new (Seen t)
 
--- after a look at the links between n and u it stands for the same run
-pub record IsMet (t : Network) (h : History) (old new : FleetState) (s : StandsFor t old h)
-    (n u : NodeId) : Type 0 where
-  pub stands : StandsFor t new h
-  pub wires : stands.wires ≡ met s.wires n.0 u.0
+-- the link at this place of the station at this place leads from u to d
+pub record IsLinkAt (place link : ℕ) (t : Network) (u d : NodeId) : Type 0 where
+  pub node : slice_get (ids_of t) place ≡ Some u
+  pub near : slice_get (neighbours t u) link ≡ Some d
 
-abbrev pub LooksOver : ℕ → ℕ → FleetState → FleetState → Type 0
-LooksOver place link old new =
-    (t : Network) (h : History) (n u : NodeId) → slice_get (ids_of t) place ≡ Some n →
-    slice_get (neighbours t n) link ≡ Some u → (s : StandsFor t old h) → IsMet t h old new s n u
+-- it is one of the first so many links
+abbrev pub IsLinkBefore : ℕ → ℕ → Network → Pairs
+IsLinkBefore place count t u d = (link : ℕ) × (link < count) × IsLinkAt place link t u d
 
--- it stands for the run, and so many of n's links were looked at
-pub record IsLookedAt (t : Network) (h : History) (f : FleetState) (n : NodeId) (count : ℕ) : Type 0 where
-  pub stands : StandsFor t f h
-  pub known : (link : ℕ) (u : NodeId) → link < count → slice_get (neighbours t n) link ≡ Some u →
-      IsKnown stands.wires n.0 u.0
+-- the node at this place is one of both
+abbrev pub IsAround : ℕ → Network → Pairs
+IsAround place t u d = (slice_get (ids_of t) place ≡ Some u) ⊎ (slice_get (ids_of t) place ≡ Some d)
 
-abbrev pub LooksAround : ℕ → FleetState → FleetState → Type 0
-LooksAround place old new =
-    (t : Network) (h : History) (n : NodeId) → slice_get (ids_of t) place ≡ Some n → StandsFor t old h →
-    IsLookedAt t h new n (length (neighbours t n))
+-- the first node is one of the first so many
+abbrev pub IsNodeBefore : ℕ → Network → Pairs
+IsNodeBefore count t u d = (place : ℕ) × (place < count) × (slice_get (ids_of t) place ≡ Some u)
 
--- Turns and rounds
-
--- the station at this place makes its turn, of at most 50,000 events
-pub record HasWorked (place : ℕ) (old new : FleetState) (end : Turn) : Type 0 where
-  pub before : StationState
-  pub after : StationState
-  pub there : slice_get old.stations place ≡ Some before
-  pub stations : new.stations ≡ slice_set old.stations place after
-  pub seats : new.seats ≡ old.seats
-  pub rest : KeepsRest old new
-  pub turn : IsTurn before after true end
-  pub few : (k : ℕ) → end ≡ Worked k → k ≤ 50000
-
--- how the turn of this node ends a round, if it does
-abbrev pub answer_of : Turn → NodeId → Result ℕ RoundFault
-answer_of (Worked k) n = Ok k
-answer_of Idle n = Ok 0
-answer_of AtLimit n = Err (fault.AtLimit n)
-answer_of Starved n = Err fault.Starved
-
--- in whatever run the fleet stands for, it does after the turn of the node at this place
-abbrev pub TurnsAt : ℕ → FleetState → FleetState → Type 0
-TurnsAt place old new =
-    (t : Network) (h : History) (n : NodeId) → slice_get (ids_of t) place ≡ Some n → StandsFor t old h →
-    StandsFor t new (turn t true n h)
-
--- so many events more are made in that turn
-abbrev pub IsCountedAt : ℕ → FleetState → ℕ → Type 0
-IsCountedAt place old made =
-    (t : Network) (h : History) (n : NodeId) → slice_get (ids_of t) place ≡ Some n → StandsFor t old h →
-    length (turn t true n h).events ≡ length h.events + made
-
--- the turn is stopped at this node's limit
-abbrev pub IsCutAt : ℕ → FleetState → NodeId → Type 0
-IsCutAt place old m =
-    (t : Network) (h : History) (n : NodeId) → slice_get (ids_of t) place ≡ Some n → StandsFor t old h →
-    (turn t true n h).stopped ≡ Some m
+abbrev pub IsAny : Network → Pairs
+IsAny t u d = is_channel t u d ≡ true

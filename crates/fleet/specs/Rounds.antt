@@ -1,53 +1,60 @@
--- Rounds of the nodes, in order of number, and how a run waits and settles.
-use Rattle.std.specs.Prelude.{ℕ, zero, suc, ◌==◌, ◌&&◌, Bool, true, length, fold, sum_by, if◌then◌else◌}
-use Rattle.std.specs.List.{list_all}
+-- What a round makes of a fleet.
+use Rattle.std.specs.Prelude.{◌≡◌, ◌+◌, ℕ, List, length, sum_by, Result, Ok, Err}
 use Rattle.ason_base.specs.declared.ids.NodeId.{NodeId}
+use Rattle.ason_base.specs.declared.commands.Disturb.{Disturb}
+use Rattle.ason_base.specs.declared.commands.Entry.{Entry}
 use Rattle.ason_base.specs.Network.{Network}
-use Rattle.flood.specs.State.{pending_count}
-use Rattle.mesh_rules.specs.LocalNodes.{local_node}
-use Rattle.control_channels.specs.Adjacencies.{neighbours}
-use Rattle.world_rules.specs.Worlds.{World}
-use Rattle.station.specs.Histories.{History, world_after}
-use Rattle.station.specs.Turns.{turn}
+use Rattle.world_merge.specs.Merges.{IsRunOf}
+use Rattle.world_merge.specs.Orders.{IsMerge}
+use Rattle.round_rules.specs.OneWorker.{ids_of}
+use Rattle.round_rules.specs.Records.{Record, deeds_at, log_at, posts_in}
+use Rattle.round_rules.specs.Unfinished.{IsRoundBy, IsUnfinishedBy}
+use Rattle.fleet_rounds.specs.Fleets.{HasGrown}
+use Rattle.fleet.specs.declared.fleet.RoundFault.{RoundFault}
+use Rattle.fleet.specs.declared.fleet.RoundFault.TheVariants as fault
+use Rattle.fleet.specs.Standing.{FleetState, StandsFor}
 
--- a round gives each node one turn with a tick, in order of number
-abbrev pub round : Network → History → History
-round t h = fold (λ g n. turn t true n.id g) h t.nodes
+-- how many lines all logs have
+abbrev pub lines_of : Network → Record → ℕ
+lines_of t r = sum_by (λ (n : NodeId). length (log_at r n.0)) (ids_of t)
 
--- so many rounds, whether it is quiet or not
-unfoldable pub waited : Network → ℕ → History → History
-waited t zero h = h
-waited t (suc r) h = waited t r (round t h)
+-- a round was made, and so many lines were written
+pub record MakesRound (t : Network) (lines : List Disturb) (workers : ℕ) (before : Record) (new : FleetState)
+    (count : ℕ) : Type 0 where
+  pub after : Record
+  pub stands : StandsFor t lines new after
+  pub round : IsRoundBy t lines workers before after
+  pub written : lines_of t after ≡ lines_of t before + count
 
--- What waits
+-- the round ends at the limit of this node
+pub record CutsRound (t : Network) (lines : List Disturb) (workers : ℕ) (before : Record) (new : FleetState)
+    (n : NodeId) : Type 0 where
+  pub after : Record
+  pub stands : StandsFor t lines new after
+  pub unfinished : IsUnfinishedBy t lines workers before after n
 
-abbrev pub items_waiting : Network → World → ℕ
-items_waiting t w = sum_by (λ n. length (w.desks n.id.0)) t.nodes
+-- memory was wanting: what was done before stays, more may have been done, and nothing was posted
+pub record StarvesRound (t : Network) (lines : List Disturb) (before : Record) (new : FleetState) : Type 0 where
+  pub after : Record
+  pub stands : StandsFor t lines new after
+  pub grown : (m : ℕ) → HasGrown before after m
 
--- the messages that the node has sent and its neighbours haven't acknowledged
-abbrev pub unacked_at : Network → World → NodeId → ℕ
-unacked_at t w n = sum_by (λ u. length (w.ends n.0 u).hop.unacked) (neighbours (local_node t n))
+abbrev pub EndsRound : Network → List Disturb → ℕ → Record → FleetState → Result ℕ RoundFault → Type 0
+EndsRound t lines workers before new (Ok count) = MakesRound t lines workers before new count
+EndsRound t lines workers before new (Err (fault.AtLimit n)) = CutsRound t lines workers before new n
+EndsRound t lines workers before new (Err fault.Starved) = StarvesRound t lines before new
 
-abbrev pub unacked_waiting : Network → World → ℕ
-unacked_waiting t w = sum_by (λ n. unacked_at t w n.id) t.nodes
+-- for whatever record the fleet stands
+abbrev pub Rounds : ℕ → FleetState → FleetState → Result ℕ RoundFault → Type 0
+Rounds workers old new answer =
+    (t : Network) (lines : List Disturb) (r : Record) → StandsFor t lines old r → EndsRound t lines workers r new answer
 
--- the rows that are due to the node's neighbours, each as often as there are neighbours that haven't acknowledged it
-abbrev pub rows_due_at : World → NodeId → ℕ
-rows_due_at w n = pending_count (w.floods n.0)
+-- The merge
 
-abbrev pub rows_waiting : Network → World → ℕ
-rows_waiting t w = sum_by (λ n. rows_due_at w n.id) t.nodes
+-- the logs and the posts in one order, which is a run of a world
+pub record IsMerged (t : Network) (r : Record) (m : List Entry) : Type 0 where
+  pub merge : IsMerge (log_at r) (posts_in r) m
+  pub run : IsRunOf t (deeds_at r) m
 
--- Quiet
-
--- the node's desk is empty, and no message and no row that it sends is unacknowledged
-abbrev pub is_quiet_at : Network → World → NodeId → Bool
-is_quiet_at t w n = length (w.desks n.0) == 0 && unacked_at t w n == 0 && rows_due_at w n == 0
-
-abbrev pub is_quiet : Network → World → Bool
-is_quiet t w = list_all (λ n. is_quiet_at t w n.id) t.nodes
-
--- rounds until it is quiet or so many were made
-unfoldable pub settled : Network → ℕ → History → History
-settled t zero h = h
-settled t (suc r) h = if is_quiet t (world_after t h) then h else settled t r (round t h)
+abbrev pub Merges : FleetState → List Entry → Type 0
+Merges f m = (t : Network) (lines : List Disturb) (r : Record) → StandsFor t lines f r → IsMerged t r m

@@ -1,22 +1,17 @@
-//! Laws of every run that posts and rounds make.
+//! Laws of fleets.
 
-ghost use Rattle.fleet.specs.Laws.{EveryRunIsShown, PostsAreRunning, QuietIsTheWorlds, SettlingGoesOn, SettlingIsRunning, TheStartIsRunning, WaitingGoesOn, WaitingIsRunning};
+ghost use Rattle.fleet.specs.Laws.{FullIsTheLogs, QuietIsTheWorlds, StandingHasMade, StandingIsARecord};
 
-use world_rules::laws::every_world_run;
+use log_merge::every_merging;
 
-/// Whatever commands are posted and however many rounds are made, in any order: the events are a run of a world. In each ring
-/// wait at most 256 frames, and each of them was sent. No node makes more than 50,000 events. Where numbers tell links apart,
-/// as in every topology, the mesh that such a run shows is where a run of the mesh leads, and the laws of the mesh hold of it.
-/// Where the desks of a fleet are empty and all that its nodes sent is acknowledged, the whole world is quiet.
-pub fn every_script()
-    ensures start { TheStartIsRunning }
-    ensures post { PostsAreRunning }
-    ensures settle { SettlingIsRunning }
-    ensures goes_on { SettlingGoesOn }
-    ensures wait { WaitingIsRunning }
-    ensures waits_on { WaitingGoesOn }
-    ensures shown { EveryRunIsShown }
+/// Whatever record a fleet stands for, what its nodes did could happen: its logs and its posts, which are the fleet's
+/// own, merge to a run of a world. The log of a node is full where its station's is. Where the desks of a fleet are empty
+/// and all that its nodes sent is acknowledged, the whole world is quiet.
+pub fn every_fleet()
+    ensures record { StandingIsARecord }
+    ensures made { StandingHasMade }
+    ensures full { FullIsTheLogs }
     ensures quiet { QuietIsTheWorlds }
 {
-    every_world_run();
+    every_merging();
 }

@@ -1,22 +1,57 @@
 //! Looks at both ends of a ring.
 
-ghost use Rattle.std.specs.Prelude.{◌≡◌};
-ghost use Rattle.fleet.specs.Looks.{AreJoined, after_look};
+ghost use Rattle.std.specs.Prelude.{◌≡◌, ◌<◌, Some, length, slice_get};
+ghost use Rattle.fleet.specs.declared.seats.Seat.{Seat};
+ghost use Rattle.fleet.specs.Connections.{HaveSeats};
+ghost use Rattle.fleet.specs.Looks.{AreJoined, HaveMet, IsAny, IsAround, IsLinkAt, LooksOver};
 
-use crate::seats::End;
+use crate::seats::{End, Seat};
 use station::Station;
 
-/// Looks at the link of one station and the link back at another. It takes no memory.
-pub(crate) fn look(stations: &mut [Station], place: usize, link: usize, end: End)
+// Looks at the link of one station and the link back at another. It takes no memory.
+fn look(stations: &mut [Station], place: usize, link: usize, end: End)
     requires { AreJoined stations.old place link end }
-    ensures { (j : AreJoined stations.old place link end) →
-        stations.new ≡ after_look stations.old place link end j.here j.there j.near j.far }
+    ensures { HaveMet place link end stations.old stations.new }
 {
     if place < end.station {
         let (low, high) = stations.split_at_mut(end.station);
-        low[place].look(link, &mut high[0], end.link);
+        Station::look(&mut low[place], link, &mut high[0], end.link);
     } else {
         let (low, high) = stations.split_at_mut(place);
-        high[0].look(link, &mut low[end.station], end.link);
+        Station::look(&mut high[0], link, &mut low[end.station], end.link);
+    }
+}
+
+// Looks at both rings over one link of the station at this place.
+fn look_over(seats: &[Seat], stations: &mut [Station], place: usize, link: usize)
+    requires seats { HaveSeats seats.now stations.old }
+    requires within { place < length seats.now }
+    requires link { (s : Seat) → slice_get seats.now place ≡ Some s → link < length s.ends.items }
+    ensures looks { LooksOver seats.now (IsLinkAt place link) stations.old stations.new }
+    ensures seats { HaveSeats seats.now stations.new }
+{
+    look(stations, place, link, seats[place].ends[link]);
+}
+
+/// Looks at both ends of each ring of the station at this place.
+pub(crate) fn look_around(seats: &[Seat], stations: &mut [Station], place: usize)
+    requires seats { HaveSeats seats.now stations.old }
+    requires within { place < length seats.now }
+    ensures looks { LooksOver seats.now (IsAround place) stations.old stations.new }
+    ensures seats { HaveSeats seats.now stations.new }
+{
+    for link in 0..seats[place].ends.len() {
+        look_over(seats, stations, place, link);
+    }
+}
+
+/// Looks at both ends of each ring.
+pub(crate) fn look_all(seats: &[Seat], stations: &mut [Station])
+    requires { HaveSeats seats.now stations.old }
+    ensures looks { LooksOver seats.now IsAny stations.old stations.new }
+    ensures seats { HaveSeats seats.now stations.new }
+{
+    for place in 0..seats.len() {
+        look_around(seats, stations, place);
     }
 }

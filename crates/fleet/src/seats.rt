@@ -1,11 +1,11 @@
 //! Where each node's station stands, and where the links from it lead.
 
-ghost use Rattle.std.specs.Prelude.{◌≡◌, ℕ, IfOk, Some, position, slice_get};
-ghost use Rattle.world_rules.specs.Runs.{neighbours};
-ghost use Rattle.fleet.specs.NewFleets.{AreNew, IsNew, is_node};
-ghost use Rattle.fleet.specs.Standing.{AreSeats, IsEnd, IsSeat};
+ghost use Rattle.std.specs.Prelude.{◌≡◌, IfOk};
+ghost use Rattle.ason_base.specs.Network.{Network};
+ghost use Rattle.fleet.specs.Joining.{AreNew};
+ghost use Rattle.fleet.specs.Standing.{AreSeats, IsSeat};
 
-use ason_base::{NodeId, NodeSpec, OutOfMemory, Topology};
+use ason_base::{NodeId, OutOfMemory, Topology};
 use station::Station;
 use std::alloc::Global;
 
@@ -23,51 +23,21 @@ pub struct Seat {
     pub ends: Vec<End>,
 }
 
-/// The place of a node in order of number.
-fn place_of(nodes: &[NodeSpec], n: NodeId) -> Option<usize>
-    ensures { result ≡ position (is_node n) nodes.now }
-{
-    nodes.iter().position(|node| node.id == n)
-}
-
-// The far end of the link from one node to the other.
-fn far_end(t: &Topology, stations: &[Station], me: NodeId, peer: NodeId) -> End
-    requires new { AreNew t.now stations.now }
-    requires near { (place : ℕ) × (slice_get (neighbours t.now me) place ≡ Some peer) }
-    ensures { IsEnd t.now me peer result }
-{
-    match place_of(t.nodes(), peer) {
-        None => unreachable!(),
-        Some(station) => match stations[station].link_to(me) {
-            None => unreachable!(),
-            Some(link) => End { station, link },
-        },
-    }
-}
-
-// The seat of the node whose station this is.
-fn new_seat(
-    alloc: Global,
-    t: &Topology,
-    stations: &[Station],
-    id: NodeId,
-    station: &Station,
-) -> Result<Seat, OutOfMemory>
-    requires all { AreNew t.now stations.now }
-    requires one { IsNew t.now id station.now }
+// The seat of a node: a link from it ends where a link back to it begins.
+fn new_seat(alloc: Global, stations: &[Station], id: NodeId) -> Result<Seat, OutOfMemory>
     ensures id { IfOk result (λ s. s.id ≡ id) }
-    ensures seat { IfOk result (IsSeat t.now) }
+    ensures seat { IfOk result (λ s. (t : Network) → AreNew t stations.now → IsSeat t s) }
 {
-    let count = station.link_count();
     let mut ends = Vec::new(alloc);
-    for link in 0..count {
-        let end = far_end(t, stations, id, station.peer(link));
-        ends.push(end)?;
+    for station in 0..stations.len() {
+        if let Some(link) = stations[station].link_to(id) {
+            ends.push(End { station, link })?;
+        }
     }
     Ok(Seat { id, ends })
 }
 
-/// The seats of all nodes, whose stations these are.
+/// The seats of all nodes, in order of number, whose new stations these are.
 pub(crate) fn new_seats(
     alloc: Global,
     t: &Topology,
@@ -78,9 +48,7 @@ pub(crate) fn new_seats(
 {
     let mut seats = Vec::new(alloc);
     for node in t.nodes() {
-        let station = &stations[seats.len()];
-        let seat = new_seat(alloc, t, stations, node.id, station)?;
-        seats.push(seat)?;
+        seats.push(new_seat(alloc, stations, node.id)?)?;
     }
     Ok(seats)
 }

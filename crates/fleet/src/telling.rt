@@ -1,9 +1,10 @@
-//! What a station is told where groups fail or are repaired.
+//! What stations are told where groups fail or are repaired.
 
 ghost use Rattle.std.specs.Prelude.{◌≡◌, ◌==◌, ◌≤◌, ◌+◌, false, length};
 ghost use Rattle.mesh_rules.specs.Failures.{all_news, changed_news};
-ghost use Rattle.fleet.specs.Posts.{IsTold};
+ghost use Rattle.fleet.specs.Posting.{AreTold, HaveRoom, IsTold, news_for};
 
+use crate::seats::Seat;
 use ason_base::{Group, LinkSpec, NodeId, Topology};
 use mesh_rules::failures::news_of;
 use station::Station;
@@ -25,19 +26,32 @@ fn tell_of(station: &mut Station, before: &[Group], after: &[Group], node: NodeI
     }
 }
 
-/// Puts what the node is told of each link on the desk of its station, where other groups have failed than before. There is room
-/// for it.
-pub(crate) fn tell(
-    station: &mut Station,
-    t: &Topology,
-    before: &[Group],
-    after: &[Group],
-    node: NodeId,
-)
+// Puts what the node is told of each link on the desk of its station, where other groups have failed than before.
+// There is room for it.
+fn tell(station: &mut Station, t: &Topology, before: &[Group], after: &[Group], node: NodeId)
     requires { length t.now.links ≤ station.old.spare }
     ensures { IsTold (all_news t.now before.now after.now node.0) station.old station.new }
 {
     for link in t.links() {
         tell_of(station, before, after, node, link);
+    }
+}
+
+/// Puts what each node is told on the desk of its station, where other groups have failed than before. There is room
+/// for it.
+pub(crate) fn tell_all(
+    stations: &mut [Station],
+    seats: &[Seat],
+    t: &Topology,
+    before: &[Group],
+    after: &[Group],
+)
+    requires count { length stations.old ≡ length seats.now }
+    requires room { HaveRoom (length t.now.links) stations.old }
+    ensures { AreTold (news_for t.now before.now after.now) (length stations.old) seats.now
+        stations.old stations.new }
+{
+    for place in 0..stations.len() {
+        tell(&mut stations[place], t, before, after, seats[place].id);
     }
 }

@@ -1,12 +1,11 @@
 -- One station makes its turns, and the others none.
 use Rattle.std.proofs.Common.{◌≡◌, ◌+◌, ◌-◌, ℕ, zero, suc, Bool, true, false, cond, nat_eq, List, [], ◌∷◌, ◌++◌, drop}
-use Rattle.std.proofs.Common.{filter, length}
-use Rattle.std.proofs.Common.{map, refl, sym, ap, ◌∙◌, subst, arith, append-nil}
+use Rattle.std.proofs.Common.{filter, length, map, refl, sym, ap, ◌∙◌, subst, arith, append-nil}
 use Rattle.std.specs.Prelude.{◌&&◌}
 use Rattle.std.specs.List.{AllZip, Contains, range_with_len}
-use Rattle.ason_base.specs.declared.ids.NodeId.{NodeId}
-use Rattle.ason_base.specs.declared.commands.Disturb.{Disturb}
 use Rattle.ason_base.specs.Network.{Network, is_node_id}
+use Rattle.ason_base.specs.declared.commands.Disturb.{Disturb}
+use Rattle.ason_base.specs.declared.ids.NodeId.{NodeId}
 use Rattle.world_rules.specs.Runs.{is_channel, neighbours}
 use Rattle.world_rules.specs.Worlds.{start}
 use Rattle.world_rules.proofs.Stepping.{self_test}
@@ -21,9 +20,10 @@ use Rattle.round_rules.specs.Rings.{count_of, got_from, is_in, standing}
 use Rattle.round_rules.specs.Rounds.{DropsAt}
 use Rattle.station_doings.specs.Moves.{HasMoved, IsDrained}
 use Rattle.station_doings.specs.States.{IsStationOf, StationState}
+use Rattle.station_doings.specs.Turned.{comes_to_end}
 use Rattle.fleet_rounds.specs.Fleets.{AreStanding, HasGrown, IsKnown, IsNowhere, IsRingOf, IsStationAt, Wires}
 use Rattle.fleet_rounds.specs.OneWorker.{IsPlaced}
-use Rattle.fleet_rounds.specs.Turns.{AfterTurns, HasMadeRound, comes_to_end}
+use Rattle.fleet_rounds.specs.Turns.{AfterTurns, HasMadeRound}
 use Rattle.fleet_rounds.proofs.Choosing.{Between, zip-more}
 use Rattle.fleet_rounds.proofs.Counting.{RingFacts, drops-at, drops_over, facts-after, stands-count, takes-all}
 use Rattle.fleet_rounds.proofs.Links.{ends-stay, moved-none}

@@ -1,46 +1,109 @@
 -- A turn is the same of frames that bear what was sent.
-use Rattle.std.proofs.Common.{◌≡◌, ◌+◌, ℕ, Bool, List, [], ◌∷◌, ◌++◌, refl, sym, ap, ◌∙◌, subst}
-use Rattle.std.specs.Prelude.{max, Option, Some, None}
+use Rattle.std.proofs.Common.{◌≡◌, ◌+◌, ℕ, zero, suc, Bool, true, false, cond, nat_lt, List, [], ◌∷◌, ◌++◌, refl, sym}
+use Rattle.std.proofs.Common.{ap, ◌∙◌, subst, append-nil, append_assoc, fold}
+use Rattle.std.specs.Prelude.{◌&&◌, ◌^◌, max, Option, Some, None}
 use Rattle.std.specs.List.{AllByRecursion, AllZip}
-use Rattle.ason_base.specs.declared.ids.NodeId.{NodeId}
+use Rattle.ason_base.specs.Network.{Network}
 use Rattle.ason_base.specs.declared.commands.Disturb.{Disturb}
 use Rattle.ason_base.specs.declared.commands.DisturbKind.{DisturbKind}
-use Rattle.ason_base.specs.declared.commands.DisturbKind.TheVariants.{Lose, Repeat, Hold}
-use Rattle.ason_base.specs.Network.{Network}
+use Rattle.ason_base.specs.declared.commands.DisturbKind.TheVariants.{Hold, Lose, Repeat}
+use Rattle.ason_base.specs.declared.ids.NodeId.{NodeId}
 use Rattle.flood.specs.declared.frames.Content.{Content}
 use Rattle.world_merge.specs.Deeds.{Deed, Handled, Heard, Posted, Ticked, Took}
-use Rattle.round_rules.specs.Doings.{Did, Doing, Freed, Got, deeds_in}
-use Rattle.round_rules.specs.Functions.{Popped, all_freed, all_handled, all_taken, clock_of, delivered, freed, got}
-use Rattle.round_rules.specs.Functions.{taken, taken_as, tick_if, turn_after}
+use Rattle.round_rules.specs.Doings.{DeskItem, Did, Doing, DueFrame, Freed, Got, Left, RingFrame, Waiting, deeds_in}
+use Rattle.round_rules.specs.Functions.{Popped, clock_of, delivered, freed, got, handled}
+use Rattle.round_rules.specs.Limits.{Progress, delivery_part, desk_part, due_part, due_parts, going, halted_by}
+use Rattle.round_rules.specs.Limits.{item_part, item_parts, lines_in, pop_part, pop_parts, stamp_for, taking_part}
+use Rattle.round_rules.specs.Limits.{tick_part, turn_to, unless_halted}
 use Rattle.round_rules.specs.Lines.{says}
-use Rattle.round_rules.specs.Takings.{all_doings}
 use Rattle.round_rules.specs.Turns.{items_after}
-use Rattle.round_rules.proofs.Cutting.{GoesOn, freed_on}
+use Rattle.round_rules.proofs.Cutting.{GoesOn}
 use Rattle.round_rules.proofs.Desks.{deeds-more}
-use Rattle.round_rules.proofs.Turning.{Items, Takes, items, takes}
 
 -- Lines that say the same make the same turn
 
-told_taken : (one two : List Disturb) (n : NodeId) (ds : List Doing) (ps : List Popped) →
-    ((u : NodeId) (k : ℕ) → says one u n k ≡ says two u n k) → all_taken one n ds ps ≡ all_taken two n ds ps
-told_taken one two n ds [] same = refl
-told_taken one two n ds (p ∷ ps) same =
-    told_taken one two n (taken one n ds p) ps same
-    ∙ ap (λ o. all_taken two n (taken_as o ds p) ps) (same p.from p.number)
+told_pops : (one two : List Disturb) (n : NodeId) (p : Progress) (ps : List Popped) →
+    ((u : NodeId) (k : ℕ) → says one u n k ≡ says two u n k) → pop_parts one n p ps ≡ pop_parts two n p ps
+told_pops one two n p [] same = refl
+told_pops one two n p (x ∷ ps) same =
+    told_pops one two n (unless_halted (λ ds. pop_part (says one x.from n x.number) ds x) p) ps same
+    ∙ ap (λ o. pop_parts two n (unless_halted (λ ds. pop_part o ds x) p) ps) (same x.from x.number)
 
 -- The turn is the same by lines that say the same.
-pub told-after : (t : Network) (one two : List Disturb) (n : NodeId) (tick : Bool) (ds : List Doing)
+pub told-to : (t : Network) (one two : List Disturb) (n : NodeId) (tick : Bool) (ds : List Doing)
     (due pops : List Popped) → ((u : NodeId) (k : ℕ) → says one u n k ≡ says two u n k) →
-    turn_after t one n tick ds due pops ≡ turn_after t two n tick ds due pops
-told-after t one two n tick ds due pops same =
-    told_taken one two n (all_handled (items_after t n (all_freed (tick_if tick ds) due)) (all_freed (tick_if tick ds)
-    due)) pops same
+    turn_to t one n tick ds due pops ≡ turn_to t two n tick ds due pops
+told-to t one two n tick ds due pops same =
+    told_pops one two n (unless_halted (desk_part t n) (due_parts (tick_part tick ds) due)) pops same
+
+-- what is so of each of these is so of each of the first
+pub each-first : {X : Type 0} (P : X → Type 0) (xs ys : List X) → AllByRecursion P (xs ++ ys) → AllByRecursion P xs
+each-first P [] ys all = tt
+each-first P (x ∷ xs) ys all = (all.0, each-first P xs ys all.1)
+
+-- and of the last
+pub each-last : {X : Type 0} (P : X → Type 0) (xs ys : List X) → AllByRecursion P (xs ++ ys) → AllByRecursion P ys
+each-last P [] ys all = all
+each-last P (x ∷ xs) ys all = each-last P xs ys all.1
+
+-- What was done stays
+
+on_none : (ds : List Doing) → GoesOn ds ds
+on_none ds = record { more = []; all = sym (append-nil ds) }
+
+on_twice : (a b c : List Doing) → GoesOn a b → GoesOn b c → GoesOn a c
+on_twice a b c f g = record {
+  more = f.more ++ g.more;
+  all = g.all ∙ ap (λ ks. ks ++ g.more) f.all ∙ append_assoc a f.more g.more;
+}
+
+able_on : (b : Bool) (w : Waiting) (next ds : List Doing) → GoesOn ds next →
+    GoesOn ds (cond b (going next) (halted_by w ds)).doings
+able_on true w next ds f = f
+able_on false w next ds f = record { more = Left w ∷ []; all = refl }
+
+unless_on : (next : List Doing → Progress) (p : Progress) → ((ds : List Doing) → GoesOn ds (next ds).doings) →
+    GoesOn p.doings (unless_halted next p).doings
+unless_on next p f = go p.halted
+  where
+    go : (b : Bool) → GoesOn p.doings (cond b p (next p.doings)).doings
+    go true = on_none p.doings
+    go false = f p.doings
+
+items_on : (k : ℕ) (p : Progress) → GoesOn p.doings (item_parts k p).doings
+items_on zero p = on_none p.doings
+items_on (suc k) p =
+    on_twice p.doings (unless_halted item_part p).doings (item_parts k (unless_halted item_part p)).doings
+    (unless_on item_part p (λ ds. able_on _ DeskItem (handled ds) ds (record { more = _; all = refl })))
+    (items_on k (unless_halted item_part p))
+
+due_on : (x : Popped) (ds : List Doing) → GoesOn ds (due_part ds x).doings
+due_on x ds =
+    able_on _ (DueFrame x.from x.number) (freed ds x) ds
+    (record { more = _; all = append_assoc ds (Freed ∷ []) _ })
+
+pop_on : (o : Option DisturbKind) (x : Popped) (ds : List Doing) → GoesOn ds (pop_part o ds x).doings
+pop_on None x ds =
+    able_on _ (RingFrame x.from x.number) (delivered (got ds x None) x) ds
+    (record { more = _; all = append_assoc ds (Got x.from x.number None ∷ []) _ })
+pop_on (Some Repeat) x ds =
+    on_twice ds (taking_part (Some Repeat) x ds).doings (pop_part (Some Repeat) ds x).doings
+    (able_on _ (RingFrame x.from x.number) (delivered (got ds x (Some Repeat)) x) ds
+    (record { more = _; all = append_assoc ds (Got x.from x.number (Some Repeat) ∷ []) _ }))
+    (unless_on (delivery_part x) (taking_part (Some Repeat) x ds)
+    (λ ks. able_on _ (RingFrame x.from x.number) (delivered ks x) ks (record { more = _; all = refl })))
+pop_on (Some Lose) x ds = record { more = _; all = refl }
+pop_on (Some Hold) x ds = record { more = _; all = refl }
 
 -- two frames that differ in what they bear at most
 pub record IsSameFrame (p e : Popped) : Type 0 where
   pub from : p.from ≡ e.from
   pub number : p.number ≡ e.number
   pub stamp : p.stamp ≡ e.stamp
+
+-- the frame, as if it bore this
+abbrev bearing : Popped → Content → Popped
+bearing e x = record e { content = x }
 
 -- What is so of a deed's frame, and of a frame: it bears what was sent.
 module _ (sent : NodeId → ℕ → Option Content) where
@@ -57,93 +120,155 @@ module _ (sent : NodeId → ℕ → Option Content) where
   abbrev AllBear : List Doing → Type 0
   AllBear ds = AllByRecursion BearsSent (deeds_in ds)
 
-  -- what holds of all deeds holds of the first
-  pub first-part : (xs ys : List Deed) → AllByRecursion BearsSent (xs ++ ys) → AllByRecursion BearsSent xs
-  first-part [] ys all = tt
-  first-part (x ∷ xs) ys all = (all.0, first-part xs ys all.1)
-
-  last_part : (xs ys : List Deed) → AllByRecursion BearsSent (xs ++ ys) → AllByRecursion BearsSent ys
-  last_part [] ys all = all
-  last_part (x ∷ xs) ys all = last_part xs ys all.1
-
   before : (ds more : List Doing) → AllBear (ds ++ more) → AllBear ds
-  before ds more all = first-part (deeds_in ds) (deeds_in more) (subst (AllByRecursion BearsSent) (deeds-more ds more)
-      all)
+  before ds more all =
+      each-first BearsSent (deeds_in ds) (deeds_in more) (subst (AllByRecursion BearsSent) (deeds-more ds more) all)
 
   after : (ds more : List Doing) → AllBear (ds ++ more) → AllBear more
-  after ds more all = last_part (deeds_in ds) (deeds_in more) (subst (AllByRecursion BearsSent) (deeds-more ds more)
-      all)
+  after ds more all =
+      each-last BearsSent (deeds_in ds) (deeds_in more) (subst (AllByRecursion BearsSent) (deeds-more ds more) all)
 
-  same_content : (p e : Popped) → IsSameFrame p e → IsSent e → sent p.from p.number ≡ Some p.content → p ≡ e
-  same_content p e same is here =
-      let one : p.content ≡ e.content = cc (sym here ∙ (λ i. sent (same.from i) (same.number i)) ∙ is) in
-      λ i. record { from = same.from i; number = same.number i; stamp = same.stamp i; content = one i }
+  -- it was delivered last, and was sent
+  bears : (ds : List Doing) (e : Popped) (x : Content) → IsSent e → AllBear (delivered ds (bearing e x)) → x ≡ e.content
+  bears ds e x is all =
+      let here : sent e.from e.number ≡ Some x = (after ds (Did (Took (max (clock_of ds) e.stamp + 1) e.from e.number
+      x) ∷ []) all).0 in
+      cc (sym here ∙ is)
 
-  -- the frame was delivered last
-  delivered_same : (ds : List Doing) (p e : Popped) → IsSameFrame p e → IsSent e → AllBear (delivered ds p) → p ≡ e
-  delivered_same ds p e same is all =
-      same_content p e same is (after ds (Did (Took (max (clock_of ds) p.stamp + 1) p.from p.number p.content) ∷ [])
-      all).0
+  due_same : (e : Popped) (x : Content) (ds : List Doing) → IsSent e → AllBear (due_part ds (bearing e x)).doings →
+      due_part ds (bearing e x) ≡ due_part ds e
+  due_same e x ds is = go (nat_lt (lines_in ds) 50000 && nat_lt (stamp_for e ds) (2 ^ 64))
+    where
+      w : Waiting
+      w = DueFrame e.from e.number
 
-  -- held frames that are delivered
-  pub freed-same : (ds : List Doing) (ps es : List Popped) → AllZip IsSameFrame ps es → AllByRecursion IsSent es →
-      AllBear (all_freed ds ps) → all_freed ds ps ≡ all_freed ds es
-  freed-same ds [] [] same are all = refl
-  freed-same ds [] (e ∷ es) same are all = absurd same
-  freed-same ds (p ∷ ps) [] same are all = absurd same
-  freed-same ds (p ∷ ps) (e ∷ es) same are all =
-      let on : GoesOn (freed ds p) (all_freed (freed ds p) ps) = freed_on (freed ds p) ps in
-      let one : p ≡ e =
-      delivered_same (ds ++ Freed ∷ []) p e same.0 are.0
-      (before (freed ds p) on.more (subst AllBear on.all all)) in
-      freed-same (freed ds p) ps es same.1 are.1 all ∙ ap (λ q. all_freed (freed ds q) es) one
+      go : (b : Bool) → AllBear (cond b (going (freed ds (bearing e x))) (halted_by w ds)).doings →
+          cond b (going (freed ds (bearing e x))) (halted_by w ds) ≡ cond b (going (freed ds e)) (halted_by w ds)
+      go true all = ap (λ y. going (freed ds (bearing e y))) (bears (ds ++ Freed ∷ []) e x is all)
+      go false all = refl
 
-  one_same : (o : Option DisturbKind) (ds : List Doing) (p e : Popped) → IsSameFrame p e → IsSent e →
-      AllBear (taken_as o ds p) → taken_as o ds p ≡ taken_as o ds e
-  one_same None ds p e same is all = ap (taken_as None ds) (delivered_same (got ds p None) p e same is all)
-  one_same (Some Repeat) ds p e same is all =
-      ap (taken_as (Some Repeat) ds) (delivered_same (delivered (got ds p (Some Repeat)) p) p e same is all)
-  one_same (Some Lose) ds p e same is all = λ i. ds ++ Got (same.from i) (same.number i) (Some Lose) ∷ []
-  one_same (Some Hold) ds p e same is all = λ i. ds ++ Got (same.from i) (same.number i) (Some Hold) ∷ []
+  pop_same : (o : Option DisturbKind) (e : Popped) (x : Content) (ds : List Doing) → IsSent e →
+      AllBear (pop_part o ds (bearing e x)).doings → pop_part o ds (bearing e x) ≡ pop_part o ds e
+  pop_same None e x ds is all = go (nat_lt (lines_in ds) 50000 && nat_lt (stamp_for e ds) (2 ^ 64)) all
+    where
+      w : Waiting
+      w = RingFrame e.from e.number
 
-  -- frames that are taken
-  pub taken-same : (lines : List Disturb) (n : NodeId) (ds : List Doing) (ps es : List Popped) →
-      AllZip IsSameFrame ps es → AllByRecursion IsSent es → AllBear (all_taken lines n ds ps) →
-      all_taken lines n ds ps ≡ all_taken lines n ds es
-  taken-same lines n ds [] [] same are all = refl
-  taken-same lines n ds [] (e ∷ es) same are all = absurd same
-  taken-same lines n ds (p ∷ ps) [] same are all = absurd same
-  taken-same lines n ds (p ∷ ps) (e ∷ es) same are all =
-      let on : Takes lines n (taken lines n ds p) ps = takes lines n (taken lines n ds p) ps in
-      let one : taken lines n ds p ≡ taken_as (says lines p.from n p.number) ds e =
-      one_same (says lines p.from n p.number) ds p e same.0 are.0
-      (before (taken lines n ds p) (all_doings on.takings) (subst AllBear on.all all)) in
-      taken-same lines n (taken lines n ds p) ps es same.1 are.1 all
-      ∙ ap (λ ks. all_taken lines n ks es) one
-      ∙ (λ i. all_taken lines n (taken_as (says lines (same.0.from i) n (same.0.number i)) ds e) es)
+      here : List Doing
+      here = got ds e None
 
-  -- the turn of these frames is that of the frames that bear what was sent
+      go : (b : Bool) → AllBear (cond b (going (delivered here (bearing e x))) (halted_by w ds)).doings →
+          cond b (going (delivered here (bearing e x))) (halted_by w ds) ≡
+          cond b (going (delivered here e)) (halted_by w ds)
+      go true all = ap (λ y. going (delivered here (bearing e y))) (bears here e x is all)
+      go false all = refl
+  pop_same (Some Repeat) e x ds is all = go (nat_lt (lines_in ds) 50000 && nat_lt (stamp_for e ds) (2 ^ 64)) all
+    where
+      w : Waiting
+      w = RingFrame e.from e.number
+
+      here : List Doing
+      here = got ds e (Some Repeat)
+
+      go : (b : Bool) →
+          AllBear (unless_halted (delivery_part (bearing e x)) (cond b (going (delivered here (bearing e x)))
+          (halted_by w ds))).doings →
+          unless_halted (delivery_part (bearing e x)) (cond b (going (delivered here (bearing e x)))
+          (halted_by w ds)) ≡
+          unless_halted (delivery_part e) (cond b (going (delivered here e)) (halted_by w ds))
+      go true all =
+          let on : GoesOn (delivered here (bearing e x)) (delivery_part (bearing e x) (delivered here
+          (bearing e x))).doings =
+          able_on _ w (delivered (delivered here (bearing e x)) (bearing e x)) (delivered here (bearing e x))
+          (record { more = _; all = refl }) in
+          ap (λ y. delivery_part (bearing e y) (delivered here (bearing e y)))
+          (bears here e x is (before (delivered here (bearing e x)) on.more (subst AllBear on.all all)))
+      go false all = refl
+  pop_same (Some Lose) e x ds is all = refl
+  pop_same (Some Hold) e x ds is all = refl
+
+  -- Frames one after the other
+
+  module _ (f : Popped → List Doing → Progress) (on : (x : Popped) (ds : List Doing) → GoesOn ds (f x ds).doings)
+      (one : (e : Popped) (x : Content) (ds : List Doing) → IsSent e → AllBear (f (bearing e x) ds).doings →
+      f (bearing e x) ds ≡ f e ds) where
+    abbrev parts : Progress → List Popped → Progress
+    parts p ps = fold (λ (q : Progress) (x : Popped). unless_halted (f x) q) p ps
+
+    parts_on : (p : Progress) (ps : List Popped) → GoesOn p.doings (parts p ps).doings
+    parts_on p [] = on_none p.doings
+    parts_on p (x ∷ ps) =
+        on_twice p.doings (unless_halted (f x) p).doings (parts p (x ∷ ps)).doings (unless_on (f x) p (on x))
+        (parts_on (unless_halted (f x) p) ps)
+
+    step_same : (p : Progress) (x e : Popped) → IsSameFrame x e → IsSent e → AllBear (unless_halted (f x) p).doings →
+        unless_halted (f x) p ≡ unless_halted (f e) p
+    step_same p x e same is all = ap (λ y. unless_halted (f y) p) other ∙ go p.halted
+        (subst (λ y. AllBear (unless_halted (f y) p).doings) other all)
+      where
+        other : x ≡ bearing e x.content
+        other = λ i. record {
+          from = same.from i;
+          number = same.number i;
+          stamp = same.stamp i;
+          content = x.content;
+        }
+
+        go : (b : Bool) → AllBear (cond b p (f (bearing e x.content) p.doings)).doings →
+            cond b p (f (bearing e x.content) p.doings) ≡ cond b p (f e p.doings)
+        go true bear = refl
+        go false bear = one e x.content p.doings is bear
+
+    parts_same : (p : Progress) (ps es : List Popped) → AllZip IsSameFrame ps es → AllByRecursion IsSent es →
+        AllBear (parts p ps).doings → parts p ps ≡ parts p es
+    parts_same p [] [] same are all = refl
+    parts_same p [] (e ∷ es) same are all = absurd same
+    parts_same p (x ∷ ps) [] same are all = absurd same
+    parts_same p (x ∷ ps) (e ∷ es) same are all =
+        let rest : GoesOn (unless_halted (f x) p).doings (parts p (x ∷ ps)).doings =
+        parts_on (unless_halted (f x) p) ps in
+        parts_same (unless_halted (f x) p) ps es same.1 are.1 all
+        ∙ ap (λ q. parts q es) (step_same p x e same.0 are.0
+        (before (unless_halted (f x) p).doings rest.more (subst AllBear rest.all all)))
+
+  -- The turn of these frames is that of the frames that bear what was sent.
   pub turn-same : (t : Network) (lines : List Disturb) (n : NodeId) (tick : Bool) (ds : List Doing)
       (due pops dues exact : List Popped) → AllZip IsSameFrame due dues → AllByRecursion IsSent dues →
-      AllZip IsSameFrame pops exact → AllByRecursion IsSent exact → AllBear (turn_after t lines n tick ds due pops) →
-      turn_after t lines n tick ds due pops ≡ turn_after t lines n tick ds dues exact
+      AllZip IsSameFrame pops exact → AllByRecursion IsSent exact →
+      AllBear (turn_to t lines n tick ds due pops).doings →
+      turn_to t lines n tick ds due pops ≡ turn_to t lines n tick ds dues exact
   turn-same t lines n tick ds due pops dues exact same_due are_due same_pops are_pops all =
-      taken-same lines n ready pops exact same_pops are_pops all
-      ∙ ap (λ ks. all_taken lines n (all_handled (items_after t n ks) ks) exact)
-      (freed-same (tick_if tick ds) due dues same_due are_due freed_hold)
+      parts_same pop_f pop_goes pop_one ready pops exact same_pops are_pops all
+      ∙ ap (λ q. pop_parts lines n (unless_halted (desk_part t n) q) exact)
+      (parts_same due_f due_on due_same (tick_part tick ds) due dues same_due are_due due_bear)
     where
-      here : List Doing
-      here = all_freed (tick_if tick ds) due
+      pop_f : Popped → List Doing → Progress
+      pop_f x ks = pop_part (says lines x.from n x.number) ks x
 
-      ready : List Doing
-      ready = all_handled (items_after t n here) here
+      pop_goes : (x : Popped) (ks : List Doing) → GoesOn ks (pop_part (says lines x.from n x.number) ks x).doings
+      pop_goes x ks = pop_on (says lines x.from n x.number) x ks
 
-      c : Items (items_after t n here) here
-      c = items (items_after t n here) here
+      pop_one : (e : Popped) (x : Content) (ks : List Doing) → IsSent e →
+          AllBear (pop_part (says lines e.from n e.number) ks (bearing e x)).doings →
+          pop_part (says lines e.from n e.number) ks (bearing e x) ≡ pop_part (says lines e.from n e.number) ks e
+      pop_one e x ks = pop_same (says lines e.from n e.number) e x ks
 
-      d : Takes lines n ready pops
-      d = takes lines n ready pops
+      due_f : Popped → List Doing → Progress
+      due_f x ks = due_part ks x
 
-      freed_hold : AllBear here
-      freed_hold =
-          before here c.more (subst AllBear c.all (before ready (all_doings d.takings) (subst AllBear d.all all)))
+      here : Progress
+      here = due_parts (tick_part tick ds) due
+
+      ready : Progress
+      ready = unless_halted (desk_part t n) here
+
+      popped : GoesOn ready.doings (turn_to t lines n tick ds due pops).doings
+      popped = parts_on pop_f pop_goes pop_one ready pops
+
+      desk : GoesOn here.doings ready.doings
+      desk = unless_on (desk_part t n) here (λ ks. items_on (items_after t n ks) (going ks))
+
+      due_bear : AllBear here.doings
+      due_bear =
+          before here.doings desk.more (subst AllBear desk.all
+          (before ready.doings popped.more (subst AllBear popped.all all)))

@@ -1,48 +1,63 @@
 -- What all turns of a station in a round make of what its node did.
-use Rattle.std.proofs.Common.{◌≡◌, ℕ, zero, suc, Bool, true, false, List, [], ◌∷◌, ◌++◌, refl, sym, ap, ◌∙◌}
-use Rattle.std.proofs.Common.{subst}
-use Rattle.std.proofs.Common.{append-nil, append_assoc, inl, inr}
+use Rattle.std.proofs.Common.{◌≡◌, ℕ, zero, suc, Bool, true, false, List, [], ◌∷◌, ◌++◌, refl, sym, ap, ◌∙◌, subst}
+use Rattle.std.proofs.Common.{append-nil, append_assoc, ◌⊎◌, inl, inr}
 use Rattle.std.specs.Prelude.{◌||◌}
-use Rattle.std.specs.List.{AllZip, Contains}
+use Rattle.std.specs.List.{AllZip, Contains, list_any}
 use Rattle.std.proofs.lemmas.List.Concat.{flat_map-append}
-use Rattle.ason_base.specs.declared.ids.NodeId.{NodeId}
-use Rattle.ason_base.specs.declared.commands.Disturb.{Disturb}
+use Rattle.std.proofs.lemmas.List.Folds.{list_any-append}
 use Rattle.ason_base.specs.Network.{Network}
+use Rattle.ason_base.specs.declared.commands.Disturb.{Disturb}
+use Rattle.ason_base.specs.declared.ids.NodeId.{NodeId}
 use Rattle.station_rings.specs.LinkStates.{LinkState}
 use Rattle.round_rules.specs.Doings.{Doing, Left}
-use Rattle.round_rules.specs.Functions.{Popped, turn_after}
 use Rattle.round_rules.specs.Lines.{says}
 use Rattle.round_rules.specs.Rings.{got_from, is_in}
 use Rattle.round_rules.specs.Takings.{Taking, all_doings, doings_of}
 use Rattle.round_rules.specs.Turns.{IsTurnOf}
+use Rattle.round_rules.specs.Unfinished.{is_left}
 use Rattle.round_rules.proofs.Composing.{later-turn, turns-make-a-cut-turn, turns-make-a-turn}
 use Rattle.station_doings.specs.Moves.{HasMoved, IsDrained}
 use Rattle.station_doings.specs.States.{IsStationOf, StationState}
-use Rattle.station_doings.specs.Turned.{HaveComeTo, IsPoppedHeld, all_of, due_parcels}
+use Rattle.station_doings.specs.Turned.{HasMadeTurn, HaveMadeTurns, comes_to_end, is_at_limit, is_starved}
 use Rattle.station_doings.specs.declared.turns.Turn.{Turn}
-use Rattle.station_doings.specs.declared.turns.Turn.TheVariants.{Worked, Idle, AtLimit, Starved}
-use Rattle.fleet_rounds.specs.Turns.{HasMadeTurn, HaveMadeTurns, comes_to_end}
-use Rattle.fleet_rounds.specs.Turns.{is_starved}
 use Rattle.fleet_rounds.proofs.Got.{got-more}
 use Rattle.fleet_rounds.proofs.Links.{all-drained-moved, all-moved-twice}
 use Rattle.fleet_rounds.proofs.NoPosts.{posts-append}
 use Rattle.fleet_rounds.proofs.Numbers.{in-append}
-use Rattle.fleet_rounds.proofs.Turned.{peers_of}
 use Rattle.fleet_rounds.proofs.OneTurn.{EndsCut, HasDone, OneTurn, all-moved-none, one-done}
+use Rattle.fleet_rounds.proofs.TurnEnds.{halted-fed, not-halted, not-starved}
+use Rattle.fleet_rounds.proofs.Turned.{peers_of}
 
--- What the first of the turns popped, where all came to their end; the later ones did nothing but take frames.
+-- The first of the turns, where all came to their end; the later ones did nothing but take frames.
 pub record FirstTurn (t : Network) (n : NodeId) (tick : Bool) (ds : List Doing) (old new : StationState)
     (added : List Doing) : Type 0 where
   pub mid : StationState
-  pub due : List Popped
-  pub are_due : AllZip IsPoppedHeld (due_parcels tick old.held) due
-  pub pops : List (List Popped)
-  pub are_pops : HaveComeTo false old.links mid.links pops
-  pub stands : IsStationOf t n (turn_after t old.lines n tick ds due (all_of pops)) mid
+  pub part : List Doing
+  pub one : OneTurn t n tick ds old mid false part
+  pub stands : IsStationOf t n (ds ++ part) mid
   pub drained : AllZip IsDrained old.links mid.links
   pub moved : AllZip HasMoved mid.links new.links
   pub takings : List Taking
-  pub all : ds ++ added ≡ turn_after t old.lines n tick ds due (all_of pops) ++ all_doings takings
+  pub all : added ≡ part ++ all_doings takings
+
+-- The last of the turns halted, after others, which came to their end.
+pub record LaterHalt (t : Network) (lines : List Disturb) (n : NodeId) (tick : Bool) (ds : List Doing)
+    (old new : StationState) (added : List Doing) : Type 0 where
+  pub mid : StationState
+  pub part : List Doing
+  pub last : List Doing
+  pub all : added ≡ part ++ last
+  pub whole : IsTurnOf t lines n tick ds part
+  pub stands : IsStationOf t n (ds ++ part) mid
+  pub drained : AllZip IsDrained old.links mid.links
+  pub halted : OneTurn t n false (ds ++ part) mid new true last
+  pub moved : AllZip HasMoved mid.links new.links
+
+-- the first turn halted, or a later one
+abbrev pub IsHalt : Network → List Disturb → NodeId → Bool → List Doing → StationState → StationState → List Doing →
+    Type 0
+IsHalt t lines n tick ds old new added =
+    OneTurn t n tick ds old new true added ⊎ LaterHalt t lines n tick ds old new added
 
 -- Turns and then turns
 
@@ -52,12 +67,6 @@ peers_kept [] (y ∷ ys) all = absurd all
 peers_kept (x ∷ xs) [] all = absurd all
 peers_kept (x ∷ xs) (y ∷ ys) all = λ i. (all.0.peer i) ∷ (peers_kept xs ys all.1 i)
 
-not_starved : (end : Turn) → comes_to_end end ≡ true → is_starved end ≡ false
-not_starved (Worked k) e = refl
-not_starved Idle e = refl
-not_starved AtLimit e = absurd (cc (e))
-not_starved Starved e = absurd (cc (e))
-
 pub record HaveDone (t : Network) (lines : List Disturb) (n : NodeId) (tick : Bool) (ds : List Doing)
     (old new : StationState) (end : Turn) : Type 0 where
   pub done : HasDone t lines n tick ds (peers_of old.links) new end
@@ -65,6 +74,7 @@ pub record HaveDone (t : Network) (lines : List Disturb) (n : NodeId) (tick : Bo
   pub links : AllZip HasMoved old.links new.links
   pub drained : comes_to_end end ≡ true → AllZip IsDrained old.links new.links
   pub first : comes_to_end end ≡ true → FirstTurn t n tick ds old new done.added
+  pub halt : is_at_limit end ≡ true → IsHalt t lines n tick ds old new done.added
 
 -- with other words for the neighbours
 abbrev pub near-done : (t : Network) (lines : List Disturb) (n : NodeId) (tick : Bool) (ds : List Doing)
@@ -77,6 +87,7 @@ near-done t lines n tick ds near far new end same d = record {
   from_near = λ h u k there. subst (λ ns. Contains ns u) same (d.from_near h u k there);
   whole = d.whole;
   cut = d.cut;
+  left = d.left;
 }
 
 abbrev then_done : (t : Network) (lines : List Disturb) (n : NodeId) (tick : Bool) (ds : List Doing)
@@ -93,11 +104,13 @@ then_done t lines n tick ds near mid new answer end ended one two = record {
       ∙ ap (λ ks. is_in ks k) (sym (got-more u one.added two.added)) ∙ there);
   whole = λ h. turns-make-a-turn t lines n tick ds one.added two.added (one.whole ended) (two.whole h);
   cut = λ h. cut_then (two.cut h);
+  left = list_any-append is_left one.added two.added
+      ∙ ap (λ b. b || list_any is_left two.added) (one.left ∙ not-halted answer ended) ∙ two.left;
 }
   where
     go : is_starved end ≡ false → (u : NodeId) (k : ℕ) (b : Bool) → is_in (got_from u one.added) k ≡ b →
         (is_in (got_from u one.added) k || is_in (got_from u two.added) k) ≡ true → Contains near u
-    go h u k true e f = one.from_near (not_starved answer ended) u k e
+    go h u k true e f = one.from_near (not-starved answer ended) u k e
     go h u k false e f = two.from_near h u k (ap (λ b. b || is_in (got_from u two.added) k) (sym e) ∙ f)
 
     cut_then : EndsCut t lines n false (ds ++ one.added) two.added →
@@ -112,19 +125,17 @@ then_done t lines n tick ds near mid new answer end ended one two = record {
 -- the first turn of one or more
 first_of : (t : Network) (lines : List Disturb) (n : NodeId) (tick : Bool) (ds : List Doing) (near : List NodeId)
     (old new : StationState) (end : Turn) (done : HasDone t lines n tick ds near new end) →
-    OneTurn t n tick ds old new done.added → AllZip IsDrained old.links new.links →
+    OneTurn t n tick ds old new false done.added → AllZip IsDrained old.links new.links →
     FirstTurn t n tick ds old new done.added
 first_of t lines n tick ds near old new end done one drained = record {
   mid = new;
-  due = one.due;
-  are_due = one.are_due;
-  pops = one.pops;
-  are_pops = one.are_pops;
-  stands = subst (λ ks. IsStationOf t n ks new) one.all done.stands;
+  part = done.added;
+  one = one;
+  stands = done.stands;
   drained = drained;
   moved = all-moved-none new.links;
   takings = [];
-  all = one.all ∙ sym (append-nil (turn_after t old.lines n tick ds one.due (all_of one.pops)));
+  all = sym (append-nil done.added);
 }
 
 then_first : (t : Network) (lines : List Disturb) (n : NodeId) (tick : Bool) (ds : List Doing)
@@ -133,23 +144,53 @@ then_first : (t : Network) (lines : List Disturb) (n : NodeId) (tick : Bool) (ds
     FirstTurn t n tick ds old new (one ++ two)
 then_first t lines n tick ds old mid new one two turn later f links = record {
   mid = f.mid;
-  due = f.due;
-  are_due = f.are_due;
-  pops = f.pops;
-  are_pops = f.are_pops;
+  part = f.part;
+  one = f.one;
   stands = f.stands;
   drained = f.drained;
   moved = all-moved-twice f.mid.links mid.links new.links f.moved links;
   takings = f.takings ++ later.takings;
   all =
-      sym (append_assoc ds one two) ∙ ap (λ ks. ks ++ two) f.all
-      ∙ ap (λ ks. (turn_after t old.lines n tick ds f.due (all_of f.pops) ++ all_doings f.takings) ++ ks)
-      (later-turn t lines n tick ds one turn two later)
-      ∙ append_assoc (turn_after t old.lines n tick ds f.due (all_of f.pops)) (all_doings f.takings)
-      (all_doings later.takings)
-      ∙ ap (λ ks. turn_after t old.lines n tick ds f.due (all_of f.pops) ++ ks)
-      (sym (flat_map-append doings_of f.takings later.takings));
+      ap (λ ks. ks ++ two) f.all ∙ append_assoc f.part (all_doings f.takings) two
+      ∙ ap (λ ks. f.part ++ ks) (ap (λ ks. all_doings f.takings ++ ks) (later-turn t lines n tick ds one turn two later)
+      ∙ sym (flat_map-append doings_of f.takings later.takings));
 }
+
+-- what is drained moved
+all_drained : (xs ys : List LinkState) → AllZip IsDrained xs ys → AllZip HasMoved xs ys
+all_drained [] [] all = tt
+all_drained [] (y ∷ ys) all = absurd all
+all_drained (x ∷ xs) [] all = absurd all
+all_drained (x ∷ xs) (y ∷ ys) all = (all.0.0, all_drained xs ys all.1)
+
+-- turns that came to their end, and then some of which the last halted
+halts_later : (t : Network) (lines : List Disturb) (n : NodeId) (tick : Bool) (ds : List Doing)
+    (old mid new : StationState) (one two : List Doing) → IsTurnOf t lines n tick ds one →
+    IsStationOf t n (ds ++ one) mid → AllZip IsDrained old.links mid.links →
+    AllZip HasMoved mid.links new.links → IsHalt t lines n false (ds ++ one) mid new two →
+    IsHalt t lines n tick ds old new (one ++ two)
+halts_later t lines n tick ds old mid new one two whole stands drained links (inl h) = inr (record {
+  mid = mid;
+  part = one;
+  last = two;
+  all = refl;
+  whole = whole;
+  stands = stands;
+  drained = drained;
+  halted = h;
+  moved = links;
+})
+halts_later t lines n tick ds old mid new one two whole stands drained links (inr l) = inr (record {
+  mid = l.mid;
+  part = one ++ l.part;
+  last = l.last;
+  all = ap (λ ks. one ++ ks) l.all ∙ sym (append_assoc one l.part l.last);
+  whole = turns-make-a-turn t lines n tick ds one l.part whole l.whole;
+  stands = subst (λ ks. IsStationOf t n ks l.mid) (append_assoc ds one l.part) l.stands;
+  drained = all-drained-moved old.links mid.links l.mid.links drained (all_drained mid.links l.mid.links l.drained);
+  halted = subst (λ ks. OneTurn t n false ks l.mid new true l.last) (append_assoc ds one l.part) l.halted;
+  moved = l.moved;
+})
 
 then_all : (t : Network) (lines : List Disturb) (n : NodeId) (tick : Bool) (ds : List Doing)
     (old mid new : StationState) (answer end : Turn) → HasMadeTurn tick old mid answer → comes_to_end answer ≡ true →
@@ -165,6 +206,8 @@ then_all t lines n tick ds old mid new answer end turn ended first popped rest =
   drained = λ e. all-drained-moved old.links mid.links new.links (turn.drained ended) rest.links;
   first = λ e. then_first t lines n tick ds old mid new first.added rest.done.added (first.whole ended)
       (rest.done.whole e) popped rest.links;
+  halt = λ e. halts_later t lines n tick ds old mid new first.added rest.done.added (first.whole ended) first.stands
+      (turn.drained ended) rest.links (rest.halt e);
 }
 
 -- what a number of turns do
@@ -179,12 +222,17 @@ have-done t lines n (suc many) tick ds old new end told is (inl turn) =
       lines_kept = turn.lines;
       links = turn.links;
       drained = turn.drained;
-      first = λ e. first_of t lines n tick ds (peers_of old.links) old new end one.done (one.one e) (turn.drained e);
+      first = λ e. first_of t lines n tick ds (peers_of old.links) old new end one.done
+          (subst (λ b. OneTurn t n tick ds old new b one.done.added) (not-halted end e) (one.one (not-starved end e)))
+          (turn.drained e);
+      halt = λ e. inl
+          (subst (λ b. OneTurn t n tick ds old new b one.done.added) e (one.one (halted-fed end e)));
     }
 have-done t lines n (suc many) tick ds old new end told is (inr f) =
     let one = one-done t lines n tick ds old f.mid told is f.answer f.turn in
-    let popped = first_of t lines n tick ds (peers_of old.links) old f.mid f.answer one.done (one.one f.ended)
-    (f.turn.drained f.ended) in
+    let popped = first_of t lines n tick ds (peers_of old.links) old f.mid f.answer one.done
+    (subst (λ b. OneTurn t n tick ds old f.mid b one.done.added) (not-halted f.answer f.ended)
+    (one.one (not-starved f.answer f.ended))) (f.turn.drained f.ended) in
     then_all t lines n tick ds old f.mid new f.answer end f.turn f.ended one.done popped
     (have-done t lines n many false (ds ++ one.done.added) f.mid new end
     (λ u k. ap (λ ls. says ls u n k) f.turn.lines ∙ told u k) one.done.stands f.rest)

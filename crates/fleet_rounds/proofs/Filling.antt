@@ -19,7 +19,7 @@ use Rattle.round_rules.specs.Doings.{deeds_in}
 use Rattle.round_rules.specs.OneWorker.{ids_of}
 use Rattle.round_rules.specs.Records.{Record, deeds_at, posts_in}
 use Rattle.round_rules.proofs.Desks.{deeds-more}
-use Rattle.station_doings.specs.Ends.{IsAtLimit}
+use Rattle.station_doings.specs.Limits.{IsAtLimit}
 use Rattle.station_doings.specs.States.{StationState}
 use Rattle.fleet_rounds.specs.Fleets.{AreStanding, HasGrown, IsStationAt, Wires}
 use Rattle.fleet_rounds.specs.Gaps.{DeedsAreFew, HasPredecessor, IsStampIn, LimitsAreLogs, PostsFollow}

@@ -1,11 +1,10 @@
 -- In a turn nothing is posted.
 use Rattle.std.proofs.Common.{◌≡◌, ℕ, Bool, true, false, List, [], ◌∷◌, ◌++◌, filter, map, refl, sym, ap, ◌∙◌, subst}
-use Rattle.std.proofs.Common.{append-nil}
-use Rattle.std.proofs.Common.{arith, inl, inr}
+use Rattle.std.proofs.Common.{append-nil, arith, inl, inr}
 use Rattle.std.proofs.lemmas.List.Elements.{filter-append}
-use Rattle.ason_base.specs.declared.ids.NodeId.{NodeId}
-use Rattle.ason_base.specs.declared.commands.Disturb.{Disturb}
 use Rattle.ason_base.specs.Network.{Network}
+use Rattle.ason_base.specs.declared.commands.Disturb.{Disturb}
+use Rattle.ason_base.specs.declared.ids.NodeId.{NodeId}
 use Rattle.flood.specs.declared.frames.Content.{Content}
 use Rattle.world_merge.specs.Deeds.{Took}
 use Rattle.world_merge.specs.Logs.{is_posted}
@@ -15,6 +14,7 @@ use Rattle.round_rules.specs.Held.{HeldFrame, due_in}
 use Rattle.round_rules.specs.Takings.{Taking, all_doings}
 use Rattle.round_rules.specs.Turns.{AreDelivered, AreHandled, IsTick, IsTurnOf}
 use Rattle.round_rules.proofs.Desks.{deeds-more}
+use Rattle.station_doings.specs.Turned.{HeldLost, IsLast, NoneLost, PopLost, RepeatLost}
 
 abbrev pub HasNoPost : List Doing → Type 0
 HasNoPost ds = filter is_posted (deeds_in ds) ≡ []
@@ -72,6 +72,13 @@ cut-posts t lines n tick before added f =
     (posts-append f.dues (f.items ++ (all_doings f.takings ++ f.last)) (due_posts f.freed f.dues f.are_due)
     (posts-append f.items (all_doings f.takings ++ f.last) (item_posts f.items f.handled)
     (posts-append (all_doings f.takings) f.last (taking_posts f.takings) (last_posts lines n f.last f.lacks)))))
+
+-- Nor is what is lost for want of memory.
+pub lost-posts : (lines : List Disturb) (n : NodeId) (ds : List Doing) → IsLast lines n ds → HasNoPost ds
+lost-posts lines n ds NoneLost = refl
+lost-posts lines n ds (PopLost u k) = refl
+lost-posts lines n ds (RepeatLost u k s x e) = refl
+lost-posts lines n ds (HeldLost u k) = refl
 
 -- a turn is a cut turn that wants nothing
 abbrev pub whole-cut : (t : Network) (lines : List Disturb) (n : NodeId) (tick : Bool) (before added : List Doing) →

@@ -1,36 +1,36 @@
 -- What one turn of a station makes of what its node did.
-use Rattle.std.proofs.Common.{◌≡◌, ℕ, Bool, true, false, List, [], ◌∷◌, ◌++◌, filter, refl, sym, ap, ◌∙◌}
-use Rattle.std.proofs.Common.{subst}
+use Rattle.std.proofs.Common.{◌≡◌, ℕ, Bool, true, false, List, [], ◌∷◌, ◌++◌, filter, refl, sym, ap, ◌∙◌, subst}
 use Rattle.std.proofs.Common.{append-nil, append_assoc}
 use Rattle.std.specs.Prelude.{◌||◌}
-use Rattle.std.specs.List.{AllZip, Contains}
+use Rattle.std.specs.List.{AllZip, Contains, list_any}
 use Rattle.std.proofs.lemmas.List.{append_cancel_left}
-use Rattle.ason_base.specs.declared.ids.NodeId.{NodeId}
-use Rattle.ason_base.specs.declared.commands.Disturb.{Disturb}
 use Rattle.ason_base.specs.Network.{Network}
-use Rattle.station_rings.specs.LinkStates.{LinkState}
+use Rattle.ason_base.specs.declared.commands.Disturb.{Disturb}
+use Rattle.ason_base.specs.declared.ids.NodeId.{NodeId}
 use Rattle.world_merge.specs.Logs.{is_posted}
+use Rattle.station_rings.specs.LinkStates.{LinkState}
 use Rattle.round_rules.specs.Doings.{Doing, Left, Waiting, deeds_in}
-use Rattle.round_rules.specs.Functions.{Popped, turn_after}
+use Rattle.round_rules.specs.Functions.{Popped}
 use Rattle.round_rules.specs.Halts.{HasHalted, IsCutTurnOf}
 use Rattle.round_rules.specs.Laws.{AddsATurn}
 use Rattle.round_rules.specs.Limits.{turn_to}
 use Rattle.round_rules.specs.Lines.{says}
 use Rattle.round_rules.specs.Rings.{got_from, is_in}
 use Rattle.round_rules.specs.Turns.{IsTurnOf}
+use Rattle.round_rules.specs.Unfinished.{is_left}
 use Rattle.round_rules.proofs.Ending.{turns-end}
 use Rattle.round_rules.proofs.Reaching.{turns-halt}
 use Rattle.round_rules.proofs.Turning.{functions-are-turns}
 use Rattle.station_doings.specs.Moves.{HasMoved}
 use Rattle.station_doings.specs.States.{IsStationOf, StationState}
-use Rattle.station_doings.specs.Turned.{HaveComeTo, IsPoppedHeld, TurnsTo, all_of, due_parcels}
+use Rattle.station_doings.specs.Turned.{HasMadeTurn, HaveComeTo, IsPoppedHeld, StarvesTo, TurnsTo, all_of}
+use Rattle.station_doings.specs.Turned.{comes_to_end, due_parcels, is_at_limit, is_starved}
 use Rattle.station_doings.specs.declared.turns.Turn.{Turn}
-use Rattle.station_doings.specs.declared.turns.Turn.TheVariants.{Worked, Idle, AtLimit, Starved}
-use Rattle.fleet_rounds.specs.Turns.{HasMadeTurn, StarvesAlone, comes_to_end}
-use Rattle.fleet_rounds.specs.Turns.{is_at_limit, is_starved}
+use Rattle.station_doings.specs.declared.turns.Turn.TheVariants.{AtLimit, Idle, Starved, Worked}
 use Rattle.fleet_rounds.proofs.Got.{from-one-of, got-more, numbers_from, turn-got}
 use Rattle.fleet_rounds.proofs.Links.{moved-none}
-use Rattle.fleet_rounds.proofs.NoPosts.{cut-posts, left-posts, turn-posts}
+use Rattle.fleet_rounds.proofs.NoLefts.{cut-none, left-last, lost-none, none-append, turn-none}
+use Rattle.fleet_rounds.proofs.NoPosts.{cut-posts, left-posts, lost-posts, posts-append, turn-posts}
 use Rattle.fleet_rounds.proofs.Numbers.{in-append}
 use Rattle.fleet_rounds.proofs.Turned.{are-held, from-peers, peers_of, told-cut, told-turn}
 
@@ -55,15 +55,17 @@ pub record HasDone (t : Network) (lines : List Disturb) (n : NodeId) (tick : Boo
   pub from_near : is_starved end ≡ false → (u : NodeId) (k : ℕ) → is_in (got_from u added) k ≡ true → Contains near u
   pub whole : comes_to_end end ≡ true → IsTurnOf t lines n tick ds added
   pub cut : is_at_limit end ≡ true → EndsCut t lines n tick ds added
+  pub left : list_any is_left added ≡ is_at_limit end
 
--- what one turn popped that came to its end
+-- what one turn popped, and what it did
 pub record OneTurn (t : Network) (n : NodeId) (tick : Bool) (ds : List Doing) (old new : StationState)
-    (added : List Doing) : Type 0 where
+    (halted : Bool) (added : List Doing) : Type 0 where
   pub due : List Popped
   pub are_due : AllZip IsPoppedHeld (due_parcels tick old.held) due
   pub pops : List (List Popped)
-  pub are_pops : HaveComeTo false old.links new.links pops
-  pub all : ds ++ added ≡ turn_after t old.lines n tick ds due (all_of pops)
+  pub are_pops : HaveComeTo halted old.links new.links pops
+  pub all : ds ++ added ≡ (turn_to t old.lines n tick ds due (all_of pops)).doings
+  pub halts : (turn_to t old.lines n tick ds due (all_of pops)).halted ≡ halted
 
 in_first : (xs ys : List ℕ) (k : ℕ) → is_in xs k ≡ true → is_in (xs ++ ys) k ≡ true
 in_first xs ys k h = in-append xs ys k ∙ ap (λ b. b || is_in ys k) h
@@ -73,7 +75,7 @@ module _ (t : Network) (lines : List Disturb) (n : NodeId) (tick : Bool) (ds : L
     (is : IsStationOf t n ds old) where
   -- a turn that comes to its end
   ends : (end : Turn) → is_at_limit end ≡ false → TurnsTo t n ds tick false old new →
-      (done : HasDone t lines n tick ds (peers_of old.links) new end) × OneTurn t n tick ds old new done.added
+      (done : HasDone t lines n tick ds (peers_of old.links) new end) × OneTurn t n tick ds old new false done.added
   ends end not_cut f = (
     record {
       added = a.added;
@@ -84,8 +86,16 @@ module _ (t : Network) (lines : List Disturb) (n : NodeId) (tick : Bool) (ds : L
           (subst (λ ks. is_in ks k ≡ true) (took u) there);
       whole = λ h. told-turn t old.lines lines n tick ds a.added told a.turn;
       cut = λ h. absurd (cc (not_cut, h));
+      left = turn-none t old.lines n tick ds a.added a.turn ∙ sym not_cut;
     },
-    record { due = f.due; are_due = f.are_due; pops = f.pops; are_pops = f.are_pops; all = sym a.all },
+    record {
+      due = f.due;
+      are_due = f.are_due;
+      pops = f.pops;
+      are_pops = f.are_pops;
+      all = sym all;
+      halts = f.halts;
+    },
   )
     where
       a : AddsATurn t old.lines n tick ds f.due (all_of f.pops)
@@ -101,30 +111,43 @@ module _ (t : Network) (lines : List Disturb) (n : NodeId) (tick : Bool) (ds : L
           ∙ turn-got u t old.lines n tick ds f.due (all_of f.pops))
 
   -- a turn that halts
-  halts : (end : Turn) → comes_to_end end ≡ false → TurnsTo t n ds tick true old new →
-      HasDone t lines n tick ds (peers_of old.links) new end
-  halts end not_whole f = record {
-    added = h.added ++ Left h.left ∷ [];
-    stands =
-        subst (λ ks. IsStationOf t n ks new) (h.all ∙ append_assoc ds h.added (Left h.left ∷ [])) f.stands;
-    no_post = left-posts h.added h.left (cut-posts t old.lines n tick ds h.added h.cut);
-    from_near = λ e u k there. from-one-of u (peers_of old.links) k (all_of f.pops)
-        (from-peers true old.links new.links f.pops f.are_pops)
-        (subst (λ ks. is_in ks k ≡ true) (took u)
-        (in_first (got_from u h.added) (got_from u h.rest) k (subst (λ ks. is_in ks k ≡ true) (no_more u) there)));
-    whole = λ e. absurd (cc (not_whole, e));
-    cut = λ e. record {
-      made = h.added;
-      left = h.left;
-      all = refl;
-      cut = told-cut t old.lines lines n tick ds h.added told h.cut;
-    };
-  }
+  halts : TurnsTo t n ds tick true old new →
+      (done : HasDone t lines n tick ds (peers_of old.links) new AtLimit) × OneTurn t n tick ds old new true done.added
+  halts f = (
+    record {
+      added = h.added ++ Left h.left ∷ [];
+      stands = subst (λ ks. IsStationOf t n ks new) all f.stands;
+      no_post = left-posts h.added h.left (cut-posts t old.lines n tick ds h.added h.cut);
+      from_near = λ e u k there. from-one-of u (peers_of old.links) k (all_of f.pops)
+          (from-peers true old.links new.links f.pops f.are_pops)
+          (subst (λ ks. is_in ks k ≡ true) (took u)
+          (in_first (got_from u h.added) (got_from u h.rest) k (subst (λ ks. is_in ks k ≡ true) (no_more u) there)));
+      whole = λ e. absurd (cc (e));
+      cut = λ e. record {
+        made = h.added;
+        left = h.left;
+        all = refl;
+        cut = told-cut t old.lines lines n tick ds h.added told h.cut;
+      };
+      left = left-last h.added h.left (cut-none t old.lines n tick ds h.added h.cut);
+    },
+    record {
+      due = f.due;
+      are_due = f.are_due;
+      pops = f.pops;
+      are_pops = f.are_pops;
+      all = sym all;
+      halts = f.halts;
+    },
+  )
     where
       h : HasHalted t old.lines n tick ds f.due (all_of f.pops)
       h =
           turns-halt t old.lines n tick ds f.due (all_of f.pops)
           (are-held t n tick ds old f.due is f.are_due) f.halts
+
+      all : (turn_to t old.lines n tick ds f.due (all_of f.pops)).doings ≡ ds ++ (h.added ++ Left h.left ∷ [])
+      all = h.all ∙ append_assoc ds h.added (Left h.left ∷ [])
 
       no_more : (u : NodeId) → got_from u (h.added ++ Left h.left ∷ []) ≡ got_from u h.added
       no_more u = got-more u h.added (Left h.left ∷ []) ∙ append-nil (got_from u h.added)
@@ -138,23 +161,28 @@ module _ (t : Network) (lines : List Disturb) (n : NodeId) (tick : Bool) (ds : L
           ∙ sym (got-more u (ds ++ h.added) h.rest) ∙ ap (got_from u) (sym h.whole)
           ∙ turn-got u t old.lines n tick ds f.due (all_of f.pops))
 
-  starves : StarvesAlone t n ds new → HasDone t lines n tick ds (peers_of old.links) new Starved
+  starves : StarvesTo t old.lines n ds tick new → HasDone t lines n tick ds (peers_of old.links) new Starved
   starves f = record {
-    added = f.added;
+    added = f.made ++ f.last;
     stands = f.stands;
-    no_post = f.no_post;
+    no_post =
+        posts-append f.made f.last (cut-posts t old.lines n tick ds f.made f.cut)
+        (lost-posts old.lines n f.last f.is_last);
     from_near = λ e. absurd (cc (e));
     whole = λ e. absurd (cc (e));
     cut = λ e. absurd (cc (e));
+    left =
+        none-append f.made f.last (cut-none t old.lines n tick ds f.made f.cut)
+        (lost-none old.lines n f.last f.is_last);
   }
 
   pub record OneDone (end : Turn) : Type 0 where
     pub done : HasDone t lines n tick ds (peers_of old.links) new end
-    pub one : comes_to_end end ≡ true → OneTurn t n tick ds old new done.added
+    pub one : is_starved end ≡ false → OneTurn t n tick ds old new (is_at_limit end) done.added
 
   pub one-done : (end : Turn) → HasMadeTurn tick old new end → OneDone end
   one-done (Worked k) f =
       let e = ends (Worked k) refl (f.turned.2 t n ds is) in record { done = e.0; one = λ h. e.1 }
   one-done Idle f = let e = ends Idle refl (f.turned.1 t n ds is) in record { done = e.0; one = λ h. e.1 }
-  one-done AtLimit f = record { done = halts AtLimit refl (f.turned t n ds is); one = λ h. absurd (cc (h)) }
-  one-done Starved f = record { done = starves (f.starved refl t n ds is); one = λ h. absurd (cc (h)) }
+  one-done AtLimit f = let e = halts (f.turned t n ds is) in record { done = e.0; one = λ h. e.1 }
+  one-done Starved f = record { done = starves (f.turned t n ds is); one = λ h. absurd (cc (h)) }

@@ -1,11 +1,11 @@
 -- Rings while some nodes of a round made their parts, and the others did nothing.
-use Rattle.std.proofs.Common.{◌≡◌, ◌≤◌, ℕ, Bool, true, false, not, nat_eq, List, [], ◌∷◌, ◌++◌, length, refl}
-use Rattle.std.proofs.Common.{sym, ap, ◌∙◌, subst, arith}
+use Rattle.std.proofs.Common.{◌≡◌, ◌≤◌, ℕ, Bool, true, false, not, nat_eq, List, [], ◌∷◌, ◌++◌, length, refl, sym, ap}
+use Rattle.std.proofs.Common.{◌∙◌, subst, arith}
 use Rattle.std.specs.Prelude.{◌||◌}
 use Rattle.std.specs.List.{range_with_len}
-use Rattle.ason_base.specs.declared.ids.NodeId.{NodeId}
-use Rattle.ason_base.specs.declared.commands.Disturb.{Disturb}
 use Rattle.ason_base.specs.Network.{Network}
+use Rattle.ason_base.specs.declared.commands.Disturb.{Disturb}
+use Rattle.ason_base.specs.declared.ids.NodeId.{NodeId}
 use Rattle.world_rules.specs.Worlds.{World, start}
 use Rattle.world_merge.specs.Deeds.{alone, alone_from, sent_by}
 use Rattle.world_merge.proofs.Growing.{deeds-grow}
@@ -15,11 +15,7 @@ use Rattle.round_rules.specs.Doings.{Doing, deeds_in}
 use Rattle.round_rules.specs.Records.{Record}
 use Rattle.round_rules.specs.Rings.{count_of, got_from, handed, is_in, standing, without}
 use Rattle.round_rules.proofs.Desks.{deeds-more}
-use Rattle.station_doings.specs.declared.turns.Turn.{Turn}
-use Rattle.station_doings.specs.declared.turns.Turn.TheVariants.{Worked, Idle, AtLimit, Starved}
-use Rattle.fleet_rounds.specs.OneWorker.{IsPartRound}
-use Rattle.fleet_rounds.specs.OneWorker.{is_among}
-use Rattle.fleet_rounds.specs.Turns.{comes_to_end, is_starved}
+use Rattle.fleet_rounds.specs.OneWorker.{IsPartRound, is_among}
 use Rattle.fleet_rounds.proofs.Got.{got-more}
 use Rattle.fleet_rounds.proofs.Handing.{handed-later}
 use Rattle.fleet_rounds.proofs.Numbers.{in-without, in_filter, rises-all, without-fewer}
@@ -97,13 +93,6 @@ module _ (t : Network) (lines : List Disturb) (before q : Record) (ns : List Nod
       go false e =
           subst (λ ds. length (without (got_from n ds) (handed t before n d)) ≤ length (standing t before n d))
           (sym (part_of.others d.0 e)) (omega arith)
-
--- turns that came to their end didn't starve
-pub not-starved : (e : Turn) → comes_to_end e ≡ true → is_starved e ≡ false
-not-starved (Worked k) h = refl
-not-starved Idle h = refl
-not-starved AtLimit h = absurd (cc (h))
-not-starved Starved h = absurd (cc (h))
 
 pub among-more : (ns : List NodeId) (n : NodeId) (m : ℕ) → is_among (ns ++ n ∷ []) m ≡ (is_among ns m || nat_eq n.0 m)
 among-more [] n m = or_false (nat_eq n.0 m)

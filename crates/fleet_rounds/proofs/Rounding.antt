@@ -1,10 +1,10 @@
 -- The record after the turns of all stations.
-use Rattle.std.proofs.Common.{◌≡◌, ℕ, Bool, true, false, cond, List, [], ◌++◌, filter, map, refl, sym}
-use Rattle.std.proofs.Common.{ap, ◌∙◌, subst, append-nil}
+use Rattle.std.proofs.Common.{◌≡◌, ℕ, Bool, true, false, cond, List, [], ◌++◌, filter, map, refl, sym, ap, ◌∙◌, subst}
+use Rattle.std.proofs.Common.{append-nil}
 use Rattle.std.specs.List.{AllZip, Contains}
-use Rattle.ason_base.specs.declared.ids.NodeId.{NodeId}
-use Rattle.ason_base.specs.declared.commands.Disturb.{Disturb}
 use Rattle.ason_base.specs.Network.{IsTopology, Network, is_node_id}
+use Rattle.ason_base.specs.declared.commands.Disturb.{Disturb}
+use Rattle.ason_base.specs.declared.ids.NodeId.{NodeId}
 use Rattle.world_rules.specs.Runs.{is_channel, neighbours}
 use Rattle.world_rules.specs.Worlds.{start}
 use Rattle.world_merge.specs.Deeds.{AreDoable}
@@ -17,16 +17,17 @@ use Rattle.round_rules.specs.OneWorker.{ids_of}
 use Rattle.round_rules.specs.Records.{Record, deeds_at}
 use Rattle.station_doings.specs.Moves.{HasMoved, IsDrained}
 use Rattle.station_doings.specs.States.{IsStationOf, StationState}
+use Rattle.station_doings.specs.Turned.{comes_to_end, is_at_limit}
 use Rattle.fleet_rounds.specs.Fleets.{AreStanding, HasGrown, IsNowhere, IsRingOf, IsStationAt, Wires}
-use Rattle.fleet_rounds.specs.Turns.{AfterTurns, HasMadeRound, comes_to_end}
-use Rattle.fleet_rounds.proofs.Choosing.{Beside, Between, Chosen, choose, zip-beside, zip-both, zip-equal, zip-from-map}
-use Rattle.fleet_rounds.proofs.Choosing.{zip-mapped, zip-more, zip-then}
+use Rattle.fleet_rounds.specs.Turns.{AfterTurns, HasMadeRound}
+use Rattle.fleet_rounds.proofs.Choosing.{Beside, Between, Chosen, choose, zip-beside, zip-both, zip-equal}
+use Rattle.fleet_rounds.proofs.Choosing.{zip-from-map, zip-mapped, zip-more, zip-then}
 use Rattle.fleet_rounds.proofs.Counting.{RingFacts, drops_over, facts-after}
-use Rattle.fleet_rounds.proofs.Done.{FirstTurn, HaveDone, have-done, near-done}
-use Rattle.fleet_rounds.proofs.OneTurn.{HasDone}
+use Rattle.fleet_rounds.proofs.Done.{FirstTurn, HaveDone, IsHalt, have-done, near-done}
 use Rattle.fleet_rounds.proofs.Links.{ends-stay}
 use Rattle.fleet_rounds.proofs.NoPosts.{posts-more}
 use Rattle.fleet_rounds.proofs.Nodes.{JoinsNodes, among-ids, apart-ids, apart-near, joins-nodes, node-there}
+use Rattle.fleet_rounds.proofs.OneTurn.{HasDone}
 use Rattle.fleet_rounds.proofs.Turned.{peers_of}
 use Rattle.fleet_rounds.proofs.Wired.{ChannelEnds, channel-ends, link-count, link-peer, link-taken, peers-near}
 
@@ -67,6 +68,7 @@ module _ (t : Network) (lines : List Disturb) (r : Record) (wires : Wires) where
     pub old : StationState
     pub was : IsStationAt t lines r wires n old
     pub first : comes_to_end y.end ≡ true → FirstTurn t n true (r.doings n.0) old y.station done.added
+    pub halt : is_at_limit y.end ≡ true → IsHalt t lines n true (r.doings n.0) old y.station done.added
 
 module _ (t : Network) (lines : List Disturb) (r : Record) (wires : Wires) (many : ℕ) (valid : IsTopology t) where
   abbrev Row : NodeId → NodeId → LinkState → LinkState → Type 0
@@ -97,6 +99,7 @@ module _ (t : Network) (lines : List Disturb) (r : Record) (wires : Wires) (many
       old = b.mid;
       was = b.one;
       first = h.first;
+      halt = h.halt;
     },
   )
     where

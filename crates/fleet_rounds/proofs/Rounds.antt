@@ -3,9 +3,9 @@ use Rattle.std.proofs.Common.{◌≡◌, ◌≤◌, ℕ, Bool, true, false, cond
 use Rattle.std.proofs.Common.{arith, append-nil, inl, inr}
 use Rattle.std.specs.Prelude.{◌||◌, Some, None}
 use Rattle.std.specs.List.{AllByRecursion, AllZip, Contains}
-use Rattle.ason_base.specs.declared.ids.NodeId.{NodeId}
-use Rattle.ason_base.specs.declared.commands.Disturb.{Disturb}
 use Rattle.ason_base.specs.Network.{Network, is_node_id}
+use Rattle.ason_base.specs.declared.commands.Disturb.{Disturb}
+use Rattle.ason_base.specs.declared.ids.NodeId.{NodeId}
 use Rattle.world_rules.specs.Runs.{is_channel, neighbours}
 use Rattle.round_rules.specs.Doings.{Doing, Left, Waiting}
 use Rattle.round_rules.specs.OneWorker.{ids_of}
@@ -14,23 +14,24 @@ use Rattle.round_rules.specs.Rings.{count_of, got_from, is_in, standing}
 use Rattle.round_rules.specs.Rounds.{DropsAt, IsRound, IsRoundAt, TakesInOrder, TakesWhatWasSent}
 use Rattle.round_rules.specs.Unfinished.{HasLeft, IsCutAt, IsUnfinished}
 use Rattle.station_doings.specs.States.{StationState}
-use Rattle.station_doings.specs.declared.turns.Turn.{Turn}
-use Rattle.station_doings.specs.declared.turns.Turn.TheVariants.{Worked, Idle, AtLimit, Starved}
+use Rattle.station_doings.specs.Turned.{comes_to_end, is_at_limit, is_starved}
 use Rattle.fleet_rounds.specs.Fleets.{AreKnown, AreStanding, Wires}
-use Rattle.fleet_rounds.specs.Rounding.{AreHalted, HasHaltedFull, TurnsMakeARound}
-use Rattle.fleet_rounds.specs.Turns.{AfterTurns, HasMadeRound, comes_to_end, is_at_limit, is_starved}
-use Rattle.fleet_rounds.proofs.Choosing.{Beside, zip-first}
-use Rattle.fleet_rounds.proofs.Counting.{RingFacts, drops-at, drops_over, stands-count, takes-all, takes-rise}
-use Rattle.fleet_rounds.proofs.Counting.{taken-handed}
-use Rattle.fleet_rounds.proofs.OneTurn.{EndsCut}
+use Rattle.fleet_rounds.specs.Rounding.{AreHalted, HasHaltedFull, IsLeftAt, TurnsMakeARound}
+use Rattle.fleet_rounds.specs.Turns.{AfterTurns, HasMadeRound}
+use Rattle.fleet_rounds.proofs.Choosing.{Beside, zip-first, zip-more}
+use Rattle.fleet_rounds.proofs.Counting.{RingFacts, drops-at, drops_over, stands-count, taken-handed, takes-all}
+use Rattle.fleet_rounds.proofs.Counting.{takes-rise}
 use Rattle.fleet_rounds.proofs.Got.{got-more}
+use Rattle.fleet_rounds.proofs.Handing.{handed-in}
 use Rattle.fleet_rounds.proofs.Looking.{known-have-begun}
+use Rattle.fleet_rounds.proofs.NoLefts.{leaves-added}
 use Rattle.fleet_rounds.proofs.NoPosts.{whole-cut}
 use Rattle.fleet_rounds.proofs.Nodes.{among-ids, channel-near, near-there, there-among}
-use Rattle.fleet_rounds.proofs.Handing.{handed-in}
 use Rattle.fleet_rounds.proofs.Numbers.{in-append}
-use Rattle.fleet_rounds.proofs.Rounding.{grown-now, after-turns, dropped-now, elsewhere, moves, now-all, now-at}
-use Rattle.fleet_rounds.proofs.Rounding.{ring-facts, standing-after, stands-now, wires-after, Now}
+use Rattle.fleet_rounds.proofs.OneTurn.{EndsCut}
+use Rattle.fleet_rounds.proofs.Rounding.{Now, after-turns, dropped-now, elsewhere, grown-now, moves, now-all, now-at}
+use Rattle.fleet_rounds.proofs.Rounding.{ring-facts, standing-after, stands-now, wires-after}
+use Rattle.fleet_rounds.proofs.TurnEnds.{all-ended, not-starved}
 use Rattle.fleet_rounds.proofs.Wired.{one-of}
 
 module _ (t : Network) (lines : List Disturb) (r : Record) (wires : Wires) (many : ℕ) (xs : List StationState)
@@ -63,6 +64,14 @@ module _ (t : Network) (lines : List Disturb) (r : Record) (wires : Wires) (many
     later = tt;
     may = tt;
   }
+
+  left_at : (n : NodeId) (y : AfterTurns) → Here n y → IsLeftAt r later n y
+  left_at n y is = leaves-added r later n is.done.added is.whole_is ∙ is.done.left
+
+  -- a node left an input just where its turns ended at the limit
+  lefts : AllZip (IsLeftAt r later) (ids_of t) ys
+  lefts =
+      zip-more Here (IsLeftAt r later) left_at (ids_of t) ys (now-all t lines r wires many xs ys all turned)
 
   -- Once all is known again
 
@@ -108,15 +117,9 @@ module _ (t : Network) (lines : List Disturb) (r : Record) (wires : Wires) (many
       order = order n;
       sent =
           sent_of n is.done.added [] (is.whole_is ∙ ap (λ ds. r.doings n.0 ++ ds) (sym (append-nil is.done.added)))
-          (is.done.from_near (not_starved y.end ended));
+          (is.done.from_near (not-starved y.end ended));
     }
       where
-        not_starved : (e : Turn) → comes_to_end e ≡ true → is_starved e ≡ false
-        not_starved (Worked k) h = refl
-        not_starved Idle h = refl
-        not_starved AtLimit h = absurd (cc (h))
-        not_starved Starved h = absurd (cc (h))
-
         taken : (u : NodeId) (k : ℕ) → is_channel t u n ≡ true → is_in (standing t r u n) k ≡ true →
             is_in (got_from u is.done.added) k ≡ true
         taken u k joined h =
@@ -186,13 +189,7 @@ module _ (t : Network) (lines : List Disturb) (r : Record) (wires : Wires) (many
       where
         go : (b : Bool) → is_at_limit y.end ≡ b → IsCutAt t lines r later n
         go true e = (cut_at n y is e (h.full e) h.fed).0
-        go false e = whole_at n y is (ends y.end h.fed e)
-          where
-            ends : (e : Turn) → is_starved e ≡ false → is_at_limit e ≡ false → comes_to_end e ≡ true
-            ends (Worked k) f g = refl
-            ends Idle f g = refl
-            ends AtLimit f g = absurd (cc (g))
-            ends Starved f g = absurd (cc (f))
+        go false e = whole_at n y is (all-ended y.end h.fed e)
 
     has_left : AreHalted ys → (n : NodeId) × HasLeft t lines r later n
     has_left h = (
@@ -236,6 +233,7 @@ turns-make-a-round t lines r wires many xs ys all known turned = record {
   wires_after = wires-after t lines r wires many xs ys all turned;
   stands = standing-after t lines r wires many xs ys all turned;
   grown = grown-now t lines r wires many xs ys all turned;
+  left = lefts t lines r wires many xs ys all turned known;
   round = is_round t lines r wires many xs ys all turned known;
   unfinished = is_unfinished t lines r wires many xs ys all turned known;
 }

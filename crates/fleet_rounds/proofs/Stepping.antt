@@ -1,38 +1,39 @@
 -- With one worker a node makes its turns, and the round goes on.
-use Rattle.std.proofs.Common.{◌≡◌, ◌≤◌, ℕ, Bool, true, false, cond, nat_eq, List, [], ◌∷◌, ◌++◌, length, refl}
-use Rattle.std.proofs.Common.{sym, ap, ◌∙◌, subst, arith, append-nil}
-use Rattle.std.specs.Prelude.{◌||◌}
+use Rattle.std.proofs.Common.{◌≡◌, ◌≤◌, ℕ, Bool, true, false, cond, nat_eq, List, [], ◌∷◌, ◌++◌, length, refl, sym}
+use Rattle.std.proofs.Common.{ap, ◌∙◌, subst, arith, append-nil}
+use Rattle.std.specs.Prelude.{◌||◌, None}
 use Rattle.std.specs.List.{AllZip}
 use Rattle.std.proofs.lemmas.List.Sums.{fold-append}
 use mathlib.Core.List.{IsPrefix}
 use Rattle.rtrb.specs.Ring.{received}
-use Rattle.ason_base.specs.declared.ids.NodeId.{NodeId}
-use Rattle.ason_base.specs.declared.commands.Disturb.{Disturb}
 use Rattle.ason_base.specs.Network.{Network, is_node_id}
+use Rattle.ason_base.specs.declared.commands.Disturb.{Disturb}
+use Rattle.ason_base.specs.declared.ids.NodeId.{NodeId}
 use Rattle.hop_reliable.proofs.Members.{each-more}
 use Rattle.world_rules.specs.Runs.{is_channel}
 use Rattle.world_rules.proofs.Stepping.{self_test}
 use Rattle.world_merge.specs.Deeds.{sent_by}
 use Rattle.station_rings.specs.LinkStates.{gone_of}
 use Rattle.round_rules.specs.Doings.{Doing, deeds_in}
-use Rattle.round_rules.specs.OneWorker.{ids_of, node_round}
+use Rattle.round_rules.specs.OneWorker.{RoundEnd, ids_of, node_round}
 use Rattle.round_rules.specs.Records.{Record}
 use Rattle.round_rules.specs.Rings.{count_of, standing}
 use Rattle.round_rules.specs.Rounds.{DropsAt, MayDrop, NumbersRise}
 use Rattle.round_rules.specs.Turns.{IsTurnOf}
 use Rattle.station_doings.specs.States.{StationState}
+use Rattle.station_doings.specs.Turned.{comes_to_end}
 use Rattle.fleet_rounds.specs.Fleets.{HasBegun, IsStationAt, Wires}
-use Rattle.fleet_rounds.specs.OneWorker.{IsKnownAround, IsPartAt, IsPartRound, IsPlaced}
-use Rattle.fleet_rounds.specs.OneWorker.{IsUnderWay, is_among}
-use Rattle.fleet_rounds.specs.Turns.{AfterTurns, HasMadeRound, comes_to_end}
-use Rattle.fleet_rounds.proofs.Alone.{drops-alone, dropped-apart, dropped-else, later, now, part}
-use Rattle.fleet_rounds.proofs.Alone.{row, standing-alone, takes-alone, wired}
-use Rattle.fleet_rounds.proofs.Choosing.{Between}
+use Rattle.fleet_rounds.specs.OneWorker.{IsKnownAround, IsPartAt, IsPartRound, IsPlaced, IsUnderWay, is_among}
+use Rattle.fleet_rounds.specs.Turns.{AfterTurns, HasMadeRound}
+use Rattle.fleet_rounds.proofs.Alone.{dropped-apart, dropped-else, drops-alone, later, now, part, row, standing-alone}
+use Rattle.fleet_rounds.proofs.Alone.{takes-alone, wired}
 use Rattle.fleet_rounds.proofs.Begun.{all-begun}
+use Rattle.fleet_rounds.proofs.Choosing.{Between}
 use Rattle.fleet_rounds.proofs.Nodes.{channel-near, joins-nodes, same-node}
 use Rattle.fleet_rounds.proofs.OneNode.{is-node-round}
-use Rattle.fleet_rounds.proofs.Partial.{among-more, not-starved, other-way, standing-fewer, standing-still}
+use Rattle.fleet_rounds.proofs.Partial.{among-more, other-way, standing-fewer, standing-still}
 use Rattle.fleet_rounds.proofs.Rounding.{TurnedAt}
+use Rattle.fleet_rounds.proofs.TurnEnds.{not-starved}
 
 -- One node more
 
@@ -200,7 +201,8 @@ module _ (t : Network) (lines : List Disturb) (before : Record) (ns : List NodeI
         (begun-here looked);
     part = part_now ended;
     exact =
-        is-node-round t lines q w xs way.stands way.begun n node many y b around.out ys placed around.into
-        (begun-here looked) ended
-        ∙ ap (λ r. node_round t lines r n) way.exact ∙ sym (fold-append (node_round t lines) before ns (n ∷ []));
+        fold-append (node_round t lines) (record { made = before; stopped = None }) ns (n ∷ [])
+        ∙ ap (λ (e : RoundEnd). node_round t lines e n) way.exact
+        ∙ is-node-round t lines q w xs way.stands way.begun n node many y b around.out ys placed around.into
+        (begun-here looked) ended;
   }

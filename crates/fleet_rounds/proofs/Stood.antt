@@ -21,10 +21,11 @@ no_items : {X : Type 0} (xs : List X) → length xs ≡ 0 → xs ≡ []
 no_items [] e = refl
 no_items (x ∷ xs) e = absurd (omega (arith, e))
 
--- The first turn takes all, and the later ones nothing.
+-- The first turn takes all, the later ones nothing, and nothing waits.
 pub record TakesWhatStood (a b c : LinkState) (f : HasMoved a b) (g : HasMoved b c) : Type 0 where
   pub first : f.takes ≡ a.early ++ known_items a.into
   pub later : g.takes ≡ []
+  pub nothing : c.early ≡ []
 
 -- Where nothing more came than was known, the first turn takes all that stood, and later ones nothing.
 pub takes-what-stood : (a b c : LinkState) (f : HasMoved a b) (g : HasMoved b c) (gone : List Parcel) → IsDrained a b →
@@ -32,6 +33,7 @@ pub takes-what-stood : (a b c : LinkState) (f : HasMoved a b) (g : HasMoved b c)
 takes-what-stood a b c f g gone drained whole begun = record {
   first = all_first;
   later = no_items g.takes (omega (arith, counts, few, many));
+  nothing = no_items c.early (omega (arith, counts, few, many));
 }
   where
     more : List Parcel

@@ -1,11 +1,11 @@
 -- With one worker a round is over where a node halts at its limit.
-use Rattle.std.proofs.Common.{◌≡◌, ◌≤◌, ℕ, Bool, true, false, nat_eq, List, [], ◌∷◌, ◌++◌, length, refl}
-use Rattle.std.proofs.Common.{inl, inr, sym, ap, ◌∙◌, subst, arith, append-nil}
-use Rattle.std.specs.Prelude.{◌||◌, Some, None}
+use Rattle.std.proofs.Common.{◌≡◌, List, [], ◌∷◌, ◌++◌, length, refl, sym, ap, ◌∙◌, arith, append-nil, true, false, ℕ}
+use Rattle.std.proofs.Common.{subst, inl, inr, ◌≤◌, Bool, nat_eq, ◌<◌}
+use Rattle.std.specs.Prelude.{None, Some, ◌||◌}
 use Rattle.std.specs.List.{AllZip}
-use Rattle.ason_base.specs.declared.ids.NodeId.{NodeId}
-use Rattle.ason_base.specs.declared.commands.Disturb.{Disturb}
 use Rattle.ason_base.specs.Network.{Network, is_node_id}
+use Rattle.ason_base.specs.declared.commands.Disturb.{Disturb}
+use Rattle.ason_base.specs.declared.ids.NodeId.{NodeId}
 use Rattle.world_rules.specs.Runs.{is_channel}
 use Rattle.world_merge.specs.Logs.{log_of}
 use Rattle.round_rules.specs.Doings.{Doing, Left, Waiting, deeds_in}
@@ -14,32 +14,34 @@ use Rattle.round_rules.specs.OneWorker.{ids_of}
 use Rattle.round_rules.specs.Records.{Record, log_at}
 use Rattle.round_rules.specs.Rings.{count_of, got_from, is_in}
 use Rattle.round_rules.specs.Rounds.{TakesInOrder, TakesWhatWasSent}
-use Rattle.round_rules.specs.Unfinished.{IsCutAt, IsUnfinished}
+use Rattle.round_rules.specs.Unfinished.{IsCutAt, IsUnfinished, IsUnfinishedBy, leaves}
 use Rattle.station_doings.specs.States.{StationState}
+use Rattle.station_doings.specs.Turned.{is_at_limit}
 use Rattle.fleet_rounds.specs.Fleets.{AreStanding, HasBegun, IsStationAt, Wires}
-use Rattle.fleet_rounds.specs.OneWorker.{AllBegun, IsKnownAround, IsPartAt, IsPlaced}
-use Rattle.fleet_rounds.specs.OneWorker.{IsUnderWay, NodesGoOn, is_among}
+use Rattle.fleet_rounds.specs.OneWorker.{AllBegun, AreNext, IsKnownAround, IsPartAt, IsPlaced, IsUnderWay, NodesGoOn}
+use Rattle.fleet_rounds.specs.OneWorker.{is_among}
 use Rattle.fleet_rounds.specs.Rounding.{HasHaltedFull}
-use Rattle.fleet_rounds.specs.Turns.{AfterTurns, HasMadeRound, is_at_limit}
-use Rattle.fleet_rounds.proofs.Alone.{later, now, part}
-use Rattle.fleet_rounds.proofs.Alone.{grown-alone, standing-alone, wired}
-use Rattle.fleet_rounds.proofs.Choosing.{Between}
+use Rattle.fleet_rounds.specs.Turns.{AfterTurns, HasMadeRound}
+use Rattle.fleet_rounds.proofs.Alone.{grown-alone, later, now, part, standing-alone, wired}
 use Rattle.fleet_rounds.proofs.Begun.{all-begun}
+use Rattle.fleet_rounds.proofs.Choosing.{Between}
 use Rattle.fleet_rounds.proofs.Counting.{RingFacts, taken-handed, takes-rise}
-use Rattle.fleet_rounds.proofs.OneTurn.{EndsCut}
 use Rattle.fleet_rounds.proofs.Got.{got-more}
+use Rattle.fleet_rounds.proofs.Handing.{handed-in}
+use Rattle.fleet_rounds.proofs.Next.{next-fresh, next-known, stops-at}
+use Rattle.fleet_rounds.proofs.NoLefts.{leaves-added, turn-none}
 use Rattle.fleet_rounds.proofs.NoPosts.{no-turn, whole-cut}
 use Rattle.fleet_rounds.proofs.Nodes.{channel-near, same-node}
-use Rattle.fleet_rounds.proofs.Handing.{handed-in}
 use Rattle.fleet_rounds.proofs.Numbers.{in-append}
+use Rattle.fleet_rounds.proofs.OneHalt.{ends-here}
+use Rattle.fleet_rounds.proofs.OneTurn.{EndsCut}
 use Rattle.fleet_rounds.proofs.Rounding.{TurnedAt, ring-facts}
--- One node more
 use Rattle.fleet_rounds.proofs.Stepping.{begun-here, drops-now, elsewhere, goes-on, here-did, other-than, was-still}
 
 module _ (t : Network) (lines : List Disturb) (before : Record) (ns : List NodeId) (q : Record) (w : Wires)
     (xs : List StationState) (n : NodeId) (many : ℕ) (y : AfterTurns) (ys : List StationState)
     (way : IsUnderWay t lines before ns q w xs) (node : is_node_id t.nodes n ≡ true)
-    (fresh : is_among ns n.0 ≡ false) (around : IsKnownAround t w n)
+    (fresh : is_among ns n.0 ≡ false) (next : AreNext t ns n) (around : IsKnownAround t w n)
     (b : Between (IsStationAt t lines q w) (HasMadeRound many) n y)
     (placed : AllZip (IsPlaced t lines q w n y.station) (ids_of t) ys) where
   abbrev after : Record
@@ -47,9 +49,6 @@ module _ (t : Network) (lines : List Disturb) (before : Record) (ns : List NodeI
 
   abbrev turned : TurnedAt t lines q w n y (part t lines q w xs way.stands n node many y b around.out ys placed).0
   turned = now t lines q w xs way.stands n node many y b around.out ys placed
-
-  abbrev did : List Doing
-  did = (part t lines q w xs way.stands n node many y b around.out ys placed).0.0
 
   abbrev wires : Wires
   wires = wired t lines q w xs way.stands n node many y b around.out ys placed
@@ -130,6 +129,12 @@ module _ (t : Network) (lines : List Disturb) (before : Record) (ns : List NodeI
       sent = λ u k h. absurd (cc (h));
     }
 
+    full_now : length (log_at after n.0) ≡ 50000
+    full_now =
+        ap (λ ks. length (log_of n (deeds_in ks))) ((here-did t lines before ns q w xs n many y ys way node fresh
+        around b placed) ∙ turned.whole_is)
+        ∙ ap length (sym turned.done.stands.stands.sound.log) ∙ halted.full limit
+
     cut_here : (cut : IsCutAt t lines before after n) × ((i : Waiting) × (cut.left ≡ Some i))
     cut_here = (
       record {
@@ -138,7 +143,7 @@ module _ (t : Network) (lines : List Disturb) (before : Record) (ns : List NodeI
         all = whole;
         cut = subst (λ ks. IsCutTurnOf t lines n true ks c.made) (was-still t lines before ns q w xs n many y ys way
             node fresh around b placed) c.cut;
-        limit = inr full;
+        limit = inr full_now;
         order = order_now n;
         sent = sent_now n c.made (Left c.left ∷ []) whole near;
       },
@@ -157,12 +162,6 @@ module _ (t : Network) (lines : List Disturb) (before : Record) (ns : List NodeI
             channel-near t n u (turned.done.from_near halted.fed u k (ap (λ ks. is_in (got_from u ks) k) c.all
             ∙ ap (λ ks. is_in ks k) (got-more u c.made (Left c.left ∷ []))
             ∙ in-append (got_from u c.made) [] k ∙ ap (λ x. x || false) h))
-
-        full : length (log_at after n.0) ≡ 50000
-        full =
-            ap (λ ks. length (log_of n (deeds_in ks))) ((here-did t lines before ns q w xs n many y ys way node fresh
-            around b placed) ∙ turned.whole_is)
-            ∙ ap length (sym turned.done.stands.stands.sound.log) ∙ halted.full limit
 
     cut_at : (m : NodeId) (c d : Bool) → is_among ns m.0 ≡ c → nat_eq m.0 n.0 ≡ d → IsCutAt t lines before after m
     cut_at m true d e f = cut_earlier m e
@@ -189,16 +188,65 @@ module _ (t : Network) (lines : List Disturb) (before : Record) (ns : List NodeI
       some = (n, record { known = node; cut = cut_here.0; input = cut_here.1.0; left = cut_here.1.1 });
     }
 
+    -- Where it stops
+
+    left_here : leaves before after n ≡ true
+    left_here =
+        leaves-added before after n turned.done.added (here-did t lines before ns q w xs n many y ys way node fresh
+        around b placed ∙ turned.whole_is ∙ ap (λ ks. ks ++ turned.done.added)
+        (was-still t lines before ns q w xs n many y ys way node fresh around b placed))
+        ∙ turned.done.left ∙ limit
+
+    -- other nodes came to their end, or made no turn
+    left_none : (m : NodeId) (c : Bool) → is_among ns m.0 ≡ c → nat_eq m.0 n.0 ≡ false → leaves before after m ≡ false
+    left_none m true e other =
+        let p : IsPartAt t lines before q m = way.part.nodes m e in
+        leaves-added before after m p.added
+        (elsewhere t lines before ns q w xs n many y ys way node fresh around b placed m.0 other ∙ p.all)
+        ∙ turn-none t lines m true (before.doings m.0) p.added p.turn
+    left_none m false e other =
+        leaves-added before after m []
+        (elsewhere t lines before ns q w xs n many y ys way node fresh around b placed m.0 other ∙ way.part.others m.0 e
+        ∙ sym (append-nil (before.doings m.0)))
+
+    below : (m : NodeId) → m.0 < n.0 → nat_eq m.0 n.0 ≡ false
+    below m h = go (nat_eq m.0 n.0) refl
+      where
+        go : (c : Bool) → nat_eq m.0 n.0 ≡ c → nat_eq m.0 n.0 ≡ false
+        go true e =
+            let same : m.0 ≡ n.0 = ap (λ (v : NodeId). v.0) (same-node m n e) in absurd (omega (arith, h, same))
+        go false e = e
+
+    is_stopped : IsUnfinishedBy t lines 1 before after n
+    is_stopped = record {
+      unfinished = is_over;
+      stopped = record {
+        known = node;
+        left = left_here;
+        least = λ m there h. left_none m (is_among ns m.0) refl (below m h);
+        full = full_now;
+      };
+      one = λ e. stops-at t lines before q after ns n next way.exact
+          (ends-here t lines q w xs way.stands way.begun n node many y b around.out ys placed around.into
+          (begun-here t lines before ns q w xs n many y ys way node fresh around b placed looked) limit);
+    }
+
 -- A node makes its turns: the round goes on, or is over.
 pub nodes-go-on : NodesGoOn
-nodes-go-on t lines before ns q w xs n x many y ys way node fresh around is made placed = record {
+nodes-go-on t lines before ns q w xs n x many y ys way next around is made placed = record {
   after = later t lines q w xs way.stands n node many y b around.out ys placed;
   wires_after = wired t lines q w xs way.stands n node many y b around.out ys placed;
   stands = standing-alone t lines q w xs way.stands n node many y b around.out ys placed;
   grown = grown-alone t lines q w xs way.stands n node many y b around.out ys placed;
   goes_on = goes-on t lines before ns q w xs n many y ys way node fresh around b placed;
-  ends = is_over t lines before ns q w xs n many y ys way node fresh around b placed;
+  ends = is_stopped t lines before ns q w xs n many y ys way node fresh next around b placed;
 }
   where
+    node : is_node_id t.nodes n ≡ true
+    node = next-known t ns n next
+
+    fresh : is_among ns n.0 ≡ false
+    fresh = next-fresh t way.stands.valid ns n next
+
     b : Between (IsStationAt t lines q w) (HasMadeRound many) n y
     b = record { mid = x; one = is; two = made }

@@ -1,12 +1,11 @@
 -- One turn of a station, as a turn of its node.
-use Rattle.std.proofs.Common.{◌≡◌, ◌+◌, ℕ, Bool, true, false, cond, nat_le, List, [], ◌∷◌, filter, map, refl, sym, ap}
-use Rattle.std.proofs.Common.{◌∙◌, subst}
-use Rattle.std.proofs.Common.{inl, inr}
+use Rattle.std.proofs.Common.{◌≡◌, ◌+◌, ℕ, Bool, true, false, cond, nat_le, List, [], ◌∷◌, ◌++◌, filter, map, refl}
+use Rattle.std.proofs.Common.{sym, ap, ◌∙◌, subst, inl, inr}
 use Rattle.std.specs.List.{AllByRecursion, AllZip, Contains}
 use Rattle.std.proofs.lemmas.List.Sums.{fold-append}
-use Rattle.ason_base.specs.declared.ids.NodeId.{NodeId}
-use Rattle.ason_base.specs.declared.commands.Disturb.{Disturb}
 use Rattle.ason_base.specs.Network.{Network}
+use Rattle.ason_base.specs.declared.commands.Disturb.{Disturb}
+use Rattle.ason_base.specs.declared.ids.NodeId.{NodeId}
 use Rattle.ason_base.proofs.Ordered.{contains-head, contains-tail}
 use Rattle.hop_reliable.proofs.Members.{each-append, each-more}
 use Rattle.world_merge.specs.Deeds.{Ticked}
@@ -21,8 +20,7 @@ use Rattle.round_rules.specs.Takings.{IsTaking, Taking}
 use Rattle.round_rules.specs.Turns.{IsTurnOf}
 use Rattle.station_doings.specs.Stands.{frame_of, parcel_ticked}
 use Rattle.station_doings.specs.States.{IsStationOf, StationState}
-use Rattle.station_doings.specs.Turned.{HaveComeTo, IsPoppedAs, IsPoppedHeld}
-use Rattle.station_doings.specs.Turned.{all_of, due_parcels}
+use Rattle.station_doings.specs.Turned.{AreUntouched, HaveComeTo, IsPoppedAs, IsPoppedHeld, all_of, due_parcels}
 use Rattle.station_doings.specs.declared.held.HeldParcel.{HeldParcel}
 
 -- Held frames that are due
@@ -80,6 +78,17 @@ from_peer u ns (q ∷ qs) [] there all = absurd all
 from_peer u ns (q ∷ qs) (p ∷ ps) there all =
     (subst (λ (v : NodeId). Contains ns v) (sym all.0.from_it) there, from_peer u ns qs ps there all.1)
 
+-- nothing is popped of links that are untouched
+pub untouched-none : (links after : List LinkState) (pops : List (List Popped)) → AreUntouched links after pops →
+    all_of pops ≡ []
+untouched-none [] [] [] all = refl
+untouched-none [] [] (ps ∷ pops) all = absurd all
+untouched-none [] (m ∷ after) pops all = absurd all
+untouched-none (l ∷ links) [] pops all = absurd all
+untouched-none (l ∷ links) (m ∷ after) [] all = absurd all
+untouched-none (l ∷ links) (m ∷ after) (ps ∷ pops) all =
+    ap (λ qs. qs ++ all_of pops) all.1 ∙ untouched-none links after pops all.2
+
 -- All that is popped comes from the neighbours over the links.
 pub from-peers : (halted : Bool) (links after : List LinkState) (pops : List (List Popped)) →
     HaveComeTo halted links after pops →
@@ -89,13 +98,18 @@ from-peers halted [] [] (ps ∷ pops) all = absurd all
 from-peers halted [] (m ∷ after) pops all = absurd all
 from-peers halted (l ∷ links) [] pops all = absurd all
 from-peers halted (l ∷ links) (m ∷ after) [] all = absurd all
-from-peers halted (l ∷ links) (m ∷ after) (ps ∷ pops) all =
+from-peers halted (l ∷ links) (m ∷ after) (ps ∷ pops) (inl all) =
     each-append (λ (p : Popped). Contains (peers_of (l ∷ links)) p.from) ps (all_of pops)
     (from_peer l.peer (peers_of (l ∷ links)) _ ps (contains-head l.peer (peers_of links)) all.0.are)
     (each-more (λ (p : Popped). Contains (peers_of links) p.from) (λ (p : Popped). Contains (peers_of (l ∷ links))
     p.from)
     (λ p there. contains-tail l.peer p.from (peers_of links) there) (all_of pops)
     (from-peers halted links after pops all.1))
+from-peers halted (l ∷ links) (m ∷ after) (ps ∷ pops) (inr all) =
+    each-append (λ (p : Popped). Contains (peers_of (l ∷ links)) p.from) ps (all_of pops)
+    (from_peer l.peer (peers_of (l ∷ links)) _ ps (contains-head l.peer (peers_of links)) all.1.are)
+    (subst (AllByRecursion (λ (p : Popped). Contains (peers_of (l ∷ links)) p.from))
+    (sym (untouched-none links after pops all.2)) tt)
 
 -- Lines that say the same
 

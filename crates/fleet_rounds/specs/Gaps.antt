@@ -8,7 +8,7 @@ use Rattle.ason_base.specs.Network.{Network, is_node_id}
 use Rattle.world_merge.specs.Deeds.{Deed, Posted, stamp_of}
 use Rattle.round_rules.specs.OneWorker.{ids_of}
 use Rattle.round_rules.specs.Records.{Record, deeds_at, posts_in}
-use Rattle.station_doings.specs.Ends.{IsAtLimit}
+use Rattle.station_doings.specs.Limits.{IsAtLimit}
 use Rattle.station_doings.specs.States.{StationState}
 use Rattle.fleet_rounds.specs.Fleets.{AreStanding, HasGrown, Wires}
 use Rattle.fleet_rounds.specs.OneWorker.{AllBegun}

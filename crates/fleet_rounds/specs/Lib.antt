@@ -1,3 +1,4 @@
+pub mod Commands
 pub mod Fleets
 pub mod Gaps
 pub mod Laws
@@ -5,3 +6,4 @@ pub mod Looks
 pub mod OneWorker
 pub mod Rounding
 pub mod Turns
+pub mod Waiting

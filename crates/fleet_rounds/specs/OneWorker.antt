@@ -1,5 +1,6 @@
 -- A round with one worker: the stations make their turns one after the other.
-use Rattle.std.specs.Prelude.{◌≡◌, ◌==◌, ◌⊎◌, ℕ, Bool, true, false, List, [], ◌∷◌, ◌++◌, Some, slice_get, slice_set}
+use Rattle.std.specs.Prelude.{◌≡◌, ◌==◌, ◌⊎◌, ℕ, Bool, true, false, List, [], ◌∷◌, ◌++◌, None, Some}
+use Rattle.std.specs.Prelude.{slice_get, slice_set}
 use Rattle.std.specs.List.{AllZip, list_any}
 use Rattle.ason_base.specs.declared.ids.NodeId.{NodeId}
 use Rattle.ason_base.specs.declared.commands.Disturb.{Disturb}
@@ -11,12 +12,13 @@ use Rattle.round_rules.specs.Records.{Record}
 use Rattle.round_rules.specs.Rings.{got_from, is_in, standing}
 use Rattle.round_rules.specs.Rounds.{DropsAt}
 use Rattle.round_rules.specs.Turns.{IsTurnOf}
-use Rattle.round_rules.specs.Unfinished.{IsRoundBy, IsUnfinished}
+use Rattle.round_rules.specs.Unfinished.{IsRoundBy, IsUnfinishedBy}
 use Rattle.station_doings.specs.States.{StationState}
+use Rattle.station_doings.specs.Turned.{comes_to_end, is_at_limit}
 use Rattle.fleet_rounds.specs.Fleets.{AreStanding, HasBegun, HasGrown, IsKnown, IsStationAt, Wires}
 use Rattle.fleet_rounds.specs.Looks.{AreLooked, AreStill, HasKept, HasLinks}
 use Rattle.fleet_rounds.specs.Rounding.{HasHaltedFull}
-use Rattle.fleet_rounds.specs.Turns.{AfterTurns, HasMadeRound, comes_to_end, is_at_limit}
+use Rattle.fleet_rounds.specs.Turns.{AfterTurns, HasMadeRound}
 
 abbrev pub AllBegun : Network → Wires → Type 0
 AllBegun t w = (u d : NodeId) → is_channel t u d ≡ true → HasBegun w u d
@@ -48,7 +50,7 @@ pub record IsUnderWay (t : Network) (lines : List Disturb) (before : Record) (ns
   pub stands : AreStanding t lines q w xs
   pub begun : AllBegun t w
   pub part : IsPartRound t lines before q ns
-  pub exact : q ≡ nodes_round t lines ns before
+  pub exact : nodes_round t lines ns before ≡ record { made = q; stopped = None }
 
 -- at the start no node made its part
 abbrev pub RoundsBegin : Type 0
@@ -70,7 +72,7 @@ pub record IsKnownAround (t : Network) (w : Wires) (n : NodeId) : Type 0 where
 
 -- The stations stand for a record after the turns of the node. A look at its rings after them shows that nothing more
 -- came than was known; then, where all turns came to their end, the round goes on, and where they ended at the limit it
--- is over.
+-- is over, at this node, since the nodes before it, which are those of lower number, came to their end.
 pub record HasTurnedAlone (t : Network) (lines : List Disturb) (before q : Record) (ns : List NodeId) (n : NodeId)
     (y : AfterTurns) (ys : List StationState) : Type 0 where
   pub after : Record
@@ -80,13 +82,17 @@ pub record HasTurnedAlone (t : Network) (lines : List Disturb) (before q : Recor
   pub goes_on : ((u : NodeId) → is_channel t u n ≡ true → HasBegun wires_after u n) → comes_to_end y.end ≡ true →
       IsUnderWay t lines before (ns ++ n ∷ []) after wires_after ys
   pub ends : ((u : NodeId) → is_channel t u n ≡ true → HasBegun wires_after u n) → HasHaltedFull y →
-      is_at_limit y.end ≡ true → IsUnfinished t lines before after
+      is_at_limit y.end ≡ true → IsUnfinishedBy t lines 1 before after n
+
+-- the node is the next one of the topology after these, in order of number
+abbrev pub AreNext : Network → List NodeId → NodeId → Type 0
+AreNext t ns n = (later : List NodeId) × (ids_of t ≡ ns ++ n ∷ later)
 
 abbrev pub NodesGoOn : Type 0
 NodesGoOn =
     (t : Network) (lines : List Disturb) (before : Record) (ns : List NodeId) (q : Record) (w : Wires)
     (xs : List StationState) (n : NodeId) (x : StationState) (many : ℕ) (y : AfterTurns) (ys : List StationState) →
-    IsUnderWay t lines before ns q w xs → is_node_id t.nodes n ≡ true → is_among ns n.0 ≡ false →
+    IsUnderWay t lines before ns q w xs → AreNext t ns n →
     IsKnownAround t w n → IsStationAt t lines q w n x → HasMadeRound many x y →
     AllZip (IsPlaced t lines q w n y.station) (ids_of t) ys → HasTurnedAlone t lines before q ns n y ys
 

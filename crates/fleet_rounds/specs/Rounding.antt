@@ -1,14 +1,17 @@
 -- Turns of all stations, on however many threads, are a round of the record.
 use Rattle.std.specs.Prelude.{◌≡◌, ℕ, true, false, List, length, map}
 use Rattle.std.specs.List.{AllByRecursion, AllZip, Contains}
+use Rattle.ason_base.specs.declared.ids.NodeId.{NodeId}
 use Rattle.ason_base.specs.declared.commands.Disturb.{Disturb}
 use Rattle.ason_base.specs.Network.{Network}
 use Rattle.round_rules.specs.Records.{Record}
 use Rattle.round_rules.specs.Rounds.{IsRound}
-use Rattle.round_rules.specs.Unfinished.{IsUnfinished}
+use Rattle.round_rules.specs.OneWorker.{ids_of}
+use Rattle.round_rules.specs.Unfinished.{IsUnfinished, leaves}
 use Rattle.station_doings.specs.States.{StationState}
+use Rattle.station_doings.specs.Turned.{comes_to_end, is_at_limit, is_starved}
 use Rattle.fleet_rounds.specs.Fleets.{AreKnown, AreStanding, HasGrown, Wires}
-use Rattle.fleet_rounds.specs.Turns.{AfterTurns, HasMadeRound, comes_to_end, is_at_limit, is_starved}
+use Rattle.fleet_rounds.specs.Turns.{AfterTurns, HasMadeRound}
 
 -- memory wasn't wanting, and where the turns ended at the limit the log is full
 pub record HasHaltedFull (y : AfterTurns) : Type 0 where
@@ -22,6 +25,10 @@ pub record AreHalted (ys : List AfterTurns) : Type 0 where
   pub there : Contains ys node
   pub limit : is_at_limit node.end ≡ true
 
+-- the node left an input just where its turns ended at the limit
+abbrev pub IsLeftAt : Record → Record → NodeId → AfterTurns → Type 0
+IsLeftAt before after n y = leaves before after n ≡ is_at_limit y.end
+
 -- The stations stand for a record after their turns. Once all that is in the rings is known again, whatever the links
 -- are then, it is seen that the turns were a round, where all came to their end, or one that a limit ends.
 pub record AreMade (t : Network) (lines : List Disturb) (r : Record) (ys : List AfterTurns) : Type 0 where
@@ -29,6 +36,7 @@ pub record AreMade (t : Network) (lines : List Disturb) (r : Record) (ys : List 
   pub wires_after : Wires
   pub stands : AreStanding t lines after wires_after (map (λ (y : AfterTurns). y.station) ys)
   pub grown : (m : ℕ) → HasGrown r after m
+  pub left : AllZip (IsLeftAt r after) (ids_of t) ys
   pub round : (w : Wires) (zs : List StationState) → AreStanding t lines after w zs → AreKnown t w →
       AllByRecursion (λ (y : AfterTurns). comes_to_end y.end ≡ true) ys → IsRound t lines r after
   pub unfinished : (w : Wires) (zs : List StationState) → AreStanding t lines after w zs → AreKnown t w →

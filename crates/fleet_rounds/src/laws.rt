@@ -1,5 +1,7 @@
 //! Laws of the stations of a fleet.
 
+ghost use Rattle.fleet_rounds.specs.Commands.{CutRoundsPostNothing, LinesStandFor, NewStationsStand, NoiseIsAStep};
+ghost use Rattle.fleet_rounds.specs.Commands.{NoiseStandsFor, PostsAreSteps, PostsStandFor, RoundsPostNothing};
 ghost use Rattle.fleet_rounds.specs.Gaps.{DeedsAreFew, LimitsAreLogs, PostsStillFollow, StampsAreFew};
 ghost use Rattle.fleet_rounds.specs.Laws.{StandingIsARecord};
 ghost use Rattle.fleet_rounds.specs.Looks.{KnownHaveBegun, LooksStand, LooksTell};
@@ -23,13 +25,14 @@ pub fn every_look()
 
 /// From a fleet in whose rings all is known each station makes its turns, on whatever thread: the stations stand for a
 /// record after them. It is a round of the record before where all turns came to their end, and one that a limit ends
-/// where some did not.
+/// where some did not. A node left an input just where its turns ended at its limit.
 pub fn every_round()
     ensures { TurnsMakeARound }
 {}
 
 /// With one worker the stations make their turns one after the other, with a look at a station's rings before its turns
-/// and one after them. The record is then that of a function, node by node, and at last a round.
+/// and one after them. The record is then that of a function, node by node, and at last a round, or one that ends at
+/// the first node that comes to its limit.
 pub fn every_worker()
     ensures begins { RoundsBegin }
     ensures placed { StationsArePlaced }
@@ -46,4 +49,23 @@ pub fn every_clock()
     ensures posts { PostsStillFollow }
     ensures deeds { DeedsAreFew }
     ensures limits { LimitsAreLogs }
+{}
+
+/// Stations that are new, at the two ends of new rings, stand for the record in which nothing was done.
+pub fn every_start()
+    ensures { NewStationsStand }
+{}
+
+/// Where a command is posted, the clock of each station goes on to one more than the greatest, and its desk is what the
+/// post makes of it: the stations stand for the record with the post at each number, which takes the world where the
+/// post takes it. Bytes that spell nothing are one deed more of their receiver, and a line that names a frame is one
+/// more of its station. In a round nothing is posted.
+pub fn every_command()
+    ensures posts { PostsStandFor }
+    ensures posted { PostsAreSteps }
+    ensures noise { NoiseStandsFor }
+    ensures noised { NoiseIsAStep }
+    ensures lines { LinesStandFor }
+    ensures rounds { RoundsPostNothing }
+    ensures cuts { CutRoundsPostNothing }
 {}

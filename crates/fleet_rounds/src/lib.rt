@@ -3,4 +3,6 @@
 
 pub mod laws;
 
-pub use laws::{every_clock, every_fleet, every_look, every_round, every_worker};
+pub use laws::{
+    every_clock, every_command, every_fleet, every_look, every_round, every_start, every_worker,
+};

@@ -1,14 +1,75 @@
 -- Bytes have one plan or first fault.
-use Rattle.std.proofs.Common.{◌≡◌, inl, inr, ℕ, List, Result, Ok, Err, sym, ap, ◌∙◌}
-use Rattle.toml.specs.Data.{Members, table}
-use Rattle.plan_reader.specs.declared.plan.Plan.{Plan}
+use Rattle.std.proofs.Common.{◌≡◌, inl, inr, ℕ, List, Option, None, Some, Result, Ok, Err, codes, sym, ap, subst, ◌∙◌}
+use Rattle.toml.specs.Data.{Data, Members, table}
+use Rattle.ason_base.specs.Network.{Network}
+use Rattle.ason_base.specs.declared.network.LinkSpec.{LinkSpec}
+use Rattle.plan_reader.specs.Entries.{AndThen}
+use Rattle.plan_reader.specs.PlanScript.{AddsLine, IsRead, IsReadWith, bytes_of, line_of, no_script, put_behind}
+use Rattle.plan_reader.specs.PlanTables.{NodeList, elements_at, text_of, ticks_of, top_kind}
+use Rattle.plan_reader.specs.PlanTexts.{words_of}
+use Rattle.plan_reader.specs.declared.faults.PlanEntry.TheVariants as entries
 use Rattle.plan_reader.specs.declared.faults.PlanFault.{PlanFault}
-use Rattle.plan_reader.specs.Plans.{PlanOf, plan_of}
+use Rattle.plan_reader.specs.declared.faults.PlanKind.{PlanKind}
+use Rattle.plan_reader.specs.declared.lines.Line.{Line}
+use Rattle.plan_reader.specs.declared.plan.Plan.{Plan}
+use Rattle.plan_reader.specs.declared.script.Script.{Script}
+use Rattle.plan_reader.specs.Plans.{IsPlanOf, IsPlanOfParts, IsPlanOver, PlanOf, UnlessFault, links_of, network_of, nodes_of, plan_over}
+use Rattle.plan_reader.proofs.Entries.{read_alone}
+
+read_with_alone :
+    (o : Option (List ℕ)) (line : Line) (a b : Result Line PlanKind) → IsReadWith o line a → IsReadWith o line b → a ≡ b
+read_with_alone None line a b x y = x ∙ sym y
+read_with_alone (Some bytes) line a b (inl x) (inl y) = x.1 ∙ sym y.1
+read_with_alone (Some bytes) line a b (inl x) (inr y) = absurd (x.0 y.0 y.1)
+read_with_alone (Some bytes) line a b (inr x) (inl y) = absurd (y.0 x.0 x.1)
+read_with_alone (Some bytes) line a b (inr x) (inr y) = x.2 ∙ sym y.2
+
+line_alone : (says a b : Result Line PlanKind) → IsRead says a → IsRead says b → a ≡ b
+line_alone (Ok line) a b x y = read_with_alone (bytes_of line) line a b x y
+line_alone (Err k) a b x y = x ∙ sym y
+
+has_line_alone :
+    (t : Network) (names : List (List ℕ)) (before : Script) (d : Data) (a b : Result Script PlanKind)
+    → AddsLine t names before d a → AddsLine t names before d b → a ≡ b
+has_line_alone t names before d a b x y =
+    let same = line_alone (line_of t names before.calls (words_of (text_of d))) x.0 y.0 x.1 y.1 in
+    x.2 ∙ (ap (put_behind before (words_of (text_of d))) same ∙ sym y.2)
+
+over_alone :
+    (d : Data) (known : NodeList) (links : List LinkSpec) (r s : Result Plan PlanFault) → IsPlanOver d known links r
+    → IsPlanOver d known links s → r ≡ s
+over_alone d known links r s x y =
+    let t = network_of (ticks_of d) known links in
+    let same =
+    read_alone entries.Script (AddsLine t known.names) (has_line_alone t known.names) 1 no_script
+    (elements_at (codes "script") d) x.0 y.0 x.1 y.1 in
+    x.2 ∙ (ap (plan_over d known links) same ∙ sym y.2)
+
+then_alone :
+    {A : Type 0} (first : Result A PlanFault) (Next : A → Result Plan PlanFault → Type 0) (r s : Result Plan PlanFault)
+    → ((a : A) → Next a r → Next a s → r ≡ s) → AndThen first Next r → AndThen first Next s → r ≡ s
+then_alone (Ok a) Next r s alone x y = alone a x y
+then_alone (Err f) Next r s alone x y = x ∙ sym y
+
+nodes_alone : (d : Data) (r s : Result Plan PlanFault) → IsPlanOfParts d r → IsPlanOfParts d s → r ≡ s
+nodes_alone d r s x y =
+    then_alone (nodes_of (elements_at (codes "node") d))
+    (λ known. AndThen (links_of known (elements_at (codes "link") d)) (IsPlanOver d known)) r s
+    (λ known a b.
+    then_alone (links_of known (elements_at (codes "link") d)) (IsPlanOver d known) r s
+    (λ links u v. over_alone d known links r s u v) a b) x y
+
+plan_alone : (d : Data) (r s : Result Plan PlanFault) → IsPlanOf d r → IsPlanOf d s → r ≡ s
+plan_alone d r s x y = go (top_kind d) x y
+  where
+    go : (o : Option PlanKind) → UnlessFault o (IsPlanOfParts d) r → UnlessFault o (IsPlanOfParts d) s → r ≡ s
+    go None a b = nodes_alone d r s a b
+    go (Some k) a b = a ∙ sym b
 
 pub plans_agree : (bs : List ℕ) (r s : Result Plan PlanFault) → PlanOf bs r → PlanOf bs s → r ≡ s
 plans_agree bs r s (inl x) (inl y) =
     let same : x.0 ≡ y.0 = cc (x.2, y.2) in
-    sym x.3 ∙ (ap (λ (m : Members). plan_of (table m)) same ∙ y.3)
+    plan_alone (table x.0) r s x.3 (subst (λ (m : Members). IsPlanOf (table m) s) (sym same) y.3)
 plans_agree bs r s (inl x) (inr y) = absurd (cc (x.2, y.0 x.1))
 plans_agree bs r s (inr x) (inl y) = absurd (cc (y.2, x.0 y.1))
 plans_agree bs r s (inr x) (inr y) = x.1 ∙ sym y.1

@@ -1,10 +1,16 @@
 pub mod Agree
 pub mod Elements
 pub mod Entries
+pub mod FittingCalls
+pub mod FrameLines
 pub mod KnownNodes
+pub mod LinesRead
 pub mod NameTexts
 pub mod Places
 pub mod PostableLines
+pub mod PostablePlans
+pub mod PostedCommands
+pub mod PostedSetups
 pub mod Rising
 pub mod SetupRoutes
 pub mod SoundLinks

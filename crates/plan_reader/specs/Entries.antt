@@ -24,6 +24,22 @@ read_all entry read n before [] = Ok before
 read_all entry read n before (d ∷ ds) =
     and_then (at_entry (entry n) (read before d)) (λ after. read_all entry read (n + 1) after ds)
 
+-- where there was no fault, this holds of what comes next; a fault stays
+abbrev pub AndThen :
+    {A B : Type 0} → Result A PlanFault → (A → Result B PlanFault → Type 0) → Result B PlanFault → Type 0
+AndThen (Ok a) Next r = Next a r
+AndThen (Err f) Next r = r ≡ Err f
+
+-- what is there after entries of which the first is number n, or the first fault, where a property says what each is
+-- read as
+abbrev pub AreRead :
+    {S D : Type 0} → (ℕ → PlanEntry) → (S → D → Result S PlanKind → Type 0) → ℕ → S → List D →
+    Result S PlanFault → Type 0
+AreRead entry Reads n before [] r = r ≡ Ok before
+AreRead {S} entry Reads n before (d ∷ ds) r =
+    (one : Result S PlanKind) × Reads before d one
+    × AndThen (at_entry (entry n) one) (λ after. AreRead entry Reads (n + 1) after ds) r
+
 -- an error that tells a fault tells this one
 abbrev pub TellsFirst : {A : Type 0} → PlanError → Result A PlanFault → Type 0
 TellsFirst e says = (f : PlanFault) → e ≡ PlanError.Fault f → says ≡ Err f
@@ -39,6 +55,14 @@ FailsBy result says = IfErr result (λ e. TellsKind e says)
 -- where a reading of the plan fails, its error tells the first fault
 abbrev pub FailsFirst : {A B : Type 0} → Result A PlanError → Result B PlanFault → Type 0
 FailsFirst result says = IfErr result (λ e. TellsFirst e says)
+
+-- where a reading of the plan fails, this holds of its first fault
+abbrev pub FailsAs : {A : Type 0} → Result A PlanError → (PlanFault → Type 0) → Type 0
+FailsAs result Is = IfErr result (λ e. (f : PlanFault) → e ≡ PlanError.Fault f → Is f)
+
+-- where a reading of an entry fails, this holds of its fault
+abbrev pub FailsWith : {A : Type 0} → Result A EntryError → (PlanKind → Type 0) → Type 0
+FailsWith result Is = IfErr result (λ e. (k : PlanKind) → e ≡ EntryError.Fault k → Is k)
 
 -- the same error, of this entry
 abbrev pub error_at : PlanEntry → EntryError → PlanError

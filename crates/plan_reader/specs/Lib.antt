@@ -3,6 +3,7 @@ pub mod Names
 pub mod PlanCalls
 pub mod PlanCommands
 pub mod PlanForms
+pub mod PlanFrames
 pub mod PlanScript
 pub mod PlanSetups
 pub mod PlanTables

@@ -1,9 +1,11 @@
 -- Which words make a line of a script.
 use Rattle.std.specs.Prelude.{ℕ, ◌==◌, ◌&&◌, ◌||◌, Bool, false, true, List, length, codes, Option, Some, None, if◌then◌else◌}
+use Rattle.ason_base.specs.declared.commands.DisturbKind.{DisturbKind}
+use Rattle.ason_base.specs.declared.commands.DisturbKind.TheVariants as disturbs
+use Rattle.ason_base.specs.Numerals.{is_numeral}
 use Rattle.plan_reader.specs.declared.forms.CommandForm.{CommandForm}
 use Rattle.plan_reader.specs.declared.forms.CommandForm.TheVariants as forms
 use Rattle.plan_reader.specs.declared.forms.SetupForm.{SetupForm}
-use Rattle.ason_base.specs.Numerals.{is_numeral}
 use Rattle.plan_reader.specs.PlanTexts.{word_at, are_numbers}
 use Rattle.plan_reader.specs.Names.{same_text}
 
@@ -117,13 +119,20 @@ is_wait ws = begins ws (codes "wait") 2 && is_number_word ws 1
 abbrev pub is_show : List (List ℕ) → Bool
 is_show ws = begins ws (codes "show") 1
 
--- Forms that a plan may have and that aren't built
+-- Lines of frames
 
--- `lose A B K`, `repeat A B K`, `hold A B K`
-abbrev pub is_frame_line : List (List ℕ) → Bool
-is_frame_line ws =
-    (begins ws (codes "lose") 4 || (begins ws (codes "repeat") 4 || begins ws (codes "hold") 4)) && is_number_word ws 3
+-- `A B K` behind this word
+abbrev pub is_disturb : List (List ℕ) → List ℕ → Bool
+is_disturb ws word = begins ws word 4 && is_number_word ws 3
 
--- .. and `noise A B HEX`
-abbrev pub is_unbuilt : List (List ℕ) → Bool
-is_unbuilt ws = is_frame_line ws || begins ws (codes "noise") 4
+-- what the line does to a frame: `lose A B K`, `repeat A B K` or `hold A B K`; none of another line
+abbrev pub disturb_form : List (List ℕ) → Option DisturbKind
+disturb_form ws =
+    if is_disturb ws (codes "lose") then Some disturbs.Lose
+    else if is_disturb ws (codes "repeat") then Some disturbs.Repeat
+    else if is_disturb ws (codes "hold") then Some disturbs.Hold
+    else None
+
+-- `noise A B HEX`, whatever its last word is
+abbrev pub is_noise : List (List ℕ) → Bool
+is_noise ws = begins ws (codes "noise") 4

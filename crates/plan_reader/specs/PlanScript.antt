@@ -1,41 +1,35 @@
 -- The script of a plan: which lines there are, and what each says or its first fault.
-use Rattle.std.specs.Prelude.{ℕ, ◌++◌, nat_le, List, [], ◌∷◌, Option, Some, None, Result, Ok, Err, if◌then◌else◌}
+use Rattle.std.specs.Prelude.{◌≡◌, ◌⊎◌, ℕ, ◌++◌, List, [], ◌∷◌, Option, Some, None, Result, Ok, Err, if◌then◌else◌}
 use Rattle.toml.specs.Data.{Data}
 use Rattle.ason_base.specs.Network.{Network}
 use Rattle.ason_base.specs.declared.commands.Command.{Command}
+use Rattle.ason_base.specs.declared.commands.DisturbKind.{DisturbKind}
+use Rattle.flood.specs.Frames.{IsFrame, SpellsNothing}
+use Rattle.flood.specs.declared.frames.Content.{Content}
 use Rattle.plan_reader.specs.declared.faults.PlanKind.{PlanKind}
 use Rattle.plan_reader.specs.declared.faults.PlanKind.TheVariants as kinds
 use Rattle.plan_reader.specs.declared.forms.CommandForm.{CommandForm}
 use Rattle.plan_reader.specs.declared.forms.SetupForm.{SetupForm}
 use Rattle.plan_reader.specs.declared.limits.TheConstants.{MOST_ROUNDS, MOST_WAITED}
 use Rattle.plan_reader.specs.declared.lines.Line.{Line}
-use Rattle.plan_reader.specs.declared.lines.Line.TheVariants.{Post, Settle, Wait, Show}
+use Rattle.plan_reader.specs.declared.lines.Line.TheVariants.{Post, Disturb, Noise, Settle, Wait, Show}
 use Rattle.plan_reader.specs.declared.script.Script.{Script}
 use Rattle.plan_reader.specs.Entries.{and_then}
 use Rattle.plan_reader.specs.PlanCalls.{CallList, calls_with, no_calls}
 use Rattle.plan_reader.specs.PlanCommands.{command_of}
-use Rattle.plan_reader.specs.PlanForms.{command_form, is_settle, is_show, is_unbuilt, is_wait, setup_form}
+use Rattle.plan_reader.specs.PlanForms.{command_form, disturb_form, is_noise, is_settle, is_show, is_wait, setup_form}
+use Rattle.plan_reader.specs.PlanFrames.{disturb_of, noise_of}
 use Rattle.plan_reader.specs.PlanSetups.{setup_of}
 use Rattle.plan_reader.specs.PlanTables.{text_of}
-use Rattle.plan_reader.specs.PlanTexts.{number_up_to, word_at, words_of}
-
--- Rounds
-
-abbrev pub rounds_for : Option ℕ → Result ℕ PlanKind
-rounds_for None = Err kinds.Range
-rounds_for (Some rounds) = if nat_le 1 rounds then Ok rounds else Err kinds.Range
-
--- how many rounds a line makes, at most so many, or the first fault of that
-abbrev pub rounds_of : ℕ → List (List ℕ) → Result ℕ PlanKind
-rounds_of most ws = rounds_for (number_up_to most (word_at ws 1))
+use Rattle.plan_reader.specs.PlanTexts.{positive_at, words_of}
 
 -- a settle, or its first fault
 abbrev pub settle_of : List (List ℕ) → Result Line PlanKind
-settle_of ws = and_then (rounds_of MOST_ROUNDS ws) (λ rounds. Ok (Settle rounds))
+settle_of ws = and_then (positive_at 1 MOST_ROUNDS ws) (λ rounds. Ok (Settle rounds))
 
 -- a wait, or its first fault
 abbrev pub wait_of : List (List ℕ) → Result Line PlanKind
-wait_of ws = and_then (rounds_of MOST_WAITED ws) (λ rounds. Ok (Wait rounds))
+wait_of ws = and_then (positive_at 1 MOST_WAITED ws) (λ rounds. Ok (Wait rounds))
 
 -- Lines
 
@@ -43,26 +37,34 @@ abbrev pub posted : Result Command PlanKind → Result Line PlanKind
 posted (Ok command) = Ok (Post command)
 posted (Err kind) = Err kind
 
--- what a line that posts nothing says, or its first fault
+-- what a line that neither posts anything nor is about frames says, or its first fault
 abbrev pub plain_line : List (List ℕ) → Result Line PlanKind
 plain_line ws =
     if is_settle ws then settle_of ws
     else if is_wait ws then wait_of ws
     else if is_show ws then Ok Show
-    else if is_unbuilt ws then Err kinds.Unbuilt
     else Err kinds.Words
 
-abbrev pub other_as : Network → CallList → List (List ℕ) → Option CommandForm → Result Line PlanKind
-other_as t calls ws None = plain_line ws
-other_as t calls ws (Some form) = posted (command_of t calls ws form)
+abbrev pub unposted_as : Network → List (List ℕ) → List (List ℕ) → Option DisturbKind → Result Line PlanKind
+unposted_as t names ws (Some kind) = disturb_of t names ws kind
+unposted_as t names ws None = if is_noise ws then noise_of t names ws else plain_line ws
+
+-- what a line that posts nothing says, or its first fault
+abbrev pub unposted_line : Network → List (List ℕ) → List (List ℕ) → Result Line PlanKind
+unposted_line t names ws = unposted_as t names ws (disturb_form ws)
+
+abbrev pub other_as :
+    Network → List (List ℕ) → CallList → List (List ℕ) → Option CommandForm → Result Line PlanKind
+other_as t names calls ws None = unposted_line t names ws
+other_as t names calls ws (Some form) = posted (command_of t calls ws form)
 
 -- what a line that is no setup says, or its first fault
-abbrev pub other_line : Network → CallList → List (List ℕ) → Result Line PlanKind
-other_line t calls ws = other_as t calls ws (command_form ws)
+abbrev pub other_line : Network → List (List ℕ) → CallList → List (List ℕ) → Result Line PlanKind
+other_line t names calls ws = other_as t names calls ws (command_form ws)
 
 abbrev pub line_as :
     Network → List (List ℕ) → CallList → List (List ℕ) → Option SetupForm → Result Line PlanKind
-line_as t names calls ws None = other_line t calls ws
+line_as t names calls ws None = other_line t names calls ws
 line_as t names calls ws (Some form) = posted (setup_of t names calls ws form)
 
 -- what a line says, or its first fault
@@ -75,6 +77,8 @@ no_script = record { calls = no_calls; lines = [] }
 -- the calls after a line of these words
 abbrev pub calls_with_line : CallList → List (List ℕ) → Line → CallList
 calls_with_line calls ws (Post command) = calls_with calls ws command
+calls_with_line calls ws (Disturb d) = calls
+calls_with_line calls ws (Noise from to bytes) = calls
 calls_with_line calls ws (Settle rounds) = calls
 calls_with_line calls ws (Wait rounds) = calls
 calls_with_line calls ws Show = calls
@@ -84,9 +88,33 @@ put_behind before ws (Ok line) =
     Ok (record { calls = calls_with_line before.calls ws line; lines = before.lines ++ line ∷ [] })
 put_behind before ws (Err kind) = Err kind
 
--- a line of these words behind those before it, or its first fault
-abbrev pub by_words : Network → List (List ℕ) → Script → List (List ℕ) → Result Script PlanKind
-by_words t names before ws = put_behind before ws (line_of t names before.calls ws)
+-- Frames in noise
 
-abbrev pub with_line : Network → List (List ℕ) → Script → Data → Result Script PlanKind
-with_line t names before d = by_words t names before (words_of (text_of d))
+-- the bytes of a noise; none of another line
+abbrev pub bytes_of : Line → Option (List ℕ)
+bytes_of (Post command) = None
+bytes_of (Disturb d) = None
+bytes_of (Noise from to bytes) = Some bytes
+bytes_of (Settle rounds) = None
+bytes_of (Wait rounds) = None
+bytes_of Show = None
+
+abbrev pub IsReadWith : Option (List ℕ) → Line → Result Line PlanKind → Type 0
+IsReadWith None line r = r ≡ Ok line
+IsReadWith (Some bytes) line r =
+    (SpellsNothing bytes × (r ≡ Ok line)) ⊎ ((c : Content) × IsFrame bytes c × (r ≡ Err kinds.Spells))
+
+-- What is read of a line that has no fault so far: the line itself, unless it is noise. Noise is read where its bytes
+-- spell nothing; where they spell a frame, that is its fault.
+abbrev pub IsRead : Result Line PlanKind → Result Line PlanKind → Type 0
+IsRead (Ok line) r = IsReadWith (bytes_of line) line r
+IsRead (Err kind) r = r ≡ Err kind
+
+-- a line of these words behind those before it, or its first fault
+abbrev pub AddsWords : Network → List (List ℕ) → Script → List (List ℕ) → Result Script PlanKind → Type 0
+AddsWords t names before ws r =
+    (line : Result Line PlanKind) × IsRead (line_of t names before.calls ws) line × (r ≡ put_behind before ws line)
+
+-- a line behind those before it, or its first fault
+abbrev pub AddsLine : Network → List (List ℕ) → Script → Data → Result Script PlanKind → Type 0
+AddsLine t names before d r = AddsWords t names before (words_of (text_of d)) r

@@ -6,6 +6,8 @@ use Rattle.ason_base.specs.declared.ids.NodeId.{NodeId}
 use Rattle.ason_base.specs.declared.network.NodeSpec.{NodeSpec}
 use Rattle.ason_base.specs.declared.numerals.NumeralFault.{NumeralFault}
 use Rattle.ason_base.specs.Numerals.{is_numeral, number_within}
+use Rattle.plan_reader.specs.declared.faults.PlanKind.{PlanKind}
+use Rattle.plan_reader.specs.declared.faults.PlanKind.TheVariants.{Range}
 use Rattle.plan_reader.specs.declared.limits.TheConstants.{MOST_NUMBER}
 use Rattle.plan_reader.specs.Names.{place_of}
 
@@ -48,6 +50,14 @@ if_found (Err e) = None
 -- the number that the word writes, where it is one and is at most this
 abbrev pub number_up_to : ℕ → List ℕ → Option ℕ
 number_up_to most word = if_found (number_within 0 most word)
+
+abbrev pub or_range : Result ℕ NumeralFault → Result ℕ PlanKind
+or_range (Ok n) = Ok n
+or_range (Err e) = Err Range
+
+-- the number of the word at this place, from 1 to the most, or the fault of its range
+abbrev pub positive_at : ℕ → ℕ → List (List ℕ) → Result ℕ PlanKind
+positive_at k most words = or_range (number_within 1 most (word_at words k))
 
 -- the parts of a word between its commas
 abbrev pub parts_of : List ℕ → List (List ℕ)

@@ -1,13 +1,15 @@
 -- What plan bytes spell, or their first fault.
-use Rattle.std.specs.Prelude.{◌≡◌, ◌<◌, ◌⊎◌, ℕ, All, fold, length, true, false, List, [], ◌∷◌, ◌++◌, codes, Option, Some, None, Result, Ok, Err}
+use Rattle.std.specs.Prelude.{◌≡◌, ◌<◌, ◌≤◌, ◌⊎◌, ℕ, All, fold, length, true, false, List, [], ◌∷◌, ◌++◌, codes, Option, Some, None, Result, Ok, Err}
 use Rattle.std.specs.Str.{IsUtf8}
 use Rattle.toml.specs.Data.{Data, Members, table}
 use Rattle.toml.specs.Parse.{parse_document}
-use Rattle.ason_base.specs.Network.{Network}
+use Rattle.ason_base.specs.Network.{Network, is_channel}
 use Rattle.ason_base.specs.declared.network.LinkSpec.{LinkSpec}
 use Rattle.ason_base.specs.declared.ids.CallNo.{CallNo}
 use Rattle.ason_base.specs.declared.commands.Command.{Command}
 use Rattle.ason_base.specs.declared.commands.Command.TheVariants.{Setup, Release, Protect, Retry, Revert, Fail, Repair}
+use Rattle.ason_base.specs.declared.commands.Disturb.{Disturb}
+use Rattle.flood.specs.Frames.{SpellsNothing}
 use Rattle.mesh_rules.specs.Commands.{is_valid, is_again}
 use Rattle.plan_reader.specs.declared.faults.PlanEntry.{PlanEntry}
 use Rattle.plan_reader.specs.declared.faults.PlanEntry.TheVariants.{Toml, Top, Node, Link}
@@ -16,13 +18,15 @@ use Rattle.plan_reader.specs.declared.faults.PlanError.TheVariants.{Fault, OutOf
 use Rattle.plan_reader.specs.declared.faults.PlanFault.{PlanFault}
 use Rattle.plan_reader.specs.declared.faults.PlanKind.{PlanKind}
 use Rattle.plan_reader.specs.declared.faults.PlanKind.TheVariants.{Syntax}
+use Rattle.plan_reader.specs.declared.limits.TheConstants.{MOST_FRAMES}
 use Rattle.plan_reader.specs.declared.lines.Line.{Line}
-use Rattle.plan_reader.specs.declared.lines.Line.TheVariants.{Post, Settle, Wait, Show}
+use Rattle.plan_reader.specs.declared.lines.Line.TheVariants.{Post, Noise, Settle, Wait, Show}
+use Rattle.plan_reader.specs.declared.lines.Line.TheVariants as said
 use Rattle.plan_reader.specs.declared.plan.Plan.{Plan}
 use Rattle.plan_reader.specs.declared.script.Script.{Script}
-use Rattle.plan_reader.specs.Entries.{and_then, read_all}
+use Rattle.plan_reader.specs.Entries.{AndThen, AreRead, and_then, read_all}
 use Rattle.plan_reader.specs.PlanTables.{NodeList, elements_at, no_nodes, ticks_of, top_kind, with_link, with_node}
-use Rattle.plan_reader.specs.PlanScript.{no_script, with_line}
+use Rattle.plan_reader.specs.PlanScript.{AddsLine, no_script}
 
 -- The parts of a plan's table, each read onto those before it, or the first fault
 
@@ -32,8 +36,8 @@ nodes_of ds = read_all Node with_node 1 no_nodes ds
 abbrev pub links_of : NodeList → List Data → Result (List LinkSpec) PlanFault
 links_of known ds = read_all Link (with_link known) 1 [] ds
 
-abbrev pub script_of : Network → List (List ℕ) → List Data → Result Script PlanFault
-script_of t names ds = read_all PlanEntry.Script (with_line t names) 1 no_script ds
+abbrev pub IsScriptOf : Network → List (List ℕ) → List Data → Result Script PlanFault → Type 0
+IsScriptOf t names ds r = AreRead PlanEntry.Script (AddsLine t names) 1 no_script ds r
 
 abbrev pub network_of : ℕ → NodeList → List LinkSpec → Network
 network_of wait known links = record { wait = wait; nodes = known.nodes; links = links }
@@ -47,24 +51,29 @@ plan_with wait known links script = record {
   lines = script.lines;
 }
 
-abbrev pub with_script : Data → NodeList → List LinkSpec → Result Plan PlanFault
-with_script d known links =
-    and_then (script_of (network_of (ticks_of d) known links) known.names (elements_at (codes "script") d))
-    (λ script. Ok (plan_with (ticks_of d) known links script))
+abbrev pub plan_over : Data → NodeList → List LinkSpec → Result Script PlanFault → Result Plan PlanFault
+plan_over d known links script = and_then script (λ s. Ok (plan_with (ticks_of d) known links s))
 
-abbrev pub with_links : Data → NodeList → Result Plan PlanFault
-with_links d known = and_then (links_of known (elements_at (codes "link") d)) (λ links. with_script d known links)
+-- the plan of these nodes and links with the script of the table, or the script's first fault
+abbrev pub IsPlanOver : Data → NodeList → List LinkSpec → Result Plan PlanFault → Type 0
+IsPlanOver d known links r =
+    (script : Result Script PlanFault)
+    × IsScriptOf (network_of (ticks_of d) known links) known.names (elements_at (codes "script") d) script
+    × (r ≡ plan_over d known links script)
 
-abbrev pub with_nodes : Data → Result Plan PlanFault
-with_nodes d = and_then (nodes_of (elements_at (codes "node") d)) (λ known. with_links d known)
+-- the plan of the nodes, the links and the script of the table, or their first fault
+abbrev pub IsPlanOfParts : Data → Result Plan PlanFault → Type 0
+IsPlanOfParts d r =
+    AndThen (nodes_of (elements_at (codes "node") d))
+    (λ known. AndThen (links_of known (elements_at (codes "link") d)) (IsPlanOver d known)) r
 
-abbrev pub unless_fault : Option PlanKind → Result Plan PlanFault → Result Plan PlanFault
-unless_fault None plan = plan
-unless_fault (Some kind) plan = Err (record { entry = Top; kind = kind })
+abbrev pub UnlessFault : Option PlanKind → (Result Plan PlanFault → Type 0) → Result Plan PlanFault → Type 0
+UnlessFault None Is r = Is r
+UnlessFault (Some kind) Is r = r ≡ Err (record { entry = Top; kind = kind })
 
 -- the plan, or its first fault: the top, then the nodes, the links and the script lines, each in order
-abbrev pub plan_of : Data → Result Plan PlanFault
-plan_of d = unless_fault (top_kind d) (with_nodes d)
+abbrev pub IsPlanOf : Data → Result Plan PlanFault → Type 0
+IsPlanOf d r = UnlessFault (top_kind d) (IsPlanOfParts d) r
 
 abbrev pub not_toml : PlanFault
 not_toml = record { entry = Toml; kind = Syntax }
@@ -72,7 +81,7 @@ not_toml = record { entry = Toml; kind = Syntax }
 -- The bytes are UTF-8 and a TOML document with that plan or first fault; or they are none, and that is the fault
 abbrev pub PlanOf : List ℕ → Result Plan PlanFault → Type 0
 PlanOf bs r =
-    ((ms : Members) × IsUtf8 bs × (parse_document bs ≡ Some ms) × (plan_of (table ms) ≡ r))
+    ((ms : Members) × IsUtf8 bs × (parse_document bs ≡ Some ms) × IsPlanOf (table ms) r)
     ⊎ ((IsUtf8 bs → parse_document bs ≡ None) × (r ≡ Err not_toml))
 
 -- what `read_plan` answers; want of memory may come at any time
@@ -96,6 +105,8 @@ calls_after before (Repair g) = before
 -- the call numbers of all setups after a line
 abbrev pub calls_after_line : List CallNo → Line → List CallNo
 calls_after_line before (Post c) = calls_after before c
+calls_after_line before (said.Disturb d) = before
+calls_after_line before (Noise from to bytes) = before
 calls_after_line before (Settle r) = before
 calls_after_line before (Wait r) = before
 calls_after_line before Show = before
@@ -110,9 +121,16 @@ pub record HasNames (p : Plan) : Type 0 where
   pub calls : length p.call_names ≡ length (calls_after_lines [] p.lines)
   pub numbers : All (λ c. c.0 < length p.call_names) (calls_after_lines [] p.lines)
 
--- the command of the line, if it posts one, is valid and no setup of a call number that was posted before
+-- the line names the k-th frame from one neighbour to the other, k from 1 to 65,535
+abbrev pub NamesFrame : Network → Disturb → Type 0
+NamesFrame t d = (is_channel t d.from d.to ≡ true) × (1 ≤ d.k) × (d.k ≤ MOST_FRAMES)
+
+-- The command of the line, if it posts one, is valid and no setup of a call number that was posted before. If it is
+-- about frames, these go from one neighbour to the other, and noise spells nothing.
 abbrev pub IsPostable : Network → List CallNo → Line → Type 0
 IsPostable t before (Post c) = (is_valid t c ≡ true) × (is_again before c ≡ false)
+IsPostable t before (said.Disturb d) = NamesFrame t d
+IsPostable t before (Noise from to bytes) = (is_channel t from to ≡ true) × SpellsNothing bytes
 IsPostable t before (Settle r) = Unit {0}
 IsPostable t before (Wait r) = Unit {0}
 IsPostable t before Show = Unit {0}
@@ -120,14 +138,3 @@ IsPostable t before Show = Unit {0}
 abbrev pub ArePostable : Network → List CallNo → List Line → Type 0
 ArePostable t before [] = Unit {0}
 ArePostable t before (line ∷ lines) = IsPostable t before line × ArePostable t (calls_after_line before line) lines
-
--- the command of the line, if it posts one, is valid
-abbrev pub IsValidLine : Network → Line → Type 0
-IsValidLine t (Post c) = is_valid t c ≡ true
-IsValidLine t (Settle r) = Unit {0}
-IsValidLine t (Wait r) = Unit {0}
-IsValidLine t Show = Unit {0}
-
-abbrev pub AreValidLines : Network → List Line → Type 0
-AreValidLines t [] = Unit {0}
-AreValidLines t (line ∷ lines) = IsValidLine t line × AreValidLines t lines

@@ -1,7 +1,7 @@
 //! The numbers that definitions take from constants.
 
 ghost use Rattle.std.specs.Prelude.{◌≡◌};
-ghost use Rattle.plan_reader.specs.declared.limits.TheConstants.{MOST_CALLS, MOST_LABELS, MOST_LINES, MOST_METRIC, MOST_MORE_CHARACTERS, MOST_NUMBER, MOST_ROUNDS, MOST_WAIT, MOST_WAITED};
+ghost use Rattle.plan_reader.specs.declared.limits.TheConstants.{MOST_CALLS, MOST_DIGITS, MOST_FRAMES, MOST_LABELS, MOST_LINES, MOST_METRIC, MOST_MORE_CHARACTERS, MOST_NUMBER, MOST_ROUNDS, MOST_WAIT, MOST_WAITED};
 
 /// Law: how much a plan may have.
 pub fn limits()
@@ -14,4 +14,6 @@ pub fn limits()
     ensures metric { MOST_METRIC ≡ 65535 }
     ensures number { MOST_NUMBER ≡ 4294967295 }
     ensures name { MOST_MORE_CHARACTERS ≡ 15 }
+    ensures frames { MOST_FRAMES ≡ 65535 }
+    ensures digits { MOST_DIGITS ≡ 131070 }
 {}

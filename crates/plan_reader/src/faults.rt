@@ -66,8 +66,6 @@ pub enum PlanKind {
     Hex,
     /// Noise spells a frame.
     Spells,
-    /// This form isn't built.
-    Unbuilt,
 }
 
 /// The first fault of a plan.

@@ -2,10 +2,10 @@
 
 ghost use Rattle.std.specs.Prelude.{◌≡◌};
 ghost use Rattle.plan_reader.specs.PlanTexts.{texts};
-ghost use Rattle.plan_reader.specs.PlanForms.{are_numbers_word, begins, command_form, form, is_backed_setup, is_fail, is_frame_line, is_group_line, is_number_word, is_protect, is_protected_setup, is_protected_via, is_release, is_repair, is_retry, is_revert, is_settle, is_show, is_unbuilt, is_unprotected_setup, is_unprotected_via, is_wait, is_word, setup_form};
+ghost use Rattle.plan_reader.specs.PlanForms.{are_numbers_word, begins, command_form, disturb_form, form, is_backed_setup, is_disturb, is_fail, is_group_line, is_noise, is_number_word, is_protect, is_protected_setup, is_protected_via, is_release, is_repair, is_retry, is_revert, is_settle, is_show, is_unprotected_setup, is_unprotected_via, is_wait, is_word, setup_form};
 
 use crate::words::{are_numbers, word};
-use ason_base::is_numeral;
+use ason_base::{DisturbKind, is_numeral};
 
 /// Whether the word at this place is this one.
 pub fn is_word(words: &[&[u8]], k: usize, text: &str) -> bool
@@ -222,18 +222,33 @@ pub fn is_show(words: &[&[u8]]) -> bool
     begins(words, "show", 1)
 }
 
-// Forms that aren't built
+// Lines of frames
 
-fn is_frame_line(words: &[&[u8]]) -> bool
-    ensures { result ≡ is_frame_line (texts words.now) }
+// `A B K` behind this word.
+fn is_disturb(words: &[&[u8]], text: &str) -> bool
+    ensures { result ≡ is_disturb (texts words.now) text.now }
 {
-    (begins(words, "lose", 4) || begins(words, "repeat", 4) || begins(words, "hold", 4))
-        && is_number_word(words, 3)
+    begins(words, text, 4) && is_number_word(words, 3)
 }
 
-/// Whether the line is one that a plan may have and that isn't built.
-pub fn is_unbuilt(words: &[&[u8]]) -> bool
-    ensures { result ≡ is_unbuilt (texts words.now) }
+/// What the line does to a frame: `lose A B K`, `repeat A B K` or `hold A B K`; none of another line.
+pub fn disturb_form(words: &[&[u8]]) -> Option<DisturbKind>
+    ensures { result ≡ disturb_form (texts words.now) }
 {
-    is_frame_line(words) || begins(words, "noise", 4)
+    if is_disturb(words, "lose") {
+        Some(DisturbKind::Lose)
+    } else if is_disturb(words, "repeat") {
+        Some(DisturbKind::Repeat)
+    } else if is_disturb(words, "hold") {
+        Some(DisturbKind::Hold)
+    } else {
+        None
+    }
+}
+
+/// Whether the line is `noise A B HEX`, whatever its last word is.
+pub fn is_noise(words: &[&[u8]]) -> bool
+    ensures { result ≡ is_noise (texts words.now) }
+{
+    begins(words, "noise", 4)
 }

@@ -6,6 +6,7 @@ mod commands;
 pub mod constants;
 pub mod faults;
 mod forms;
+mod frames;
 pub mod limits;
 pub mod lines;
 mod links;

@@ -26,3 +26,9 @@ pub const MOST_NUMBER: u32 = 4_294_967_295;
 
 /// The most characters of a name behind its first.
 pub const MOST_MORE_CHARACTERS: usize = 15;
+
+/// The most that a line counts on to the frame that it names.
+pub const MOST_FRAMES: u32 = 65_535;
+
+/// The most hexadecimal digits of a noise.
+pub const MOST_DIGITS: usize = 131_070;

@@ -1,12 +1,20 @@
 //! The lines of a script.
 
-use ason_base::{Command, Items};
+use ason_base::{Bytes, Command, Disturb, Items, NodeId};
 
 /// One line of a script.
 #[derive(Drop)]
 pub enum Line {
     /// Posts a command.
     Post(Command),
+    /// Loses, repeats or holds a frame of a channel.
+    Disturb(Disturb),
+    /// Has `to` take these bytes as a frame from `from`. They spell nothing.
+    Noise {
+        from: NodeId,
+        to: NodeId,
+        bytes: Bytes,
+    },
     /// Makes rounds until all is quiet, at most this many.
     Settle(u32),
     /// Makes this many rounds.

@@ -3,9 +3,9 @@
 ghost use Rattle.std.specs.Prelude.{◌≡◌, ◌≤◌, codes, length, [], IfOk, IsTrue, Ok, Err};
 ghost use Rattle.toml.specs.View.{view};
 ghost use Rattle.ason_base.specs.Network.{IsTopology};
-ghost use Rattle.plan_reader.specs.Entries.{FailsFirst};
+ghost use Rattle.plan_reader.specs.Entries.{FailsAs, FailsFirst};
 ghost use Rattle.plan_reader.specs.PlanTables.{elements_at, has_top_counts, ticks_of};
-ghost use Rattle.plan_reader.specs.Plans.{Answers, ArePostable, HasNames, links_of, network_of, nodes_of, plan_of, plan_with, script_of, with_links, with_nodes, with_script};
+ghost use Rattle.plan_reader.specs.Plans.{Answers, ArePostable, HasNames, IsPlanOf, IsPlanOfParts, IsPlanOver, links_of, network_of, nodes_of, plan_with};
 ghost use Rattle.plan_reader.specs.declared.faults.PlanError.{PlanError};
 ghost use Rattle.plan_reader.specs.declared.faults.PlanFault.{PlanFault};
 
@@ -48,9 +48,9 @@ fn read_over(
 ) -> Result<Plan, PlanError>
     requires few { length (elements_at (codes "script") (view value.now)) ≤ MOST_LINES }
     requires sound { IsTopology (network_of (ticks_of (view value.now)) known links.now) }
-    ensures plan { IfOk result (λ p. with_script (view value.now) known links.now ≡ Ok p) }
+    ensures plan { IfOk result (λ p. IsPlanOver (view value.now) known links.now (Ok p)) }
     ensures valid { IfOk result (λ p. IsTopology p.topology) }
-    ensures fault { FailsFirst result (with_script (view value.now) known links.now) }
+    ensures fault { FailsAs result (λ f. IsPlanOver (view value.now) known links.now (Err f)) }
 {
     let topology = topology(alloc, ticks(value), &known, links)?;
     let script = read_script(alloc, &topology, known.names(), elements(value, "script"))?;
@@ -65,9 +65,9 @@ fn read_over(
 // The plan of a table whose top has no fault, or its first fault.
 fn read_parts(alloc: Global, value: &Value) -> Result<Plan, PlanError>
     requires { IsTrue (has_top_counts (view value.now)) }
-    ensures plan { IfOk result (λ p. with_nodes (view value.now) ≡ Ok p) }
+    ensures plan { IfOk result (λ p. IsPlanOfParts (view value.now) (Ok p)) }
     ensures valid { IfOk result (λ p. IsTopology p.topology) }
-    ensures fault { FailsFirst result (with_nodes (view value.now)) }
+    ensures fault { FailsAs result (λ f. IsPlanOfParts (view value.now) (Err f)) }
 {
     let nodes = read_nodes(alloc, elements(value, "node"))?;
     let links = read_links(alloc, &nodes, elements(value, "link"))?;
@@ -75,9 +75,9 @@ fn read_parts(alloc: Global, value: &Value) -> Result<Plan, PlanError>
 }
 
 fn read_table(alloc: Global, value: &Value) -> Result<Plan, PlanError>
-    ensures plan { IfOk result (λ p. plan_of (view value.now) ≡ Ok p) }
+    ensures plan { IfOk result (λ p. IsPlanOf (view value.now) (Ok p)) }
     ensures valid { IfOk result (λ p. IsTopology p.topology) }
-    ensures fault { FailsFirst result (plan_of (view value.now)) }
+    ensures fault { FailsAs result (λ f. IsPlanOf (view value.now) (Err f)) }
 {
     if let Some(kind) = top_kind(value) {
         return Err(error_at(PlanEntry::Top, EntryError::Fault(kind)));

@@ -2,12 +2,12 @@
 
 ghost use Rattle.std.specs.Prelude.{◌≡◌, ◌≤◌, Err, IfOk, Ok, OnOk, length};
 ghost use Rattle.toml.specs.View.{view};
-ghost use Rattle.plan_reader.specs.Entries.{FailsBy, FailsFirst};
+ghost use Rattle.plan_reader.specs.Entries.{FailsAs, FailsBy, FailsWith};
 ghost use Rattle.plan_reader.specs.PlanCalls.{CallList};
 ghost use Rattle.plan_reader.specs.PlanTables.{views};
 ghost use Rattle.plan_reader.specs.PlanTexts.{texts, words_of};
-ghost use Rattle.plan_reader.specs.PlanScript.{by_words, calls_with_line, line_as, line_of, no_script, other_as, other_line, plain_line, rounds_of, settle_of, wait_of, with_line};
-ghost use Rattle.plan_reader.specs.Plans.{script_of};
+ghost use Rattle.plan_reader.specs.PlanScript.{AddsLine, AddsWords, IsRead, calls_with_line, unposted_line, line_as, line_of, no_script, other_as, other_line, plain_line, settle_of, wait_of};
+ghost use Rattle.plan_reader.specs.Plans.{IsScriptOf};
 ghost use Rattle.plan_reader.specs.declared.faults.PlanError.{PlanError};
 ghost use Rattle.plan_reader.specs.declared.faults.PlanFault.{PlanFault};
 ghost use Rattle.plan_reader.specs.declared.faults.PlanKind.{PlanKind};
@@ -15,36 +15,24 @@ ghost use Rattle.plan_reader.specs.declared.faults.PlanKind.{PlanKind};
 use crate::calls::Calls;
 use crate::commands::read_command;
 use crate::faults::{EntryError, PlanEntry, PlanError, PlanKind, error_at};
-use crate::forms::{command_form, is_settle, is_show, is_unbuilt, is_wait, setup_form};
+use crate::forms::{command_form, disturb_form, is_noise, is_settle, is_show, is_wait, setup_form};
+use crate::frames::{check_noise, read_disturb, read_noise};
 use crate::limits::{MOST_LINES, MOST_ROUNDS, MOST_WAITED};
 use crate::lines::{Line, Lines};
 use crate::names::Names;
 use crate::setups::read_setup;
 use crate::values::text_of;
-use crate::words::{number, word, words_of};
+use crate::words::{positive_at, words_of};
 use ason_base::Topology;
 use std::alloc::Global;
 use toml::Value;
-
-// Rounds
-
-// How many rounds a line makes, at most so many, or the first fault of that.
-fn read_rounds(words: &[&[u8]], most: u32) -> Result<u32, EntryError>
-    ensures rounds { IfOk result (λ r. rounds_of most (texts words.now) ≡ Ok r) }
-    ensures fault { FailsBy result (rounds_of most (texts words.now)) }
-{
-    match number(word(words, 1), most) {
-        Some(rounds) if rounds >= 1 => Ok(rounds),
-        _ => Err(EntryError::Fault(PlanKind::Range)),
-    }
-}
 
 // A settle, or its first fault.
 fn read_settle(words: &[&[u8]]) -> Result<Line, EntryError>
     ensures line { IfOk result (λ l. settle_of (texts words.now) ≡ Ok l) }
     ensures fault { FailsBy result (settle_of (texts words.now)) }
 {
-    let rounds = read_rounds(words, MOST_ROUNDS)?;
+    let rounds = positive_at(words, 1, MOST_ROUNDS)?;
     Ok(Line::Settle(rounds))
 }
 
@@ -53,13 +41,13 @@ fn read_wait(words: &[&[u8]]) -> Result<Line, EntryError>
     ensures line { IfOk result (λ l. wait_of (texts words.now) ≡ Ok l) }
     ensures fault { FailsBy result (wait_of (texts words.now)) }
 {
-    let rounds = read_rounds(words, MOST_WAITED)?;
+    let rounds = positive_at(words, 1, MOST_WAITED)?;
     Ok(Line::Wait(rounds))
 }
 
 // Lines
 
-// What a line that posts nothing says, or its first fault.
+// What a line that neither posts anything nor is about frames says, or its first fault.
 fn read_plain_line(words: &[&[u8]]) -> Result<Line, EntryError>
     ensures line { IfOk result (λ l. plain_line (texts words.now) ≡ Ok l) }
     ensures calls { (k : CallList) → IfOk result (λ l. calls_with_line k (texts words.now) l ≡ k) }
@@ -74,25 +62,42 @@ fn read_plain_line(words: &[&[u8]]) -> Result<Line, EntryError>
     if is_show(words) {
         return Ok(Line::Show);
     }
-    if is_unbuilt(words) {
-        return Err(EntryError::Fault(PlanKind::Unbuilt));
-    }
     Err(EntryError::Fault(PlanKind::Words))
+}
+
+// What a line that posts nothing says, or its first fault.
+fn read_unposted_line(
+    alloc: Global,
+    t: &Topology,
+    names: &Names,
+    words: &[&[u8]],
+) -> Result<Line, EntryError>
+    ensures line { IfOk result (λ l. unposted_line t.now names.now (texts words.now) ≡ Ok l) }
+    ensures calls { (k : CallList) → IfOk result (λ l. calls_with_line k (texts words.now) l ≡ k) }
+    ensures fault { FailsBy result (unposted_line t.now names.now (texts words.now)) }
+{
+    match disturb_form(words) {
+        Some(kind) => read_disturb(t, names, words, kind),
+        None if is_noise(words) => read_noise(alloc, t, names, words),
+        None => read_plain_line(words),
+    }
 }
 
 // What a line that is no setup says, or its first fault.
 fn read_other_line(
     alloc: Global,
     t: &Topology,
+    names: &Names,
     calls: &Calls,
     words: &[&[u8]],
 ) -> Result<Line, EntryError>
-    ensures line { IfOk result (λ l. other_line t.now calls.now (texts words.now) ≡ Ok l) }
+    ensures line { IfOk result
+        (λ l. other_line t.now names.now calls.now (texts words.now) ≡ Ok l) }
     ensures calls { IfOk result (λ l. calls_with_line calls.now (texts words.now) l ≡ calls.now) }
-    ensures fault { FailsBy result (other_line t.now calls.now (texts words.now)) }
+    ensures fault { FailsBy result (other_line t.now names.now calls.now (texts words.now)) }
 {
     match command_form(words) {
-        None => read_plain_line(words),
+        None => read_unposted_line(alloc, t, names, words),
         Some(form) => {
             let command = read_command(alloc, t, calls, words, form)?;
             Ok(Line::Post(command))
@@ -113,7 +118,7 @@ fn read_line(
     ensures fault { FailsBy result (line_of t.now names.now calls.old (texts words.now)) }
 {
     match setup_form(words) {
-        None => read_other_line(alloc, t, calls, words),
+        None => read_other_line(alloc, t, names, calls, words),
         Some(form) => {
             let command = read_setup(alloc, t, names, calls, words, form)?;
             Ok(Line::Post(command))
@@ -128,6 +133,17 @@ pub struct Script {
     pub lines: Lines,
 }
 
+// Passes the line, unless it is noise that spells a frame: that is a fault.
+fn check_line(alloc: Global, line: &Line) -> Result<(), EntryError>
+    ensures passes { IfOk result (λ _. IsRead (Ok line.now) (Ok line.now)) }
+    ensures fault { FailsWith result (λ k. IsRead (Ok line.now) (Err k)) }
+{
+    match line {
+        Line::Noise { bytes, .. } => check_noise(alloc, bytes.items()),
+        _ => Ok(()),
+    }
+}
+
 // A line of these words behind those before it, or its first fault.
 fn read_words(
     alloc: Global,
@@ -136,10 +152,12 @@ fn read_words(
     read: &mut Script,
     words: &[&[u8]],
 ) -> Result<(), EntryError>
-    ensures ok { OnOk result (by_words t.now names.now read.old (texts words.now) ≡ Ok read.new) }
-    ensures fault { FailsBy result (by_words t.now names.now read.old (texts words.now)) }
+    ensures ok { OnOk result (AddsWords t.now names.now read.old (texts words.now) (Ok read.new)) }
+    ensures fault { FailsWith result
+        (λ k. AddsWords t.now names.now read.old (texts words.now) (Err k)) }
 {
     let line = read_line(alloc, t, names, &mut read.calls, words)?;
+    check_line(alloc, &line)?;
     read.lines.push(line)?;
     Ok(())
 }
@@ -152,8 +170,9 @@ fn read_text(
     read: &mut Script,
     value: &Value,
 ) -> Result<(), EntryError>
-    ensures ok { OnOk result (with_line t.now names.now read.old (view value.now) ≡ Ok read.new) }
-    ensures fault { FailsBy result (with_line t.now names.now read.old (view value.now)) }
+    ensures ok { OnOk result (AddsLine t.now names.now read.old (view value.now) (Ok read.new)) }
+    ensures fault { FailsWith result
+        (λ k. AddsLine t.now names.now read.old (view value.now) (Err k)) }
 {
     let words = words_of(alloc, text_of(value))?;
     read_words(alloc, t, names, read, &words)
@@ -167,8 +186,8 @@ pub fn read_script(
     values: &[Value],
 ) -> Result<Script, PlanError>
     requires { length values.now ≤ MOST_LINES }
-    ensures script { IfOk result (λ s. script_of t.now names.now (views values.now) ≡ Ok s) }
-    ensures fault { FailsFirst result (script_of t.now names.now (views values.now)) }
+    ensures script { IfOk result (λ s. IsScriptOf t.now names.now (views values.now) (Ok s)) }
+    ensures fault { FailsAs result (λ f. IsScriptOf t.now names.now (views values.now) (Err f)) }
 {
     let mut script = Script {
         calls: Calls::new(alloc),

@@ -163,7 +163,8 @@ fn routes_over(
 
 // Setups
 
-fn node_at(t: &Topology, names: &Names, words: &[&[u8]], k: usize) -> Option<NodeId>
+/// The node that the word at this place names; none where there is no such node.
+pub fn node_at(t: &Topology, names: &Names, words: &[&[u8]], k: usize) -> Option<NodeId>
     ensures { result ≡ node_at t.now names.now (texts words.now) k }
 {
     node_named(names, t.nodes(), word(words, k))

@@ -1,8 +1,10 @@
 //! Words and numbers in texts.
 
-ghost use Rattle.std.specs.Prelude.{◌≡◌, filter_map, IfOk};
-ghost use Rattle.plan_reader.specs.PlanTexts.{are_link_ids, are_numbers, link_id, link_ids, number_up_to, parts_of, texts, word_at, words_of};
+ghost use Rattle.std.specs.Prelude.{◌≡◌, filter_map, IfOk, Ok};
+ghost use Rattle.plan_reader.specs.Entries.{FailsBy};
+ghost use Rattle.plan_reader.specs.PlanTexts.{are_link_ids, are_numbers, link_id, link_ids, number_up_to, parts_of, positive_at, texts, word_at, words_of};
 
+use crate::faults::{EntryError, PlanKind};
 use crate::limits::MOST_NUMBER;
 use ason_base::{Numbers, OutOfMemory, is_numeral, number_within};
 use std::alloc::{AllocError, Global};
@@ -40,6 +42,17 @@ pub fn number(word: &[u8], most: u32) -> Option<u32>
     match number_within(word, 0, u64::from(most)) {
         Ok(n) => Some(n as u32),
         Err(_) => None,
+    }
+}
+
+/// The number of the word at this place, from 1 to `most`, or the fault of its range.
+pub fn positive_at(words: &[&[u8]], k: usize, most: u32) -> Result<u32, EntryError>
+    ensures number { IfOk result (λ n. positive_at k most (texts words.now) ≡ Ok n) }
+    ensures fault { FailsBy result (positive_at k most (texts words.now)) }
+{
+    match number_within(word(words, k), 1, u64::from(most)) {
+        Ok(n) => Ok(n as u32),
+        Err(_) => Err(EntryError::Fault(PlanKind::Range)),
     }
 }
 

@@ -47,12 +47,12 @@ module _ (t : Network) (lines : List Disturb) (n : NodeId) (tick : Bool) (before
           ∙ fold-append held_step held f.dues rest
           ∙ fold-append held_step (held_after held f.dues) f.items (all_doings f.takings)
 
-  none_due : due_in (before ++ one) ≡ []
-  none_due = none-due (held_after [] (before ++ one)) none
+  pub nothing-due : due_in (before ++ one) ≡ []
+  nothing-due = none-due (held_after [] (before ++ one)) none
 
   -- and the desk is empty
-  empty : items_after t n (before ++ one) ≡ 0
-  empty =
+  pub desk-empty : items_after t n (before ++ one) ≡ 0
+  desk-empty =
       ap (items_after t n) (ap (λ ds. before ++ ds) (f.all ∙ sym (append_assoc f.ticks f.dues rest))
       ∙ sym (append_assoc before (f.ticks ++ f.dues) rest))
       ∙ empty-after t n (before ++ (f.ticks ++ f.dues)) f.items f.takings f.handled f.count
@@ -70,13 +70,13 @@ module _ (t : Network) (lines : List Disturb) (n : NodeId) (tick : Bool) (before
       no_due : g.dues ≡ []
       no_due =
           none_delivered (due_in (after ++ g.ticks)) g.dues (ap (λ ds. due_in (after ++ ds)) no_tick
-          ∙ ap due_in (append-nil after) ∙ none_due) g.are_due
+          ∙ ap due_in (append-nil after) ∙ nothing-due) g.are_due
 
       no_item : g.items ≡ []
       no_item =
           no_items g.items (g.count ∙ ap (λ ds. items_after t n (after ++ (ds ++ g.dues))) no_tick
           ∙ ap (λ ds. items_after t n (after ++ ds)) no_due ∙ ap (items_after t n) (append-nil after)
-          ∙ empty)
+          ∙ desk-empty)
 
       second : two ≡ all_doings g.takings
       second =
@@ -149,13 +149,13 @@ turns-make-a-cut-turn t lines n tick before one two f g = record {
     no_due : g.dues ≡ []
     no_due =
         none_delivered g.freed g.dues (no_more g.freed g.kept (sym g.due ∙ ap (λ ds. due_in (after ++ ds)) no_tick
-        ∙ ap due_in (append-nil after) ∙ none_due t lines n tick before one f)) g.are_due
+        ∙ ap due_in (append-nil after) ∙ nothing-due t lines n tick before one f)) g.are_due
 
     desk : items_after t n (after ++ (g.ticks ++ g.dues)) ≡ 0
     desk =
         ap (λ ds. items_after t n (after ++ (ds ++ g.dues))) no_tick
         ∙ ap (λ ds. items_after t n (after ++ ds)) no_due ∙ ap (items_after t n) (append-nil after)
-        ∙ empty t lines n tick before one f
+        ∙ desk-empty t lines n tick before one f
 
     no_item : g.items ≡ []
     no_item = no_items g.items (let few = g.few in omega (arith, few, desk))

@@ -1,5 +1,5 @@
 -- Rounds with one worker: a function of the record.
-use Rattle.std.specs.Prelude.{◌+◌, ◌-◌, ◌==◌, ◌&&◌, ℕ, true, List, [], ◌∷◌, ◌++◌, drop, fold, length, map, Option, Some}
+use Rattle.std.specs.Prelude.{◌+◌, ◌-◌, ◌==◌, ◌&&◌, ℕ, true, List, [], ◌∷◌, ◌++◌, drop, fold, length, map, Option, Some, is_some}
 use Rattle.std.specs.Prelude.{None, if◌then◌else◌}
 use Rattle.std.specs.List.{flat_map, range_with_len}
 use Rattle.ason_base.specs.declared.ids.NodeId.{NodeId}
@@ -11,7 +11,8 @@ use Rattle.world_rules.specs.Worlds.{numbered_at}
 use Rattle.world_merge.specs.Deeds.{sent_by}
 use Rattle.world_merge.specs.Stamps.{sent_stamp}
 use Rattle.round_rules.specs.Doings.{Doing}
-use Rattle.round_rules.specs.Functions.{Popped, tick_if, turn_after}
+use Rattle.round_rules.specs.Functions.{Popped, tick_if}
+use Rattle.round_rules.specs.Limits.{Progress, turn_to}
 use Rattle.round_rules.specs.Held.{HeldFrame, due_in}
 use Rattle.round_rules.specs.Records.{Record, deeds_at}
 use Rattle.round_rules.specs.Rings.{count_of, standing}
@@ -40,11 +41,12 @@ due_popped t r n hs = flat_map (λ (h : HeldFrame). popped_of t r n h.from h.num
 
 -- One node's turns
 
--- what the node did after its turns: in the first all that stands there is taken, and then nothing is left
-abbrev pub doings_after : Network → List Disturb → Record → NodeId → List Doing
-doings_after t lines r n =
+-- what the node does in its turns, up to its limit: in the first all that stands there is taken, and then nothing is
+-- left
+abbrev pub turns_to : Network → List Disturb → Record → NodeId → Progress
+turns_to t lines r n =
     let before = r.doings n.0 in
-    turn_after t lines n true before (due_popped t r n (due_in (tick_if true before))) (all_popped t r n)
+    turn_to t lines n true before (due_popped t r n (due_in (tick_if true before))) (all_popped t r n)
 
 abbrev pub with_doings : Record → ℕ → List Doing → Record
 with_doings r n ds = record r { doings = λ m. if m == n then ds else r.doings m }
@@ -67,18 +69,27 @@ with_drops t before after n = record after {
 abbrev pub after_turns : Network → Record → NodeId → List Doing → Record
 after_turns t r n ds = with_drops t r (with_doings r n.0 ds) n
 
-abbrev pub node_round : Network → List Disturb → Record → NodeId → Record
-node_round t lines r n = after_turns t r n (doings_after t lines r n)
-
 -- The round
 
 abbrev pub ids_of : Network → List NodeId
 ids_of t = map (λ n. n.id) t.nodes
 
+-- what a round came to, and the node at whose limit it ended, if it ended at one
+pub record RoundEnd : Type 0 where
+  pub made : Record
+  pub stopped : Option NodeId
+
+abbrev pub node_end : Network → Record → NodeId → Progress → RoundEnd
+node_end t r n p = record { made = after_turns t r n p.doings; stopped = if p.halted then Some n else None }
+
+-- the node makes its turns, unless an earlier node came to its limit
+abbrev pub node_round : Network → List Disturb → RoundEnd → NodeId → RoundEnd
+node_round t lines e n = if is_some e.stopped then e else node_end t e.made n (turns_to t lines e.made n)
+
 -- these nodes, one after the other
-abbrev pub nodes_round : Network → List Disturb → List NodeId → Record → Record
-nodes_round t lines ns r = fold (node_round t lines) r ns
+abbrev pub nodes_round : Network → List Disturb → List NodeId → Record → RoundEnd
+nodes_round t lines ns r = fold (node_round t lines) (record { made = r; stopped = None }) ns
 
 -- the nodes go in order of number
-abbrev pub one_round : Network → List Disturb → Record → Record
+abbrev pub one_round : Network → List Disturb → Record → RoundEnd
 one_round t lines r = nodes_round t lines (ids_of t) r

@@ -1,5 +1,5 @@
 -- What stations have made so far, of which all else is a function: logs, posts, rings, held frames, and the world.
-use Rattle.std.specs.Prelude.{◌≡◌, ℕ, List}
+use Rattle.std.specs.Prelude.{◌≡◌, ℕ, List, []}
 use Rattle.ason_base.specs.declared.commands.Entry.{Entry}
 use Rattle.ason_base.specs.Network.{Network}
 use Rattle.world_rules.specs.Worlds.{World}
@@ -13,6 +13,10 @@ use Rattle.round_rules.specs.Doings.{Doing, deeds_in}
 pub record Record : Type 0 where
   pub doings : ℕ → List Doing
   pub dropped : ℕ → ℕ → List ℕ
+
+-- nothing was done yet
+abbrev pub new_record : Record
+new_record = record { doings = λ n. []; dropped = λ u d. [] }
 
 abbrev pub deeds_at : Record → ℕ → List Deed
 deeds_at r n = deeds_in (r.doings n)

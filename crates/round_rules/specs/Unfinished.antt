@@ -1,11 +1,12 @@
 -- A round that a node's limit ends.
-use Rattle.std.specs.Prelude.{◌≡◌, ◌⊎◌, ℕ, true, false, List, [], ◌∷◌, ◌++◌, length, Option, Some, None}
+use Rattle.std.specs.Prelude.{◌≡◌, ◌<◌, ◌⊎◌, ℕ, Bool, true, false, List, [], ◌∷◌, ◌++◌, drop, length, Option, Some, None}
+use Rattle.std.specs.List.{list_any}
 use Rattle.ason_base.specs.declared.ids.NodeId.{NodeId}
 use Rattle.ason_base.specs.declared.commands.Disturb.{Disturb}
 use Rattle.ason_base.specs.Network.{Network, is_node_id}
-use Rattle.round_rules.specs.Doings.{Doing, Left, Waiting}
+use Rattle.round_rules.specs.Doings.{Did, Doing, Freed, Got, Left, Lost, Waiting}
 use Rattle.round_rules.specs.Halts.{IsCutTurnOf}
-use Rattle.round_rules.specs.OneWorker.{after_turns, doings_after, ids_of, nodes_round, one_round}
+use Rattle.round_rules.specs.OneWorker.{one_round}
 use Rattle.round_rules.specs.Records.{Record, log_at}
 use Rattle.round_rules.specs.Rounds.{DropsAt, IsRound, TakesInOrder, TakesWhatWasSent}
 
@@ -38,25 +39,36 @@ pub record IsUnfinished (t : Network) (lines : List Disturb) (before after : Rec
   pub drops : (u d : NodeId) → DropsAt t before after u d
   pub some : (n : NodeId) × HasLeft t lines before after n
 
--- With one worker: the nodes before this one made their rounds, this one made a first part of its turns and left an
--- input, and the others made none.
-pub record EndsAt (t : Network) (lines : List Disturb) (before after : Record) : Type 0 where
-  pub earlier : List NodeId
-  pub node : NodeId
-  pub later : List NodeId
-  pub all : ids_of t ≡ earlier ++ node ∷ later
-  pub made : List Doing
-  pub rest : List Doing
-  pub whole : doings_after t lines (nodes_round t lines earlier before) node ≡ made ++ rest
-  pub left : Waiting
-  pub ends : after ≡ after_turns t (nodes_round t lines earlier before) node (made ++ Left left ∷ [])
+-- The stop
 
--- a round on so many workers
+abbrev pub is_left : Doing → Bool
+is_left (Did d) = false
+is_left (Got u k says) = false
+is_left Freed = false
+is_left (Lost u k) = false
+is_left (Left w) = true
+
+-- whether the node left an input in this round
+abbrev pub leaves : Record → Record → NodeId → Bool
+leaves before after n = list_any is_left (drop (length (before.doings n.0)) (after.doings n.0))
+
+-- it is the least node that did, and its log is full
+pub record IsStoppedAt (t : Network) (before after : Record) (n : NodeId) : Type 0 where
+  pub known : is_node_id t.nodes n ≡ true
+  pub left : leaves before after n ≡ true
+  pub least : (m : NodeId) → is_node_id t.nodes m ≡ true → m.0 < n.0 → leaves before after m ≡ false
+  pub full : length (log_at after n.0) ≡ 50000
+
+-- Rounds by workers
+
+-- a round on so many workers: with one it is a function of what was done before
 pub record IsRoundBy (t : Network) (lines : List Disturb) (workers : ℕ) (before after : Record) : Type 0 where
   pub round : IsRound t lines before after
-  pub one : workers ≡ 1 → after ≡ one_round t lines before
+  pub one : workers ≡ 1 → one_round t lines before ≡ record { made = after; stopped = None }
 
--- one that a limit ends
-pub record IsUnfinishedBy (t : Network) (lines : List Disturb) (workers : ℕ) (before after : Record) : Type 0 where
+-- one that ends at the limit of this node; with one worker later nodes make no turn
+pub record IsUnfinishedBy (t : Network) (lines : List Disturb) (workers : ℕ) (before after : Record)
+    (n : NodeId) : Type 0 where
   pub unfinished : IsUnfinished t lines before after
-  pub one : workers ≡ 1 → EndsAt t lines before after
+  pub stopped : IsStoppedAt t before after n
+  pub one : workers ≡ 1 → one_round t lines before ≡ record { made = after; stopped = Some n }

@@ -1,260 +1,248 @@
--- What a link is after frames were sent over it.
-use Rattle.std.proofs.Common.{◌≡◌, ◌+◌, ◌-◌, ℕ, zero, suc, Bool, true, false, cond, nat_eq, nat_lt, List, [], ◌∷◌, ◌++◌, length, map, filter, refl, sym, ap, ◌∙◌, subst, arith, append_assoc}
-use Rattle.std.specs.Prelude.{slice_get, Some}
-use Rattle.std.specs.List.{AllByRecursion}
-use Rattle.std.proofs.lemmas.List.{length-append, map-append}
+-- Frames that go over the links of a station.
+use Rattle.std.proofs.Common.{◌≡◌, ◌≤◌, ◌<◌, ◌+◌, ◌^◌, ℕ, zero, suc, Bool, true, false, cond, not, nat_eq, nat_lt, List}
+use Rattle.std.proofs.Common.{[], ◌∷◌, ◌++◌, length, refl, sym, ap, ◌∙◌, subst, arith}
+use Rattle.std.specs.Prelude.{position, slice_get, slice_set, Option, Some, None, MatchOption}
+use Rattle.std.specs.List.{AllByRecursion, AllZip, position_or_len}
 use Rattle.ason_base.specs.declared.ids.NodeId.{NodeId}
-use Rattle.flood.specs.declared.frames.Content.{Content}
-use Rattle.flood.specs.Frames.{IsFrame as spells, frame_bytes}
-use Rattle.control_channels.specs.Frames.{Sending, frames_to}
-use Rattle.world_rules.specs.Standing.{contents_to}
-use Rattle.world_rules.specs.Worlds.{World, numbered_at}
-use Rattle.station.specs.declared.parcels.Parcel.{Parcel}
-use Rattle.station.specs.Histories.{all_pushed, count_of, numbers_after, pushed, refilled}
-use Rattle.station.specs.Links.{LinkState, after_frames, is_to, with_parcel}
-use Rattle.station.specs.Standing.{AreParcelsOf, IsParcelOf, LinkStands, numbers_of}
+use Rattle.control_channels.specs.declared.frames.Frame.{Frame}
+use Rattle.hop_reliable.proofs.Members.{each-append}
+use Rattle.station_sound.specs.declared.parcels.Parcel.{Parcel}
+use Rattle.station_sound.specs.Links.{LinkView, after_frame, after_frames, is_to as is_view_to, with_parcel}
+use Rattle.rtrb.specs.Ring.{known_items}
+use Rattle.station_rings.specs.declared.parcels.Head.{Head}
+use Rattle.station_rings.specs.LinkStates.{IsBearing, IsHead, LinkState, SameEnds, view_of}
+use Rattle.station_doings.specs.Moves.{ArePeersApart, IsSentOver, peers_of}
+use Rattle.station_doings.proofs.Moving.{moved-none, moved-sent, same-ends}
+use Rattle.station.specs.Sending.{IsEmptyAt, IsHeadAt, MaySend, NoneAbove, is_to}
 
-turned : (a b : ℕ) (c : Bool) → nat_eq a b ≡ c → nat_eq b a ≡ c
-turned a b true e = grind arith
-turned a b false e = grind arith
+-- One link
 
--- Frames are parcels of what goes to the neighbour.
+self_ends : (l : LinkState) → SameEnds l l
+self_ends l = (moved-none l).0.ends
 
-abbrev with_all : NodeId → List Content → LinkState → LinkState
-with_all me [] l = l
-with_all me (p ∷ ps) l = with_all me ps (with_parcel (frame_bytes me p) l)
+-- frames to others don't go over it
+pub sent-none : (stamp : ℕ) (f : Frame) (l : LinkState) → is_to f.to l ≡ false → IsSentOver stamp (f ∷ []) l l
+sent-none stamp f l other = record {
+  view = sym (ap (λ b. cond b (with_parcel stamp f.bytes (view_of l)) (view_of l)) other);
+  ends = self_ends l;
+  into = refl;
+  early = refl;
+}
 
-all-sent : (me : NodeId) (ss : List Sending) (l : LinkState) →
-    after_frames (frames_to me ss) l ≡ with_all me (contents_to l.peer.0 ss) l
-all-sent me [] l = refl
-all-sent me (s ∷ ss) l = go (is_to s.to l) refl (all-sent me ss)
-  where
-    packets : (b : Bool) → nat_eq s.to.0 l.peer.0 ≡ b → contents_to l.peer.0 (s ∷ ss) ≡ cond b
-        (s.content ∷ contents_to l.peer.0 ss) (contents_to l.peer.0 ss)
-    packets true h = rw h refl
-    packets false h = rw h refl
+pub sent-one : (stamp : ℕ) (f : Frame) (l m : LinkState) → is_to f.to l ≡ true →
+    view_of m ≡ with_parcel stamp f.bytes (view_of l) → SameEnds l m → m.into ≡ l.into → m.early ≡ l.early →
+    IsSentOver stamp (f ∷ []) l m
+sent-one stamp f l m to view ends into early = record {
+  view = view ∙ sym (ap (λ b. cond b (with_parcel stamp f.bytes (view_of l)) (view_of l)) to);
+  ends = ends;
+  into = into;
+  early = early;
+}
 
-    go : (b : Bool) → is_to s.to l ≡ b → ((k : LinkState) → after_frames (frames_to me ss) k ≡ with_all me
-        (contents_to k.peer.0 ss) k) →
-        after_frames (frames_to me ss) (cond b (with_parcel (frame_bytes me s.content) l) l) ≡ with_all me
-        (contents_to l.peer.0 (s ∷ ss)) l
-    go true e rest =
-        rest (with_parcel (frame_bytes me s.content) l) ∙ sym
-        (ap (λ ps. with_all me ps l) (packets true (turned l.peer.0 s.to.0 true e)))
-    go false e rest = rest l ∙ sym (ap (λ ps. with_all me ps l) (packets false (turned l.peer.0 s.to.0 false e)))
+-- All links
 
--- each of these is spelled by its frame
-abbrev pub AreSpelled : NodeId → List Content → Type 0
-AreSpelled me ps = AllByRecursion (λ p. spells (frame_bytes me p) p) ps
+-- none leads to the neighbour
+pub sent-nowhere : (stamp : ℕ) (f : Frame) (links : List LinkState) →
+    AllByRecursion (λ (l : LinkState). is_to f.to l ≡ false) links → AllZip (IsSentOver stamp (f ∷ [])) links links
+sent-nowhere stamp f [] all = tt
+sent-nowhere stamp f (l ∷ links) all = (sent-none stamp f l all.0, sent-nowhere stamp f links all.1)
 
-pub spelled-to : (me : NodeId) (d : ℕ) (ss : List Sending) →
-    AllByRecursion (λ (s : Sending). spells (frame_bytes me s.content) s.content) ss → AreSpelled me (contents_to d ss)
-spelled-to me d [] all = tt
-spelled-to me d (s ∷ ss) all = go (nat_eq s.to.0 d) (spelled-to me d ss all.1)
-  where
-    go : (b : Bool) → AreSpelled me (contents_to d ss) → AreSpelled me
-        (map (λ (r : Sending). r.content) (cond b (s ∷ filter (λ (r : Sending). nat_eq r.to.0 d) ss)
-        (filter (λ (r : Sending). nat_eq r.to.0 d) ss)))
-    go true rest = (all.0, rest)
-    go false rest = rest
+same_number : (a b : ℕ) → nat_eq a b ≡ true → a ≡ b
+same_number a b h = grind (arith, h)
 
--- One frame more
+turned : (a b : ℕ) → nat_eq a b ≡ false → nat_eq b a ≡ false
+turned a b h = grind (arith, h)
 
--- n frames were sent, the ring is this, and the neighbour has its first frames there
-record IsSentBy (n : ℕ) (contents : List Content) (there ring : List ℕ) (l : LinkState) : Type 0 where
-  sent : l.sent ≡ n
-  standing : l.standing ≡ length ring
-  goes : there ++ numbers_of l.backlog ≡ ring
-  going : AreParcelsOf contents l.backlog
+others : (n : NodeId) (l : LinkState) (links : List LinkState) → is_to n l ≡ true →
+    AllByRecursion (λ (m : NodeId). nat_eq m.0 l.peer.0 ≡ false) (peers_of links) →
+    AllByRecursion (λ (m : LinkState). is_to n m ≡ false) links
+others n l [] to all = tt
+others n l (m ∷ links) to all =
+    (ap (nat_eq m.peer.0) (sym (same_number l.peer.0 n.0 to)) ∙ all.0, others n l links to all.1)
 
-all_put : {X : Type 0} (P : X → Type 0) (xs : List X) (x : X) → AllByRecursion P xs → P x →
-    AllByRecursion P (xs ++ x ∷ [])
-all_put P [] x p h = (h, tt)
-all_put P (y ∷ xs) x p h = (p.0, all_put P xs x p.1 h)
+at_peers : (P : NodeId → Type 0) (links : List LinkState) (i : ℕ) (l : LinkState) → slice_get links i ≡ Some l →
+    AllByRecursion P (peers_of links) → P l.peer
+at_peers P [] i l at all = absurd (cc (at))
+at_peers P (k ∷ links) zero l at all = let same : k ≡ l = cc (at) in subst (λ (x : LinkState). P x.peer) same all.0
+at_peers P (k ∷ links) (suc i) l at all = at_peers P links i l at all.1
 
-one_more_there : (there ring : List ℕ) (parcels : List Parcel) (k : ℕ) (p : Parcel) → p.number ≡ k →
-    there ++ numbers_of parcels ≡ ring → there ++ numbers_of (parcels ++ p ∷ []) ≡ ring ++ k ∷ []
-one_more_there there ring parcels k p same is =
-    ap (λ ks. there ++ ks) (map-append (λ (q : Parcel). q.number) parcels (p ∷ []))
-    ∙ sym (append_assoc there (numbers_of parcels) (p.number ∷ []))
-    ∙ ap (λ ks. ks ++ p.number ∷ []) is
-    ∙ ap (λ j. ring ++ j ∷ []) same
-
-sent-more : (n : ℕ) (contents : List Content) (there ring : List ℕ) (frame : List ℕ) (l : LinkState) →
-    IsParcelOf contents (record { number = n + 1; frame = frame }) →
-    IsSentBy n contents there ring l → IsSentBy (n + 1) contents there (pushed ring (n + 1)) (with_parcel frame l)
-sent-more n contents there ring frame l parcel is = go (nat_lt (length ring) 256) (ap (λ k. nat_lt k 256) is.standing)
-  where
-    next : Parcel
-    next = record { number = l.sent + 1; frame = frame }
-
-    goes : (b : Bool) → there ++ numbers_of (cond b (l.backlog ++ next ∷ []) l.backlog) ≡ cond b
-        (ring ++ (n + 1) ∷ []) ring
-    goes true = one_more_there there ring l.backlog (n + 1) next (ap (λ k. k + 1) is.sent) is.goes
-    goes false = is.goes
-
-    going : (b : Bool) → AreParcelsOf contents (cond b (l.backlog ++ next ∷ []) l.backlog)
-    going true = all_put (IsParcelOf contents) l.backlog next is.going
-        (subst (λ k. IsParcelOf contents (record { number = k + 1; frame = frame })) (sym is.sent) parcel)
-    going false = is.going
-
-    standing : (b : Bool) → cond b (l.standing + 1) l.standing ≡ length (cond b (ring ++ (n + 1) ∷ []) ring)
-    standing true = rw length-append (ap (λ k. k + 1) is.standing)
-    standing false = is.standing
-
-    go : (b : Bool) → nat_lt l.standing 256 ≡ nat_lt (length ring) 256 →
-        IsSentBy (n + 1) contents there (pushed ring (n + 1)) (with_parcel frame l)
-    go b same = record {
-      sent = ap (λ k. k + 1) is.sent;
-      standing = ap (λ c. cond c (l.standing + 1) l.standing) same ∙ standing (nat_lt (length ring) 256);
-      goes = ap (λ c. there ++ numbers_of (cond c (l.backlog ++ next ∷ []) l.backlog)) same
-          ∙ goes (nat_lt (length ring) 256);
-      going = going (nat_lt l.standing 256);
-    }
-
-at_end : {X : Type 0} (base rest : List X) (x : X) → slice_get (base ++ x ∷ rest) (length base) ≡ Some x
-at_end [] rest x = refl
-at_end (y ∷ base) rest x = at_end base rest x
-
-numbered-end : (base rest : List Content) (c : Content) (n : ℕ) → length base ≡ n → numbered_at (base ++ c ∷ rest)
-    (n + 1) ≡ Some c
-numbered-end base rest c n same =
-    let next : suc (length base) ≡ n + 1 = omega arith in
-    subst (λ k. numbered_at (base ++ c ∷ rest) k ≡ Some c) next (at_end base rest c)
-
-sent-all : (me : NodeId) (ps : List Content) (n : ℕ) (base contents : List Content) (there ring : List ℕ)
-    (l : LinkState) → length base ≡ n → contents ≡ base ++ ps → AreSpelled me ps →
-    IsSentBy n contents there ring l → IsSentBy (n + length ps) contents there
-    (all_pushed ring (numbers_after n (length ps))) (with_all me ps l)
-sent-all me [] n base contents there ring l same whole spelled is =
-    subst (λ k. IsSentBy k contents there ring l) none is
-  where
-    none : n ≡ n + 0
-    none = omega arith
-sent-all me (p ∷ ps) n base contents there ring l same whole spelled is =
-    subst (λ k. IsSentBy k contents there (all_pushed (pushed ring (n + 1)) (numbers_after (n + 1) (length ps)))
-    (with_all me ps (with_parcel (frame_bytes me p) l))) counted
-    (sent-all me ps (n + 1) (base ++ p ∷ []) contents there (pushed ring (n + 1))
-    (with_parcel (frame_bytes me p) l)
-    (rw length-append (ap (λ k. k + 1) same)) (whole ∙ sym (append_assoc base (p ∷ [])
-    ps)) spelled.1
-    (sent-more n contents there ring (frame_bytes me p) l parcel is))
-  where
-    counted : (n + 1) + length ps ≡ n + suc (length ps)
-    counted = omega arith
-
-    parcel : IsParcelOf contents (record { number = n + 1; frame = frame_bytes me p })
-    parcel = record {
-      content = p;
-      there = ap (λ cs. numbered_at cs (n + 1)) whole ∙ numbered-end base ps p n same;
-      spells = spelled.0;
-    }
-
-with_all-early : (me : NodeId) (ps : List Content) (l : LinkState) → (with_all me ps l).early ≡ l.early
-with_all-early me [] l = refl
-with_all-early me (p ∷ ps) l = with_all-early me ps (with_parcel (frame_bytes me p) l)
-
-with_all-peer : (me : NodeId) (ps : List Content) (l : LinkState) → (with_all me ps l).peer ≡ l.peer
-with_all-peer me [] l = refl
-with_all-peer me (p ∷ ps) l = with_all-peer me ps (with_parcel (frame_bytes me p) l)
-
--- Parcels stay parcels of a channel that grows.
-
-slice_get-append : {X : Type 0} (xs ys : List X) (k : ℕ) (x : X) → slice_get xs k ≡ Some x →
-    slice_get (xs ++ ys) k ≡ Some x
-slice_get-append [] ys k x e = absurd (cc (e))
-slice_get-append (y ∷ xs) ys zero x e = e
-slice_get-append (y ∷ xs) ys (suc k) x e = slice_get-append xs ys k x e
-
-numbered-append : (cs ds : List Content) (k : ℕ) (c : Content) → numbered_at cs k ≡ Some c →
-    numbered_at (cs ++ ds) k ≡ Some c
-numbered-append cs ds zero c e = absurd (cc (e))
-numbered-append cs ds (suc k) c e = slice_get-append cs ds k c e
-
-pub still-parcels : (cs ds : List Content) (ps : List Parcel) → AreParcelsOf cs ps → AreParcelsOf (cs ++ ds) ps
-still-parcels cs ds [] all = tt
-still-parcels cs ds (p ∷ ps) all = (
-  record {
-    content = all.0.content;
-    there = numbered-append cs ds p.number all.0.content all.0.there;
-    spells =
-        all.0.spells;
-  },
-  still-parcels cs ds ps all.1,
+-- the one at this place does
+pub sent-place : (stamp : ℕ) (f : Frame) (links : List LinkState) (i : ℕ) (l m : LinkState) →
+    slice_get links i ≡ Some l → is_to f.to l ≡ true → ArePeersApart links → IsSentOver stamp (f ∷ []) l m →
+    AllZip (IsSentOver stamp (f ∷ [])) links (slice_set links i m)
+sent-place stamp f [] i l m at to apart is = absurd (cc (at))
+sent-place stamp f (k ∷ links) zero l m at to apart is =
+    let same : k ≡ l = cc (at) in (
+      subst (λ (x : LinkState). IsSentOver stamp (f ∷ []) x m) (sym same) is,
+      sent-nowhere stamp f links
+          (others f.to k links (subst (λ (x : LinkState). is_to f.to x ≡ true) (sym same) to) apart.0),
+    )
+sent-place stamp f (k ∷ links) (suc i) l m at to apart is = (
+  sent-none stamp f k
+      (ap (nat_eq k.peer.0) (sym (same_number l.peer.0 f.to.0 to))
+      ∙ turned l.peer.0 k.peer.0 (at_peers (λ (x : NodeId). nat_eq x.0 k.peer.0 ≡ false) links i l at apart.0)),
+  sent-place stamp f links i l m at to apart.1 is,
 )
 
--- From one world to the next the node n sends this, and no other node sends any.
-pub record IsSending (old new : World) (n : NodeId) (ss : List Sending) : Type 0 where
-  pub own : (d : ℕ) → new.channels n.0 d ≡ old.channels n.0 d ++ contents_to d ss
-  pub others : (u d : ℕ) → nat_eq u n.0 ≡ false → new.channels u d ≡ old.channels u d
-
-pub length-map : {X Y : Type 0} (f : X → Y) (xs : List X) → length (map f xs) ≡ length xs
-length-map f [] = refl
-length-map f (x ∷ xs) = ap suc (length-map f xs)
-
-pub link-sends : (old new : World) (rings : ℕ → ℕ → List ℕ) (n : NodeId) (ss : List Sending) (there : ℕ → List ℕ)
-    (l : LinkState) → IsSending old new n ss →
-    AllByRecursion (λ (s : Sending). spells (frame_bytes n s.content) s.content) ss → LinkStands old rings n there l →
-    LinkStands new (refilled old new rings) n there (after_frames (frames_to n ss) l)
-link-sends old new rings n ss there l is spelled stands = subst (LinkStands new (refilled old new rings) n there)
-    (sym (all-sent n ss l)) now
+none_passes : (p : LinkState → Bool) (links : List LinkState) →
+    nat_lt (position_or_len p links) (length links) ≡ false → AllByRecursion (λ (l : LinkState). p l ≡ false) links
+none_passes p [] h = tt
+none_passes p (l ∷ links) h = go (none_passes p links) (p l) refl h
   where
-    d : ℕ
-    d = l.peer.0
+    nothing_below : (n : ℕ) → nat_lt 0 (suc n) ≡ false → ⊥
+    nothing_below n h = absurd (grind (arith, h))
 
-    ps : List Content
-    ps = contents_to d ss
+    farther : (a b : ℕ) → nat_lt (1 + a) (suc b) ≡ false → nat_lt a b ≡ false
+    farther a b h = grind (arith, h)
 
-    count : count_of new n.0 d ≡ count_of old n.0 d + length ps
-    count = ap length (is.own d) ∙ length-append (old.channels n.0 d) ps
+    go : (nat_lt (position_or_len p links) (length links) ≡ false →
+        AllByRecursion (λ (k : LinkState). p k ≡ false) links) → (b : Bool) → p l ≡ b →
+        nat_lt (cond (not b) (1 + position_or_len p links) 0) (suc (length links)) ≡ false →
+        AllByRecursion (λ (k : LinkState). p k ≡ false) (l ∷ links)
+    go rest true e k = absurd (nothing_below (length links) k)
+    go rest false e k = (e, rest (farther (position_or_len p links) (length links) k))
 
-    more : (a b k : ℕ) → a ≡ b + k → a - b ≡ k
-    more a b k h = omega arith
+-- where a neighbour isn't found, no link leads there
+pub nowhere : (p : LinkState → Bool) (links : List LinkState) → position p links ≡ None →
+    AllByRecursion (λ (l : LinkState). p l ≡ false) links
+nowhere p links none = go (nat_lt (position_or_len p links) (length links)) refl none
+  where
+    go : (b : Bool) → nat_lt (position_or_len p links) (length links) ≡ b →
+        cond b (Some (position_or_len p links)) None ≡ None → AllByRecursion (λ (l : LinkState). p l ≡ false) links
+    go true e h = absurd (cc (h))
+    go false e h = none_passes p links e
 
-    first : IsSentBy (count_of old n.0 d) (new.channels n.0 d) (there d) (rings n.0 d) l
-    first = record {
-      sent = stands.sent;
-      standing = stands.standing;
-      goes = stands.goes;
-      going = subst (λ cs. AreParcelsOf cs l.backlog) (sym (is.own d))
-          (still-parcels (old.channels n.0 d) ps l.backlog stands.going);
-    }
+-- Frames, one after the other
 
-    last : IsSentBy (count_of old n.0 d + length ps) (new.channels n.0 d) (there d)
-        (all_pushed (rings n.0 d) (numbers_after (count_of old n.0 d) (length ps))) (with_all n ps l)
-    last = sent-all n ps (count_of old n.0 d) (old.channels n.0 d) (new.channels n.0 d) (there d)
-        (rings n.0 d) l refl (is.own d) (spelled-to n d ss spelled) first
+-- before any frame
+pub sent-start : (stamp : ℕ) (links : List LinkState) → AllZip (IsSentOver stamp []) links links
+sent-start stamp [] = tt
+sent-start stamp (l ∷ links) =
+    (record { view = refl; ends = self_ends l; into = refl; early = refl }, sent-start stamp links)
 
-    ring : all_pushed (rings n.0 d) (numbers_after (count_of old n.0 d) (length ps)) ≡ refilled old new rings n.0 d
-    ring = ap (λ k. all_pushed (rings n.0 d) (numbers_after (count_of old n.0 d) k))
-        (sym (more (count_of new n.0 d) (count_of old n.0 d) (length ps) count))
+after_more : (stamp : ℕ) (fs : List Frame) (f : Frame) (v : LinkView) →
+    after_frames stamp (fs ++ f ∷ []) v ≡ after_frame stamp f (after_frames stamp fs v)
+after_more stamp [] f v = refl
+after_more stamp (g ∷ fs) f v = after_more stamp fs f (after_frame stamp g v)
 
-    nothing : (a b : ℕ) → a ≡ b → a - b ≡ 0
-    nothing a b h = omega arith
+sent_more : (stamp : ℕ) (fs : List Frame) (f : Frame) (l m k : LinkState) → IsSentOver stamp fs l m →
+    IsSentOver stamp (f ∷ []) m k → IsSentOver stamp (fs ++ f ∷ []) l k
+sent_more stamp fs f l m k a b = record {
+  view = b.view ∙ ap (after_frame stamp f) a.view ∙ sym (after_more stamp fs f (view_of l));
+  ends = same-ends l m k a.ends b.ends;
+  into = b.into ∙ a.into;
+  early = b.early ∙ a.early;
+}
 
-    back : rings d n.0 ≡ refilled old new rings d n.0
-    back = ap (λ k. all_pushed (rings d n.0) (numbers_after (count_of old d n.0) k))
-        (sym (nothing (count_of new d n.0) (count_of old d n.0) (ap length (is.others d n.0 stands.other))))
+-- one frame more
+pub sent-more : (stamp : ℕ) (fs : List Frame) (f : Frame) (xs ys zs : List LinkState) →
+    AllZip (IsSentOver stamp fs) xs ys → AllZip (IsSentOver stamp (f ∷ [])) ys zs →
+    AllZip (IsSentOver stamp (fs ++ f ∷ [])) xs zs
+sent-more stamp fs f [] [] [] a b = tt
+sent-more stamp fs f [] [] (z ∷ zs) a b = absurd b
+sent-more stamp fs f [] (y ∷ ys) zs a b = absurd a
+sent-more stamp fs f (x ∷ xs) [] zs a b = absurd a
+sent-more stamp fs f (x ∷ xs) (y ∷ ys) [] a b = absurd b
+sent-more stamp fs f (x ∷ xs) (y ∷ ys) (z ∷ zs) a b =
+    (sent_more stamp fs f x y z a.0 b.0, sent-more stamp fs f xs ys zs a.1 b.1)
 
-    stands_with : (m : LinkState) → m.peer ≡ l.peer → m.early ≡ l.early → IsSentBy (count_of old n.0 d + length ps)
-        (new.channels n.0 d) (there d) (refilled old new rings n.0 d) m →
-        LinkStands new (refilled old new rings) n there m
-    stands_with m peer early by = record {
-      other = ap (λ (k : NodeId). nat_eq k.0 n.0) peer ∙ stands.other;
-      sent = by.sent ∙ sym count ∙ ap (λ (k : NodeId). count_of new n.0 k.0) (sym peer);
-      standing = by.standing ∙ ap (λ (k : NodeId). length (refilled old new rings n.0 k.0)) (sym peer);
-      goes = ap (λ (k : NodeId). there k.0 ++ numbers_of m.backlog) peer ∙ by.goes
-          ∙ ap (λ (k : NodeId). refilled old new rings n.0 k.0) (sym peer);
-      going = subst (λ (k : NodeId). AreParcelsOf (new.channels n.0 k.0) m.backlog) (sym peer) by.going;
-      comes = ap numbers_of early ∙ stands.comes ∙ back ∙ ap (λ (k : NodeId). refilled old new rings k.0 n.0)
-          (sym peer);
-      coming =
-          subst (λ (k : NodeId). AreParcelsOf (new.channels k.0 n.0) m.early) (sym peer)
-          (subst (AreParcelsOf (new.channels d n.0)) (sym early)
-          (subst (λ cs. AreParcelsOf cs l.early) (sym (is.others d n.0 stands.other)) stands.coming));
-    }
+-- Numbers and stamps
 
-    now : LinkStands new (refilled old new rings) n there (with_all n ps l)
-    now = stands_with (with_all n ps l) (with_all-peer n ps l) (with_all-early n ps l)
-        (subst (λ r. IsSentBy (count_of old n.0 d + length ps) (new.channels n.0 d)
-        (there d) r (with_all n ps l)) ring last)
+frame_sent : (stamp : ℕ) (f : Frame) (v : LinkView) → (after_frame stamp f v).sent ≤ v.sent + 1
+frame_sent stamp f v = go (is_view_to f.to v)
+  where
+    go : (b : Bool) → (cond b (with_parcel stamp f.bytes v) v).sent ≤ v.sent + 1
+    go true = omega arith
+    go false = omega arith
+
+frames_sent : (stamp : ℕ) (fs : List Frame) (v : LinkView) → (after_frames stamp fs v).sent ≤ v.sent + length fs
+frames_sent stamp [] v = omega arith
+frames_sent stamp (f ∷ fs) v =
+    two (after_frames stamp fs (after_frame stamp f v)).sent (after_frame stamp f v).sent v.sent (length fs)
+    (frames_sent stamp fs (after_frame stamp f v)) (frame_sent stamp f v)
+  where
+    two : (a b c d : ℕ) → a ≤ b + d → b ≤ c + 1 → a ≤ c + suc d
+    two a b c d h k = omega (arith, h, k)
+
+-- a link over which frames went has sent as many more at most
+pub over-sent : (stamp : ℕ) (fs : List Frame) (l m : LinkState) → IsSentOver stamp fs l m →
+    m.sent ≤ l.sent + length fs
+over-sent stamp fs l m is =
+    subst (λ (v : LinkView). v.sent ≤ l.sent + length fs) (sym is.view) (frames_sent stamp fs (view_of l))
+
+abbrev Below : ℕ → List Parcel → Type 0
+Below stamp ps = AllByRecursion (λ (p : Parcel). p.stamp ≤ stamp) ps
+
+frame_below : (stamp : ℕ) (f : Frame) (v : LinkView) → Below stamp v.gone → Below stamp (after_frame stamp f v).gone
+frame_below stamp f v all = go (is_view_to f.to v) (nat_lt v.standing 256)
+  where
+    p : Parcel
+    p = record { number = v.sent + 1; stamp = stamp; frame = f.bytes }
+
+    kept : (b : Bool) → Below stamp (cond b (v.gone ++ p ∷ []) v.gone)
+    kept true = each-append (λ (q : Parcel). q.stamp ≤ stamp) v.gone (p ∷ []) all (omega arith, tt)
+    kept false = all
+
+    go : (b c : Bool) → Below stamp (cond b (record v {
+      sent = v.sent + 1;
+      standing = cond c (v.standing + 1) v.standing;
+      gone = cond c (v.gone ++ p ∷ []) v.gone;
+    }) v).gone
+    go true c = kept c
+    go false c = all
+
+frames_below : (stamp : ℕ) (fs : List Frame) (v : LinkView) → Below stamp v.gone →
+    Below stamp (after_frames stamp fs v).gone
+frames_below stamp [] v all = all
+frames_below stamp (f ∷ fs) v all =
+    frames_below stamp fs (after_frame stamp f v) (frame_below stamp f v all)
+
+-- and no stamp above theirs
+pub over-below : (stamp : ℕ) (fs : List Frame) (l m : LinkState) → IsSentOver stamp fs l m → NoneAbove stamp l →
+    NoneAbove stamp m
+over-below stamp fs l m is all =
+    subst (λ (v : LinkView). Below stamp v.gone) (sym is.view) (frames_below stamp fs (view_of l) all)
+
+-- a frame more can be sent
+pub may-still : (stamp k : ℕ) (fs : List Frame) (xs ys : List LinkState) → length fs + 1 ≤ k →
+    AllZip (IsSentOver stamp fs) xs ys → AllByRecursion (MaySend k stamp) xs → AllByRecursion (MaySend 1 stamp) ys
+may-still stamp k fs [] [] le sent may = tt
+may-still stamp k fs [] (y ∷ ys) le sent may = absurd sent
+may-still stamp k fs (x ∷ xs) [] le sent may = absurd sent
+may-still stamp k fs (x ∷ xs) (y ∷ ys) le sent may = (
+  record {
+    numbers = less y.sent x.sent (length fs) k (over-sent stamp fs x y sent.0) le may.0.numbers;
+    stamps = over-below stamp fs x y sent.0 may.0.stamps;
+  },
+  may-still stamp k fs xs ys le sent.1 may.1,
+)
+  where
+    less : (a b c d : ℕ) → a ≤ b + c → c + 1 ≤ d → b + d < 2 ^ 64 → a + 1 < 2 ^ 64
+    less a b c d h i j = omega (arith, h, i, j)
+
+-- they lead where they led
+pub sent-peers : (stamp : ℕ) (fs : List Frame) (xs ys : List LinkState) → AllZip (IsSentOver stamp fs) xs ys →
+    peers_of ys ≡ peers_of xs
+sent-peers stamp fs [] [] all = refl
+sent-peers stamp fs [] (y ∷ ys) all = absurd all
+sent-peers stamp fs (x ∷ xs) [] all = absurd all
+sent-peers stamp fs (x ∷ xs) (y ∷ ys) all =
+    λ i. (moved-sent stamp fs x y all.0).0.peer i ∷ sent-peers stamp fs xs ys all.1 i
+
+-- Links at a place
+
+get_set : (links : List LinkState) (i : ℕ) (l m : LinkState) → slice_get links i ≡ Some l →
+    slice_get (slice_set links i m) i ≡ Some m
+get_set [] i l m at = absurd (cc (at))
+get_set (k ∷ links) zero l m at = refl
+get_set (k ∷ links) (suc i) l m at = get_set links i l m at
+
+-- what is known of the first frame of the link that was written there
+pub head-at : (r : Option Head) (links : List LinkState) (i : ℕ) (l m : LinkState) → slice_get links i ≡ Some l →
+    AllByRecursion IsBearing m.early →
+    MatchOption r ((m.early ≡ []) × (known_items m.into ≡ [])) (λ h. IsHead h m.early) →
+    MatchOption r (IsEmptyAt i (slice_set links i m)) (λ h. IsHeadAt h i (slice_set links i m))
+head-at None links i l m at bears is =
+    record { link = m; there = get_set links i l m at; early = is.0; known = is.1 }
+head-at (Some h) links i l m at bears is =
+    record { link = m; there = get_set links i l m at; head = is; bears = bears }

@@ -1,127 +1,201 @@
--- The first frame that came from a neighbour is the first of its ring.
-use Rattle.std.proofs.Common.{◌≡◌, ◌<◌, ℕ, suc, true, false, nat_lt, List, [], ◌∷◌, drop, length, map, refl, sym, ap, ◌∙◌, subst, arith}
-use Rattle.std.specs.Prelude.{slice_get, Some, None}
+-- A frame that is taken is the one that came first, and the station stays that of its node.
+use Rattle.std.proofs.Common.{◌≡◌, ◌<◌, ◌≤◌, inl, ℕ, zero, suc, List, [], ◌∷◌, ◌++◌, length, refl, sym, ap, ◌∙◌}
+use Rattle.std.proofs.Common.{subst, arith}
+use Rattle.std.specs.Prelude.{slice_get, Option, Some, Err}
+use Rattle.std.proofs.lemmas.List.{length-append}
+use Rattle.rtrb.specs.Ring.{sent}
+use Rattle.ason_base.specs.declared.commands.DisturbKind.{DisturbKind}
 use Rattle.ason_base.specs.declared.ids.NodeId.{NodeId}
-use Rattle.ason_base.specs.declared.commands.DeskItem.{DeskItem}
-use Rattle.ason_base.specs.declared.commands.Event.TheVariants.{Deliver, Desk}
-use Rattle.ason_base.specs.Network.{Network}
-use Rattle.control_channels.specs.declared.inputs.CoreInput.TheVariants as input
-use Rattle.station.specs.declared.parcels.Parcel.{Parcel}
-use Rattle.station.specs.Histories.{History, handled, handled_first, made_by, popped, took, took_first, with_event, with_event_over, world_after}
-use Rattle.station.specs.Links.{LinkState, popped_from}
-use Rattle.world_rules.specs.Standing.{NodeStands}
-use Rattle.station.specs.Standing.{AreParcelsOf, IsParcelOf, LinkStands, Stands, StationState, numbers_of}
-use Rattle.station.specs.Steps.{HasReacted}
-use Rattle.station.proofs.Doing.{AreReady, frame-done, item-done, links-popped}
-use Rattle.station.proofs.Linking.{IsLinkAt, all-get, link-at}
-use Rattle.station.proofs.Making.{able-below, able-full}
-use Rattle.station.proofs.Reacting.{peers-popped}
+use Rattle.control_channels.specs.declared.inputs.CoreInput.{CoreInput}
+use Rattle.control_channels.specs.Kept.{IsFromNeighbour}
+use Rattle.hop_reliable.proofs.Members.{each-append}
+use Rattle.round_rules.specs.Lines.{says}
+use Rattle.station_sound.specs.declared.parcels.Parcel.{Parcel}
+use Rattle.station_rings.specs.LinkStates.{IsTaken, LinkState}
+use Rattle.station_doings.specs.Entered.{me_of}
+use Rattle.station_doings.specs.Moves.{AreApart, ArePeersApart, IsChangedAt, TakesAt}
+use Rattle.station_doings.specs.States.{StationState}
+use Rattle.station_doings.specs.declared.held.HeldParcel.{HeldParcel}
+use Rattle.station_doings.proofs.Places.{all-moved, all-moved-then, changed-peers, moved-peers, nones-moved}
+use Rattle.station_doings.proofs.Places.{taken-from, takes-at, takes-moved, takes-none}
+use Rattle.station.specs.declared.halts.Halt.{Halt}
+use Rattle.station.specs.declared.halts.Halt.TheVariants as halt
+use Rattle.station.specs.declared.links.Ahead.{Ahead}
+use Rattle.station.specs.declared.parts.Parts.{Parts}
+use Rattle.station.specs.Fits.{HeldKeeps, PartsFit, StationFits, state_of}
+use Rattle.station.specs.Leads.{GoesOnAt, IsMoving, IsRead, IsSending}
+use Rattle.station.specs.Rings.{HasDelivered, HasTaken, HasTakenAt, IsAhead, TakesIn}
+use Rattle.station.proofs.Fitting.{Stays, changed-keeps, near-at}
+use Rattle.station.proofs.Frames.{IsDeliveredNow, bears_it, lost-goes, taken-bears, takes-it}
+use Rattle.station.proofs.Staying.{stay-goes}
 
--- the link at a place, and the ring whose frames came over it
-pub record IsRing (t : Network) (h : History) (n u : NodeId) (s : StationState) (place : ℕ) : Type 0 where
-  pub link : LinkState
-  pub there : slice_get s.links place ≡ Some link
-  pub within : place < length s.links
-  pub comes : numbers_of link.early ≡ h.waiting u.0 n.0
-  pub coming : AreParcelsOf ((world_after t h).channels u.0 n.0) link.early
+-- Which it is
 
-pub is-ring : (t : Network) (h : History) (n u : NodeId) (there : ℕ → List ℕ) (s : StationState) (place : ℕ) →
-    slice_get (map (λ (l : LinkState). l.peer) s.links) place ≡ Some u → Stands t h n there s → IsRing t h n u s place
-is-ring t h n u there s place at stands = record {
-  link = f.link;
-  there = f.there;
-  within = f.within;
-  comes = is.comes ∙ ap (λ (k : NodeId). h.waiting k.0 n.0) f.peer;
-  coming = subst (λ (k : NodeId). AreParcelsOf ((world_after t h).channels k.0 n.0) f.link.early) f.peer is.coming;
-}
-  where
-    f : IsLinkAt s.links place u
-    f = link-at s.links place u at
+first_is : (q : Parcel) (i : ℕ) (links after : List LinkState) (l : LinkState) → slice_get links i ≡ Some l →
+    IsChangedAt (IsTaken q) i links after → (rest : List Parcel) × (l.early ≡ q ∷ rest)
+first_is q i [] after l at is = absurd is
+first_is q i (k ∷ links) [] l at is = absurd is
+first_is q zero (k ∷ links) (m ∷ after) l at is =
+    let same : k ≡ l = cc (at) in (m.early, ap (λ (x : LinkState). x.early) (sym same) ∙ is.0.first)
+first_is q (suc i) (k ∷ links) (m ∷ after) l at is = first_is q i links after l at is.1
 
-    is : LinkStands (world_after t h) h.waiting n there f.link
-    is = all-get (LinkStands (world_after t h) h.waiting n there) s.links place f.link stands.links f.there
-
-no_parcels : (ps : List Parcel) → length ps ≡ 0 → numbers_of ps ≡ []
-no_parcels [] e = refl
-no_parcels (p ∷ ps) e = absurd (omega arith)
-
--- nothing is taken of an empty ring
-pub took-none : (t : Network) (h : History) (n u : NodeId) (ps : List Parcel) → numbers_of ps ≡ h.waiting u.0 n.0 →
-    length ps ≡ 0 → took t n u h ≡ h
-took-none t h n u ps comes none = ap (took_first t n u h) (sym comes ∙ no_parcels ps none)
-
-pub took-full : (t : Network) (h : History) (n u : NodeId) (ps : List Parcel) → numbers_of ps ≡ h.waiting u.0 n.0 →
-    0 < length ps → h.stopped ≡ None → nat_lt (made_by t h n) 50000 ≡ false → (took t n u h).stopped ≡ Some n
-took-full t h n u [] comes some going full = absurd (omega arith)
-took-full t h n u (p ∷ ps) comes some going full =
-    ap (λ (g : History). g.stopped) (ap (took_first t n u h) (sym comes)
-    ∙ able-full t n h (with_event_over t h (popped h.waiting u n) (Deliver n u p.number)) going full)
-
-first_of : (ps : List Parcel) (p : Parcel) → Some p ≡ slice_get ps 0 → ps ≡ p ∷ drop 1 ps
-first_of [] p e = absurd (cc (e))
-first_of (q ∷ ps) p e = let same : p ≡ q = cc (e) in ap (λ r. r ∷ ps) (sym same)
-
-pub took-done : (t : Network) (h : History) (n u : NodeId) (there : ℕ → List ℕ) (s d : StationState) (p : Parcel)
-    (ps : List Parcel) → Some p ≡ slice_get ps 0 → numbers_of ps ≡ h.waiting u.0 n.0 →
-    AreParcelsOf ((world_after t h).channels u.0 n.0) ps →
-    HasReacted s.controller d.controller (map (popped_from u) s.links) d.links (input.Frame u p.frame) →
-    d.desk ≡ s.desk → nat_lt (made_by t h n) 50000 ≡ true → Stands t h n there s → Stands t (took t n u h) n there d
-took-done t h n u there s d p ps first comes coming reacted desk below stands =
-    subst (λ g. Stands t g n there d) (sym goes)
-    (subst (λ items. Stands t (with_event_over t h (popped h.waiting u n) (Deliver n u p.number)) n there
-    (record { controller = d.controller; desk = items; links = d.links; spare = d.spare })) (sym desk)
-    (frame-done t h (popped h.waiting u n) n u there s.controller d.controller s.desk
-    (map (popped_from u) s.links) d.links d.spare p reacted parcel ready))
-  where
-    is : ps ≡ p ∷ drop 1 ps
-    is = first_of ps p first
-
-    parcel : IsParcelOf ((world_after t h).channels u.0 n.0) p
-    parcel = (subst (AreParcelsOf ((world_after t h).channels u.0 n.0)) is coming).0
-
-    goes : took t n u h ≡ with_event_over t h (popped h.waiting u n) (Deliver n u p.number)
-    goes =
-        ap (took_first t n u h) (sym comes ∙ ap numbers_of is)
-        ∙ able-below t n h (with_event_over t h (popped h.waiting u n) (Deliver n u p.number)) stands.unstopped below
-
-    ready : AreReady t h (popped h.waiting u n) n there s.controller s.desk (map (popped_from u) s.links)
-    ready = record {
-      node = stands.node;
-      peers = peers-popped u s.links ∙ stands.peers;
-      links = links-popped (world_after t h) h.waiting n u there s.links stands.links;
+-- the first of those that waited early there is the one that is known
+pub has-taken : (a : Ahead) (q : Parcel) (old : StationState) (links : List LinkState) → IsAhead a old.links →
+    IsChangedAt (IsTaken q) a.place old.links links → HasTaken a q old links
+has-taken a q old links ahead is =
+    let first = first_is q a.place old.links links ahead.head.link ahead.head.there is in
+    let whole : q ∷ first.0 ≡ ahead.head.head.parcel ∷ ahead.head.head.rest = sym first.1 ∙ ahead.head.head.first in
+    let same : q ≡ ahead.head.head.parcel = cc (whole) in
+    record {
+      taken = taken-from q a.from a.place old.links links ahead.from is;
+      number = ap (λ (p : Parcel). p.number) same ∙ ahead.head.head.number;
+      stamp = ap (λ (p : Parcel). p.stamp) same ∙ ahead.head.head.stamp;
     }
 
--- The first item of the desk
+below_length : (links : List LinkState) (i : ℕ) (l : LinkState) → slice_get links i ≡ Some l → i < length links
+below_length [] i l at = absurd (cc (at))
+below_length (k ∷ links) zero l at = omega arith
+below_length (k ∷ links) (suc i) l at = omega (arith, below_length links i l at)
 
-pub handled-done : (t : Network) (h : History) (n : NodeId) (there : ℕ → List ℕ) (s d : StationState) (i : DeskItem) →
-    s.desk ≡ i ∷ d.desk → HasReacted s.controller d.controller s.links d.links (input.Desk i) →
-    nat_lt (made_by t h n) 50000 ≡ true → Stands t h n there s → Stands t (handled t n h) n there d
-handled-done t h n there s d i desk reacted below stands =
-    subst (λ g. Stands t g n there d) (sym goes)
-    (item-done t h n there s.controller d.controller i d.desk s.links d.links d.spare reacted
-    (record {
-      node = subst (NodeStands t (world_after t h) n s.controller) desk stands.node;
-      peers = stands.peers;
-      links = stands.links;
-    }))
-  where
-    goes : handled t n h ≡ with_event t h (Desk n)
-    goes = ap (handled_first t n h) (sym stands.node.desk ∙ desk)
-        ∙ able-below t n h (with_event t h (Desk n)) stands.unstopped below
+-- there is a link at its place
+pub ahead-below : (a : Ahead) (links : List LinkState) → IsAhead a links → a.place < length links
+ahead-below a links is = below_length links a.place is.head.link is.head.there
 
-no_first : (ps : List Parcel) → 0 < length ps → None ≡ slice_get ps 0 → ⊥
-no_first [] some e = absurd (omega arith)
-no_first (p ∷ ps) some e = absurd (cc (e))
+-- it was taken at its place
+pub taken-at : (a : Ahead) (q : Parcel) (old : StationState) (links : List LinkState) → HasTaken a q old links →
+    HasTakenAt a.place old.links links
+taken-at a q old links h =
+    record { from = a.from; parcel = q; takes = takes-at a.from q a.place old.links links h.taken }
 
--- a parcel comes where one waits
-pub some-first : (P : Type 0) (ps : List Parcel) → 0 < length ps → None ≡ slice_get ps 0 → P
-some-first P ps some e = absurd (no_first ps some e)
+pub delivered-at : (a : Ahead) (old new : StationState) (apart : ArePeersApart old.links) (i : CoreInput) →
+    HasDelivered a i old new → HasTakenAt a.place old.links new.links
+delivered-at a old new apart i h =
+    record { from = a.from; parcel = h.parcel; takes = takes-it a old new apart i h }
 
-length_numbers : (ps : List Parcel) → length (numbers_of ps) ≡ length ps
-length_numbers [] = refl
-length_numbers (p ∷ ps) = ap suc (length_numbers ps)
+-- What moves
 
--- as many frames came as the ring has
-pub ring-length : (t : Network) (h : History) (n u : NodeId) (s : StationState) (place : ℕ)
-    (r : IsRing t h n u s place) → length r.link.early ≡ length (h.waiting u.0 n.0)
-ring-length t h n u s place r = sym (length_numbers r.link.early) ∙ ap length r.comes
+-- a frame was taken
+pub taken-moves : (u : NodeId) (q : Parcel) (i : ℕ) (old new : StationState) → TakesAt u q i old.links new.links →
+    new.lines ≡ old.lines → length old.log ≤ length new.log → IsMoving old new
+taken-moves u q i old new takes lines grows =
+    record { links = takes-moved u q i old.links new.links takes; lines = lines; grows = grows }
+
+pub delivered-moves : (a : Ahead) (old new : StationState) (apart : ArePeersApart old.links) (i : CoreInput) →
+    HasDelivered a i old new → IsMoving old new
+delivered-moves a old new apart i h =
+    taken-moves a.from h.parcel a.place old new (takes-it a old new apart i h) h.entered.lines
+    (omega (arith, ap length h.entered.log ∙ length-append old.log _))
+
+-- nothing was
+pub moving-none : (s : StationState) → IsMoving s s
+moving-none s = record { links = all-moved s.links; lines = refl; grows = omega arith }
+
+-- it isn't delivered, at the limit or for want of memory
+pub fails-moves : (a : Ahead) (e : Halt) (old new : StationState) → TakesIn (Err e) a old new → IsMoving old new
+fails-moves a halt.AtLimit old new h = subst (IsMoving old) (sym h.0) (moving-none old)
+fails-moves a halt.OutOfMemory old new h =
+    subst (IsMoving old) (sym h.rest)
+    (taken-moves a.from h.parcel a.place old (record old { links = h.links })
+    (takes-at a.from h.parcel a.place old.links h.links h.taken.taken) refl (omega arith))
+
+pub fails-goes : (a : Ahead) (e : Halt) (o : Option DisturbKind) (old new : StationState) → IsAhead a old.links →
+    ArePeersApart old.links → IsDeliveredNow o → says old.lines a.from (me_of old) a.head.number ≡ o →
+    TakesIn (Err e) a old new → GoesOnAt (Err e) a.place old new
+fails-goes a halt.AtLimit o old new ahead apart now said h =
+    subst (λ s. GoesOnAt (Err halt.AtLimit) a.place old s) (sym h.0) (stay-goes a old o ahead now said h.1)
+fails-goes a halt.OutOfMemory o old new ahead apart now said h = lost-goes a o old new apart now said h
+
+-- What holds of every station
+
+taken_stays : (q : Parcel) (l m : LinkState) → IsTaken q l m → Stays l m
+taken_stays q l m is =
+    record { peer = is.peer; sent = is.sent; gone = λ i. sent (is.out i) ++ is.backlog i }
+
+taken_fits : (q : Parcel) (i : ℕ) (s : StationState) (links : List LinkState) →
+    IsChangedAt (IsTaken q) i s.links links → StationFits s → StationFits (record s { links = links })
+taken_fits q i s links is fit = record {
+  most = fit.most;
+  count = fit.count;
+  apart = subst AreApart (sym (changed-peers (IsTaken q) (λ l m t. t.peer) i s.links links is)) fit.apart;
+  links =
+      changed-keeps (IsTaken q) (taken_stays q) s.controller.node.place s.controller.steps s.clock i s.links links is
+      fit.links;
+  held = fit.held;
+}
+
+-- it holds after a frame was taken
+pub taken-parts : (q : Parcel) (i : ℕ) (p new : Parts) (links : List LinkState) →
+    IsChangedAt (IsTaken q) i p.links.items links → state_of new ≡ record (state_of p) { links = links } →
+    new.me ≡ p.me → PartsFit p → PartsFit new
+taken-parts q i p new links is same me fit = record {
+  station = subst StationFits (sym same) (taken_fits q i (state_of p) links is fit.station);
+  me = me ∙ fit.me ∙ ap me_of (sym same);
+}
+
+held_more : (s : StationState) (h : HeldParcel) → HeldKeeps s.controller.node.place s.controller.steps h →
+    StationFits s → StationFits (record s { held = s.held ++ h ∷ [] })
+held_more s h keeps fit = record {
+  most = fit.most;
+  count = fit.count;
+  apart = fit.apart;
+  links = fit.links;
+  held =
+      each-append (HeldKeeps s.controller.node.place s.controller.steps) s.held (h ∷ []) fit.held (keeps, tt);
+}
+
+-- the station with a parcel that is held
+abbrev pub with_held : StationState → Ahead → Parcel → List LinkState → StationState
+with_held s a q links =
+    record s { links = links; held = s.held ++ record { from = a.from; parcel = q; ticks = 0 } ∷ [] }
+
+-- and was held back
+pub hold-parts : (a : Ahead) (q : Parcel) (p new : Parts) (links : List LinkState) → IsAhead a p.links.items →
+    IsChangedAt (IsTaken q) a.place p.links.items links → state_of new ≡ with_held (state_of p) a q links →
+    new.me ≡ p.me → PartsFit p → PartsFit new
+hold-parts a q p new links ahead is same me fit = record {
+  station =
+      subst StationFits (sym same)
+      (held_more (record (state_of p) { links = links }) (record { from = a.from; parcel = q; ticks = 0 })
+      (record {
+        near =
+            near-at p.controller.node.place p.controller.steps p.clock a.place a.from p.links.items fit.station.links
+            ahead.from;
+        ticks = omega arith;
+        bears =
+            taken-bears a.from q a.place p.links.items links
+            (taken-from q a.from a.place p.links.items links ahead.from is);
+      }) (taken_fits q a.place (state_of p) links is fit.station));
+  me = me ∙ fit.me ∙ ap me_of (sym same);
+}
+
+-- Twice
+
+-- it is read again after its first delivery
+pub delivered-near : (a : Ahead) (old mid : StationState) (apart : ArePeersApart old.links) (i : CoreInput) →
+    IsAhead a old.links → HasDelivered a i old mid → StationFits mid → IsFromNeighbour mid.controller.node.place i
+delivered-near a old mid apart i ahead h fit =
+    let moved = takes-moved a.from h.parcel a.place old.links mid.links (takes-it a old mid apart i h) in
+    subst (IsFromNeighbour mid.controller.node.place) (sym h.given)
+    (near-at mid.controller.node.place mid.controller.steps mid.clock a.place a.from mid.links fit.links
+    (ap (λ ns. slice_get ns a.place) (moved-peers old.links mid.links moved) ∙ ahead.from))
+
+pub delivered-read : (a : Ahead) (old mid : StationState) (apart : ArePeersApart old.links) (i : CoreInput) →
+    HasDelivered a i old mid → IsRead i
+delivered-read a old mid apart i h = subst IsRead (sym h.given) (inl (bears_it a old mid apart i h))
+
+-- frames were sent after it
+pub delivered-on : (a : Ahead) (old mid new : StationState) (apart : ArePeersApart old.links) (i : CoreInput) →
+    HasDelivered a i old mid → IsSending mid new → HasTakenAt a.place old.links new.links
+delivered-on a old mid new apart i h sends = record {
+  from = a.from;
+  parcel = h.parcel;
+  takes =
+      takes-none a.from h.parcel a.place old.links mid.links new.links (takes-it a old mid apart i h) sends.links;
+}
+
+pub moving-sends : (old mid new : StationState) → IsMoving old mid → IsSending mid new → IsMoving old new
+moving-sends old mid new a b = record {
+  links = all-moved-then old.links mid.links new.links a.links (nones-moved mid.links new.links b.links);
+  lines = b.lines ∙ a.lines;
+  grows = omega (arith, a.grows, b.grows);
+}

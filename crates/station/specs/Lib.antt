@@ -1,7 +1,9 @@
 pub mod Desks
-pub mod Histories
-pub mod Links
-pub mod Standing
-pub mod Steps
+pub mod Dues
+pub mod Fits
+pub mod Joined
+pub mod Leads
+pub mod Noise
+pub mod Rings
+pub mod Sending
 pub mod Turning
-pub mod Turns

@@ -1,6 +1,6 @@
 //! The desk of a node: items that wait for its controller.
 
-ghost use Rattle.std.specs.Prelude.{◌≡◌, ◌<◌, ◌≤◌, ◌+◌, ◌++◌, ◌∷◌, [], MatchOption, OnErr, OnOk, length};
+ghost use Rattle.std.specs.Prelude.{◌≡◌, ◌<◌, ◌≤◌, ◌+◌, ◌++◌, ◌∷◌, [], OnErr, OnOk, length};
 
 use ason_base::{DeskItem, OutOfMemory};
 use std::alloc::Global;
@@ -73,12 +73,24 @@ impl Desk {
         Ok(())
     }
 
-    /// Takes the first item.
-    pub(crate) fn pop(&mut self) -> Option<DeskItem>
-        ensures { MatchOption result ((self.old.items ≡ []) × (self.new ≡ self.old))
-            (λ i. self.old.items ≡ i ∷ self.new.items) }
+    /// Takes the first item, which leaves room for it.
+    pub(crate) fn pop(&mut self) -> DeskItem
+        requires { 0 < length self.old.items }
+        ensures first { self.old.items ≡ result ∷ self.new.items }
+        ensures room { 0 < self.new.spare }
     {
-        self.items.pop_front()
+        match self.items.pop_front() {
+            Some(item) => item,
+            None => unreachable!(),
+        }
+    }
+
+    /// Puts an item that was taken back to its place, the first. There is room for it.
+    pub(crate) fn put_back(&mut self, item: DeskItem)
+        requires { 0 < self.old.spare }
+        ensures { self.new.items ≡ item ∷ self.old.items }
+    {
+        self.items.push_front_reserved(item);
     }
 
     /// How many items wait.

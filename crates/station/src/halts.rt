@@ -7,7 +7,7 @@ use ason_base::OutOfMemory;
 
 #[derive(Clone, Copy, Debug, PartialEq, Eq, Drop)]
 pub(crate) enum Halt {
-    /// The node has made as many events as it may, and an input is at hand.
+    /// An input is at hand, and the log is full or no stamp is left for it.
     AtLimit,
     OutOfMemory,
 }

@@ -1,15 +1,17 @@
-//! One controller with its desk, and the ends of the rings to its neighbours that are its own.
+//! One controller with its desk, its log and its ends of the rings: a turn of it is what its node does alone.
 #![tactic(auto)]
 
-pub mod desks;
-pub mod events;
-pub mod halts;
-pub mod links;
-pub mod parcels;
+mod desks;
+mod dues;
+mod halts;
+mod items;
+mod lines;
+mod links;
+mod noises;
+mod parts;
+mod rings;
 pub mod station;
-pub mod turns;
-pub mod wiring;
+mod ticks;
+mod turning;
 
-pub use parcels::Parcel;
 pub use station::Station;
-pub use turns::Turn;

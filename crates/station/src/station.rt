@@ -1,324 +1,148 @@
 //! The station of one node.
 
-ghost use Rattle.std.specs.Prelude.{◌≡◌, ◌+◌, ◌<◌, ◌≤◌, ◌++◌, ◌∷◌, ℕ, List, [], MatchOption, IfErr, IfOk, IsSome, IsTrue, OnErr, OnOk, Some, length, map, nat_lt, not, position, slice_get, slice_set};
-ghost use Rattle.ason_base.specs.declared.ids.NodeId.{NodeId};
-ghost use Rattle.ason_base.specs.Network.{Network, find_node};
-ghost use Rattle.control_channels.specs.Kept.{IsFromNeighbour};
+ghost use Rattle.std.specs.Prelude.{◌≡◌, ◌<◌, ◌≤◌, ◌+◌, ◌*◌, ◌^◌, ◌∷◌, ◌++◌, [], ℕ, IfOk, IsSome, IsTrue, OnErr, OnOk};
+ghost use Rattle.std.specs.Prelude.{Some, false, length, position, slice_get, true};
+ghost use Rattle.std.specs.List.{AllByRecursion};
+ghost use Rattle.ason_base.specs.Network.{find_node};
 ghost use Rattle.control_channels.specs.Controllers.{ControllerState};
-ghost use Rattle.ason_base.specs.declared.commands.Event.TheVariants.{Desk as DeskEvent, Tick};
-ghost use Rattle.control_channels.specs.declared.inputs.CoreInput.{CoreInput};
 ghost use Rattle.mesh_nodes.specs.LocalNodes.{is_neighbour};
-ghost use Rattle.station.specs.declared.halts.Halt.{Halt};
-ghost use Rattle.station.specs.Histories.{History, handled, made, new_history, took};
-ghost use Rattle.station.specs.Links.{AreFew, KeepRoom, LinkState, is_to, looked, new_link, peers_of, popped_from};
-ghost use Rattle.station.specs.Standing.{IsOrdered, Stands, StationState};
-ghost use Rattle.station.specs.Steps.{HasReacted, LinksFit};
-ghost use Rattle.station.specs.Turning.{HasDone, HasTurned, IsCutBy, IsStopped, IsTurn, answer_of, worked};
-ghost use Rattle.station.specs.declared.turns.Turn.{Turn};
-ghost use Rattle.world_rules.specs.Runs.{neighbours};
-ghost use Rattle.station.specs.Turns.{desk_done, ring_done, rings_done, tick_done, turn};
+ghost use Rattle.station_rings.specs.LinkStates.{AreEnds, AreFew, LinkState};
+ghost use Rattle.station_doings.specs.Entered.{me_of};
+ghost use Rattle.station.specs.Joined.{AreConnected, AreLooked, IsApartFrom, IsNewStation, IsOrdered};
+ghost use Rattle.station_doings.specs.Turned.{HasMadeTurn, HaveMadeTurns};
+ghost use Rattle.station.specs.Noise.{HasHeard};
+ghost use Rattle.station.specs.Sending.{is_to};
+ghost use Rattle.flood.specs.Frames.{SpellsNothing};
 
 use crate::desks::Desk;
-use crate::events::react;
-use crate::halts::Halt;
-use crate::links::{Link, look_at, place_of, pop_at};
-use crate::parcels::Parcel;
-use crate::turns::Turn;
-use crate::wiring::new_links;
-use ason_base::{Bytes, DeskItem, NodeId, OutOfMemory, Topology};
-use controller::{Controller, CoreInput};
+use crate::links::{attach, place_of};
+use crate::parts::Parts;
+use crate::{noises, turning};
+use ason_base::{DeskItem, Disturb, Entry, NodeId, OutOfMemory, Topology};
+use ason_io::Gate;
+use controller::Controller;
+use station_doings::Turn;
+use station_rings::{join, look};
 use std::alloc::Global;
 use std::marker::Model;
 
-/// The most events that a node makes.
-const MOST_EVENTS: u64 = 50_000;
-
-/// A controller, the desk of its node, and a link to each neighbour in order of number.
+/// A controller, the desk of its node, its log, and its ends of the rings to each neighbour.
 #[derive(Drop)]
 pub struct Station {
-    controller: Controller,
-    desk: Desk,
-    links: Vec<Link>,
+    alloc: Global,
+    parts: Parts,
 }
 
 impl Model for Station {
-    ghost use Rattle.station.specs.Standing.{StationState};
-    ghost use Rattle.station.specs.Steps.{LinksFit};
+    ghost use Rattle.station_doings.specs.States.{StationState};
+    ghost use Rattle.station.specs.Fits.{PartsFit, state_of};
 
     ghost Value = { StationState };
 
-    ghost view = { λ s. record {
-      controller = s.controller;
-      desk = s.desk.items;
-      links = s.links.items;
-      spare = s.desk.spare;
-    } };
+    ghost view = { λ s. state_of s.parts };
 
-    ghost invariant = { λ s. LinksFit s.controller.node.place s.controller.steps s.links.items };
+    ghost invariant = { λ s. PartsFit s.parts };
 }
 
 impl Station {
-    /// The station of node `id`, which has nothing on its desk and sent nothing.
+    /// The station of node `id`, which has no link yet and did nothing.
     pub fn new(alloc: Global, t: &Topology, id: NodeId) -> Result<Station, OutOfMemory>
         requires { IsSome (find_node t.now id) }
-        ensures stands { IfOk result (Stands t.now new_history id (λ d. [])) }
-        ensures links { IfOk result (λ s. s.links ≡ map new_link (neighbours t.now id)) }
+        ensures { IfOk result (IsNewStation t.now id) }
     {
-        let _nodes = t.nodes();
         let controller = Controller::new(alloc, t, id)?;
-        let links = new_links(alloc, t, id)?;
-        Ok(Station {
+        let parts = Parts {
+            me: id,
             controller,
             desk: Desk::new(alloc),
-            links,
-        })
+            links: Vec::new(alloc),
+            clock: 0,
+            log: Vec::new(alloc),
+            held: Vec::new(alloc),
+            lines: Vec::new(alloc),
+            answer: Turn::Idle,
+        };
+        Ok(Station { alloc, parts })
     }
 
-    // Whether the node has made as many events as it may.
-    fn is_full(&self) -> bool
-        ensures { result ≡ not (nat_lt self.now.controller.steps 50000) }
+    /// Joins two neighbours by two rings. Their ends are the last links of both. After a refusal nothing has changed.
+    pub fn connect(alloc: Global, a: &mut Station, b: &mut Station) -> Result<(), OutOfMemory>
+        requires there { IsTrue (is_neighbour a.old.controller.node.place (me_of b.old)) }
+        requires back { IsTrue (is_neighbour b.old.controller.node.place (me_of a.old)) }
+        requires apart { IsApartFrom (me_of b.old) a.old }
+        requires apart_back { IsApartFrom (me_of a.old) b.old }
+        ensures ok { OnOk result (AreConnected a.old a.new b.old b.new) }
+        ensures err { OnErr result ((a.new ≡ a.old) × (b.new ≡ b.old)) }
     {
-        self.controller.steps() >= MOST_EVENTS
-    }
-
-    // The controller takes an input that is no frame.
-    fn take_input(&mut self, input: &CoreInput) -> Result<(), OutOfMemory>
-        requires below { self.old.controller.steps < 50000 }
-        requires from { IsFromNeighbour self.old.controller.node.place input.now }
-        ensures step { OnOk result
-            (HasReacted self.old.controller self.new.controller self.old.links self.new.links
-            input.now) }
-        ensures peers { peers_of self.new.links ≡ peers_of self.old.links }
-        ensures desk { self.new.desk ≡ self.old.desk }
-        ensures grows { self.old.controller.steps ≤ self.new.controller.steps }
-        ensures rings { KeepRoom self.old.links self.new.links }
-    {
-        react(&mut self.controller, &mut self.links, input)
-    }
-
-    // The node ticks.
-    fn make_tick(&mut self) -> Result<(), Halt>
-        ensures on { OnOk result (HasDone (λ t n h. made t n (Tick n) h) self.old self.new) }
-        ensures stops { IsCutBy result (λ t n h. made t n (Tick n) h) self.old }
-        ensures grows { self.old.controller.steps ≤ self.new.controller.steps }
-        ensures rings { KeepRoom self.old.links self.new.links }
-    {
-        if self.is_full() {
-            return Err(Halt::AtLimit);
-        }
-        self.take_input(&CoreInput::Tick)?;
+        let (here, there) = join(alloc, a.parts.me, b.parts.me)?;
+        a.parts.links.reserve(1)?;
+        b.parts.links.reserve(1)?;
+        attach(&mut a.parts.links, here);
+        attach(&mut b.parts.links, there);
         Ok(())
     }
 
-    // The controller handles an item.
-    fn handle(&mut self, item: DeskItem) -> Result<(), OutOfMemory>
-        requires { self.old.controller.steps < 50000 }
-        ensures step { OnOk result
-            (HasReacted self.old.controller self.new.controller self.old.links self.new.links
-            (CoreInput.Desk item)) }
-        ensures desk { self.new.desk ≡ self.old.desk }
-        ensures grows { self.old.controller.steps ≤ self.new.controller.steps }
-        ensures rings { KeepRoom self.old.links self.new.links }
+    /// Looks at both rings between two stations, and takes no memory: at these places are their links to each other.
+    pub fn look(a: &mut Station, place: usize, b: &mut Station, back: usize)
+        requires place { place < length a.old.links }
+        requires back { back < length b.old.links }
+        requires ends { (l m : LinkState) → slice_get a.old.links place ≡ Some l →
+            slice_get b.old.links back ≡ Some m → AreEnds l m × AreFew l m }
+        ensures { AreLooked place a.old a.new back b.old b.new }
     {
-        let input = CoreInput::Desk(item);
-        self.take_input(&input)
+        look(&mut a.parts.links[place], &mut b.parts.links[back]);
     }
 
-    // The controller takes a frame of a neighbour.
-    fn deliver(&mut self, from: NodeId, frame: Bytes) -> Result<(), OutOfMemory>
-        requires below { self.old.controller.steps < 50000 }
-        requires near { IsTrue (is_neighbour self.old.controller.node.place from) }
-        ensures step { OnOk result
-            (HasReacted self.old.controller self.new.controller self.old.links self.new.links
-            (CoreInput.Frame from frame)) }
-        ensures peers { peers_of self.new.links ≡ peers_of self.old.links }
-        ensures desk { self.new.desk ≡ self.old.desk }
-        ensures grows { self.old.controller.steps ≤ self.new.controller.steps }
-        ensures rings { KeepRoom self.old.links self.new.links }
+    /// One turn: a tick where it is asked for, the held frames that are due, all items of the desk, then what its
+    /// rings have, by neighbour. It reaches nothing but the station's own parts.
+    pub fn turn<G: Gate>(&mut self, gate: &G, tick: bool) -> Turn
+        ensures made { HasMadeTurn tick self.old self.new result }
+        ensures answer { self.new.answer ≡ result }
     {
-        let input = CoreInput::Frame { from, bytes: frame };
-        self.take_input(&input)
+        turning::turn(&mut self.parts, gate, tick)
     }
 
-    // Takes the first item of the desk.
-    fn pop_item(&mut self) -> Option<DeskItem>
-        ensures item { MatchOption result ((self.old.desk ≡ []) × (self.new ≡ self.old))
-            (λ i. self.old.desk ≡ i ∷ self.new.desk) }
-        ensures controller { self.new.controller ≡ self.old.controller }
-        ensures links { self.new.links ≡ self.old.links }
+    /// So many turns, the first with a tick. The first that doesn't come to its end is the last; what the last one
+    /// answers is kept.
+    pub fn turns<G: Gate>(&mut self, gate: &G, stride: u32)
+        requires { 0 < stride }
+        ensures { HaveMadeTurns stride true self.old self.new self.new.answer }
     {
-        self.desk.pop()
+        self.turns_from(gate, stride, true);
     }
 
-    // The first item of the desk is handled, where there is one.
-    fn handle_item(&mut self) -> Result<(), Halt>
-        ensures on { OnOk result (HasDone (λ t n h. handled t n h) self.old self.new) }
-        ensures stops { IsCutBy result (λ t n h. handled t n h) self.old }
-        ensures grows { self.old.controller.steps ≤ self.new.controller.steps }
-        ensures rings { KeepRoom self.old.links self.new.links }
+    // So many turns.
+    fn turns_from<G: Gate>(&mut self, gate: &G, count: u32, tick: bool)
+        requires { 0 < count }
+        ensures { HaveMadeTurns count tick self.old self.new self.new.answer }
     {
-        if self.desk.len() == 0 {
-            return Ok(());
-        }
-        if self.is_full() {
-            return Err(Halt::AtLimit);
-        }
-        match self.pop_item() {
-            None => Ok(()),
-            Some(item) => {
-                self.handle(item)?;
-                Ok(())
-            }
+        let ended = match self.turn(gate, tick) {
+            Turn::Worked(_) | Turn::Idle => true,
+            Turn::AtLimit | Turn::Starved => false,
+        };
+        if ended && count > 1 {
+            self.turns_from(gate, count - 1, false);
         }
     }
 
-    // How many frames came from the neighbour at this place.
-    fn early_len(&self, place: usize) -> usize
-        requires { place < length self.now.links }
-        ensures { (l : LinkState) → slice_get self.now.links place ≡ Some l →
-            result ≡ length l.early }
-    {
-        self.links[place].early_len()
-    }
-
-    // Takes the first frame that came from the neighbour at this place.
-    fn pop(&mut self, place: usize, from: NodeId) -> Option<Parcel>
-        requires { slice_get (peers_of self.old.links) place ≡ Some from }
-        ensures first { (l : LinkState) → slice_get self.old.links place ≡ Some l →
-            result ≡ slice_get l.early 0 }
-        ensures links { self.new.links ≡ map (popped_from from) self.old.links }
-        ensures controller { self.new.controller ≡ self.old.controller }
-        ensures desk { self.new.desk ≡ self.old.desk }
-        ensures near { IsTrue (is_neighbour self.old.controller.node.place from) }
-    {
-        let _ = from;
-        pop_at(&mut self.links, place)
-    }
-
-    // The controller takes the first frame that came from this neighbour, where there is one.
-    fn take_frame(&mut self, place: usize, from: NodeId) -> Result<(), Halt>
-        requires { slice_get (peers_of self.old.links) place ≡ Some from }
-        ensures on { OnOk result (HasDone (λ t n h. took t n from h) self.old self.new) }
-        ensures stops { IsCutBy result (λ t n h. took t n from h) self.old }
-        ensures peers { OnOk result (peers_of self.new.links ≡ peers_of self.old.links) }
-        ensures grows { self.old.controller.steps ≤ self.new.controller.steps }
-        ensures rings { KeepRoom self.old.links self.new.links }
-    {
-        if self.early_len(place) == 0 {
-            return Ok(());
-        }
-        if self.is_full() {
-            return Err(Halt::AtLimit);
-        }
-        match self.pop(place, from) {
-            None => Ok(()),
-            Some(parcel) => {
-                let Parcel { frame, .. } = parcel;
-                self.deliver(from, frame)?;
-                Ok(())
-            }
-        }
-    }
-
-    // All items of the desk are handled.
-    fn handle_desk(&mut self) -> Result<(), Halt>
-        ensures on { OnOk result (HasDone (λ t n h. desk_done t n h) self.old self.new) }
-        ensures stops { IsCutBy result (λ t n h. desk_done t n h) self.old }
-        ensures grows { self.old.controller.steps ≤ self.new.controller.steps }
-        ensures rings { KeepRoom self.old.links self.new.links }
-    {
-        let count = self.desk_len();
-        for _item in 0..count {
-            self.handle_item()?;
-        }
-        Ok(())
-    }
-
-    // All frames that came from this neighbour are taken.
-    fn take_ring(&mut self, place: usize, from: NodeId) -> Result<(), Halt>
-        requires { slice_get (peers_of self.old.links) place ≡ Some from }
-        ensures on { OnOk result (HasDone (λ t n h. ring_done t n h from) self.old self.new) }
-        ensures stops { IsCutBy result (λ t n h. ring_done t n h from) self.old }
-        ensures peers { OnOk result (peers_of self.new.links ≡ peers_of self.old.links) }
-        ensures grows { self.old.controller.steps ≤ self.new.controller.steps }
-        ensures rings { KeepRoom self.old.links self.new.links }
-    {
-        let count = self.early_len(place);
-        for _frame in 0..count {
-            self.take_frame(place, from)?;
-        }
-        Ok(())
-    }
-
-    /// The neighbour at this place.
-    pub fn peer(&self, place: usize) -> NodeId
-        requires { place < length self.now.links }
-        ensures { slice_get (peers_of self.now.links) place ≡ Some result }
-    {
-        self.links[place].peer()
-    }
-
-    /// How many links there are.
-    pub fn link_count(&self) -> usize
-        ensures { result ≡ length self.now.links }
-    {
-        self.links.len()
-    }
-
-    /// The place of the link to this neighbour.
-    pub fn link_to(&self, n: NodeId) -> Option<usize>
-        ensures { result ≡ position (is_to n) self.now.links }
-    {
-        place_of(&self.links, n)
-    }
-
-    // All frames that came are taken, by neighbour.
-    fn take_rings(&mut self) -> Result<(), Halt>
-        ensures on { OnOk result
-            (HasDone (λ t n h. rings_done t n (peers_of self.old.links) h) self.old self.new) }
-        ensures stops { IsCutBy result
-            (λ t n h. rings_done t n (peers_of self.old.links) h) self.old }
-        ensures grows { self.old.controller.steps ≤ self.new.controller.steps }
-        ensures rings { KeepRoom self.old.links self.new.links }
-    {
-        let count = self.link_count();
-        for place in 0..count {
-            let from = self.peer(place);
-            self.take_ring(place, from)?;
-        }
-        Ok(())
-    }
-
-    /// How many events the node has made.
-    pub fn made(&self) -> u64
-        ensures made { result ≡ self.now.controller.steps }
-        ensures few { result ≤ 50000 }
-    {
-        self.controller.steps()
-    }
-
-    /// The controller.
-    pub fn controller(&self) -> &Controller
-        ensures { result.now ≡ self.now.controller }
-    {
-        &self.controller
-    }
-
-    /// The number of the last frame that was sent to the neighbour at this place.
-    pub fn sent_to(&self, place: usize) -> u64
-        requires { place < length self.now.links }
-        ensures { (l : LinkState) → slice_get self.now.links place ≡ Some l → result ≡ l.sent }
-    {
-        self.links[place].sent()
-    }
-
-    /// Makes room for so many items more on the desk. After want of memory nothing has changed.
-    pub fn make_room(&mut self, items: usize) -> Result<(), OutOfMemory>
-        ensures ok { OnOk result (items ≤ self.new.spare) }
-        ensures same { self.new ≡ record self.old { spare = self.new.spare } }
+    /// Bytes that spell nothing come from a neighbour: the controller counts them, and a line is written. After want of
+    /// memory nothing has changed.
+    pub fn noise(&mut self, from: NodeId, bytes: &[u8]) -> Result<(), OutOfMemory>
+        requires near { IsSome (position (is_to from) self.old.links) }
+        requires nothing { SpellsNothing bytes.now }
+        requires room { length self.old.log < 50000 }
+        requires stamp { self.old.clock + 1 < 2 ^ 64 }
+        ensures ok { OnOk result (HasHeard from bytes.now self.old self.new) }
         ensures err { OnErr result (self.new ≡ self.old) }
     {
-        self.desk.make_room(items)
+        noises::noise(self.alloc, &mut self.parts, from, bytes)
+    }
+
+    /// What the last turn answered.
+    pub fn answer(&self) -> Turn
+        ensures { result ≡ self.now.answer }
+    {
+        self.parts.answer
     }
 
     /// Puts an item on the desk. Where there is room for it this isn't refused.
@@ -327,93 +151,94 @@ impl Station {
         ensures err { OnErr result (self.new ≡ self.old) }
         ensures full { OnErr result (self.old.spare ≡ 0) }
     {
-        self.desk.push(item)
+        self.parts.desk.push(item)
     }
 
-    /// Moves what one station has sent to the other to the end of what came to the other, both ways. After that each knows how
-    /// many of its frames stand there. It takes no memory.
-    pub fn look(&mut self, place: usize, other: &mut Station, back: usize)
-        requires place { place < length self.old.links }
-        requires back { back < length other.old.links }
-        requires few { (l m : LinkState) → slice_get self.old.links place ≡ Some l →
-            slice_get other.old.links back ≡ Some m → AreFew l m }
-        ensures here { (l m : LinkState) → slice_get self.old.links place ≡ Some l →
-            slice_get other.old.links back ≡ Some m →
-            self.new.links ≡ slice_set self.old.links place (looked l m) }
-        ensures there { (l m : LinkState) → slice_get self.old.links place ≡ Some l →
-            slice_get other.old.links back ≡ Some m →
-            other.new.links ≡ slice_set other.old.links back (looked m l) }
-        ensures controllers { (self.new.controller ≡ self.old.controller) ×
-            (other.new.controller ≡ other.old.controller) }
-        ensures desks { (self.new.desk ≡ self.old.desk) × (other.new.desk ≡ other.old.desk) }
-        ensures spares { (self.new.spare ≡ self.old.spare) × (other.new.spare ≡ other.old.spare) }
+    /// Makes room for so many items more on the desk. After want of memory nothing has changed.
+    pub fn make_room(&mut self, items: usize) -> Result<(), OutOfMemory>
+        ensures ok { OnOk result (items ≤ self.new.spare) }
+        ensures same { self.new ≡ record self.old { spare = self.new.spare } }
+        ensures err { OnErr result (self.new ≡ self.old) }
     {
-        look_at(&mut self.links, place, &mut other.links, back);
+        self.parts.desk.make_room(items)
+    }
+
+    /// A line of the script names a frame for this node.
+    pub fn disturb(&mut self, line: Disturb) -> Result<(), OutOfMemory>
+        ensures ok { OnOk result
+            (self.new ≡ record self.old { lines = self.old.lines ++ line ∷ [] }) }
+        ensures err { OnErr result (self.new ≡ self.old) }
+    {
+        self.parts.lines.push(line)?;
+        Ok(())
+    }
+
+    /// The number of the last frame that was sent over the link at this place.
+    pub fn sent_to(&self, place: usize) -> u64
+        requires { place < length self.now.links }
+        ensures sent { (l : LinkState) → slice_get self.now.links place ≡ Some l → result ≡ l.sent }
+        ensures few { result ≤ 50000 * 2 ^ 40 }
+    {
+        self.parts.links[place].sent()
+    }
+
+    /// How many links there are.
+    pub fn link_count(&self) -> usize
+        ensures { result ≡ length self.now.links }
+    {
+        self.parts.links.len()
+    }
+
+    /// The place of the link to this neighbour.
+    pub fn link_to(&self, n: NodeId) -> Option<usize>
+        ensures { result ≡ position (is_to n) self.now.links }
+    {
+        place_of(&self.parts.links, n)
+    }
+
+    /// The stamp of the last line, or of a later post.
+    pub fn clock(&self) -> u64
+        ensures { result ≡ self.now.clock }
+    {
+        self.parts.clock
+    }
+
+    /// Moves the clock on to the stamp of a post.
+    pub fn set_clock(&mut self, stamp: u64)
+        requires { self.old.clock ≤ stamp }
+        ensures { self.new ≡ record self.old { clock = stamp } }
+    {
+        self.parts.clock = stamp;
+    }
+
+    /// The lines that were written, in order.
+    pub fn log(&self) -> &[Entry]
+        ensures log { result.now ≡ self.now.log }
+        ensures few { length result.now ≤ 50000 }
+    {
+        &self.parts.log
     }
 
     /// How many items wait on the desk.
     pub fn desk_len(&self) -> usize
         ensures { result ≡ length self.now.desk }
     {
-        self.desk.len()
+        self.parts.desk.len()
     }
 
-    // The node ticks, if it is asked to.
-    fn tick_if(&mut self, tick: bool) -> Result<(), Halt>
-        ensures on { OnOk result (HasDone (λ t n h. tick_done t tick n h) self.old self.new) }
-        ensures stops { IsCutBy result (λ t n h. turn t tick n h) self.old }
-        ensures grows { self.old.controller.steps ≤ self.new.controller.steps }
-        ensures rings { KeepRoom self.old.links self.new.links }
+    /// The controller.
+    pub fn controller(&self) -> &Controller
+        ensures { result.now ≡ self.now.controller }
     {
-        if tick { self.make_tick() } else { Ok(()) }
+        &self.parts.controller
     }
 
-    // The whole turn.
-    fn work(&mut self, tick: bool) -> Result<(), Halt>
-        ensures on { OnOk result (HasTurned self.old self.new tick) }
-        ensures stops { IfErr result (λ e. e ≡ Halt.AtLimit → IsStopped self.old tick) }
-        ensures grows { self.old.controller.steps ≤ self.new.controller.steps }
-        ensures rings { KeepRoom self.old.links self.new.links }
+    /// How many lines were written.
+    pub fn made(&self) -> u64
+        ensures steps { result ≡ self.now.controller.steps }
+        ensures lines { result ≡ length self.now.log }
+        ensures few { result ≤ 50000 }
     {
-        self.tick_if(tick)?;
-        self.handle_desk()?;
-        self.take_rings()
-    }
-
-    /// One turn: a tick if it is asked for, all items of the desk, then all frames that came, by neighbour. It reaches nothing but
-    /// the station's own parts.
-    pub fn turn(&mut self, tick: bool) -> Turn
-        ensures turn { IsTurn self.old self.new tick result }
-        ensures few { (k : ℕ) → result ≡ Turn.Worked k → k ≤ 50000 }
-        ensures rings { KeepRoom self.old.links self.new.links }
-    {
-        let before = self.made();
-        let done = self.work(tick);
-        let after = self.made();
-        answer_of(done, before, after)
-    }
-}
-
-// How a turn ended, of the numbers of events before it and after it.
-fn answer_of(done: Result<(), Halt>, before: u64, after: u64) -> Turn
-    requires { before ≤ after }
-    ensures { result ≡ answer_of done before after }
-{
-    match done {
-        Ok(()) => worked(before, after),
-        Err(Halt::AtLimit) => Turn::AtLimit,
-        Err(Halt::OutOfMemory) => Turn::Starved,
-    }
-}
-
-// How many events were made.
-fn worked(before: u64, after: u64) -> Turn
-    requires { before ≤ after }
-    ensures { result ≡ worked before after }
-{
-    if before == after {
-        Turn::Idle
-    } else {
-        Turn::Worked(after - before)
+        self.parts.controller.steps()
     }
 }

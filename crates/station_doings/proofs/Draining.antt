@@ -1,17 +1,13 @@
 -- All that was known to stand in a ring was taken.
-use Rattle.std.proofs.Common.{◌≡◌, ◌≤◌, ℕ, zero, suc, List, [], ◌∷◌, ◌++◌, drop, length, refl, sym, ap, ◌∙◌, subst}
+use Rattle.std.proofs.Common.{◌≡◌, ◌≤◌, List, [], ◌∷◌, ◌++◌, drop, length, refl, sym, ap, ◌∙◌, subst}
 use Rattle.std.proofs.Common.{arith, append-nil, append_assoc}
-use Rattle.std.specs.List.{AllZip}
+use Rattle.std.proofs.lemmas.List.{append_cancel_left, append_cancel_right}
 use mathlib.Core.List.{IsPrefix}
 use Rattle.rtrb.specs.Ring.{received, known_items}
 use Rattle.station_sound.specs.declared.parcels.Parcel.{Parcel}
 use Rattle.station_rings.specs.LinkStates.{LinkState}
 use Rattle.station_doings.specs.Moves.{HasMoved, IsDrained}
 use Rattle.station_doings.proofs.Moving.{moved-then, prefix-trans}
-
-cancel : {X : Type 0} (ws xs ys : List X) → ws ++ xs ≡ ws ++ ys → xs ≡ ys
-cancel [] xs ys e = e
-cancel (w ∷ ws) xs ys e = cancel ws xs ys (ap (drop 1) e)
 
 prefix_front : {X : Type 0} (ws xs ys : List X) → IsPrefix xs ys → IsPrefix (ws ++ xs) (ws ++ ys)
 prefix_front ws xs ys a = (a.0, append_assoc ws xs a.0 ∙ ap (λ zs. ws ++ zs) a.1)
@@ -25,7 +21,7 @@ prefix_short (x ∷ xs) (y ∷ ys) zs a le =
     let rest = prefix_short xs ys zs (a.0, ap (drop 1) a.1) (omega (arith, le)) in
     (rest.0, λ i. same i ∷ rest.1 i)
 
-abbrev stands : LinkState → List Parcel
+abbrev pub stands : LinkState → List Parcel
 stands l = l.early ++ known_items l.into
 
 -- what was known is what was taken and what is known still, or its beginning
@@ -39,17 +35,19 @@ within l m is = (
   where
     more : known_items l.into ++ is.known.0 ≡ is.came ++ known_items m.into
     more =
-        cancel (received l.into) _ _ (sym (append_assoc (received l.into) (known_items l.into) is.known.0)
+        append_cancel_left (received l.into) _ _ (sym (append_assoc (received l.into) (known_items l.into) is.known.0)
         ∙ is.known.1 ∙ ap (λ ps. ps ++ known_items m.into) is.into
         ∙ append_assoc (received l.into) is.came (known_items m.into))
 
+pub drains-more : (l m k : LinkState) (a : HasMoved l m) (b : IsDrained m k) →
+    IsPrefix (stands l) (a.takes ++ b.0.takes)
+drains-more l m k a b =
+    prefix-trans (stands l) (a.takes ++ stands m) (a.takes ++ b.0.takes) (within l m a)
+    (prefix_front a.takes (stands m) b.0.takes b.1)
+
 -- what is drained after more was taken is drained
-pub drained-then : (l m k : LinkState) → HasMoved l m → IsDrained m k → IsDrained l k
-drained-then l m k a b = (
-  moved-then l m k a b.0,
-  prefix-trans (stands l) (a.takes ++ stands m) (a.takes ++ b.0.takes) (within l m a)
-      (prefix_front a.takes (stands m) b.0.takes b.1),
-)
+abbrev pub drained-then : (l m k : LinkState) → HasMoved l m → IsDrained m k → IsDrained l k
+drained-then l m k a b = (moved-then l m k a b.0, drains-more l m k a b)
 
 -- what was drained stays so
 pub drained-on : (l m k : LinkState) → IsDrained l m → HasMoved m k → IsDrained l k
@@ -68,3 +66,11 @@ drained-empty l m is early known = (
 -- as many were taken as were known
 pub drained-all : (l m : LinkState) (is : HasMoved l m) → length (stands l) ≤ length is.takes → IsDrained l m
 drained-all l m is le = (is, prefix_short (stands l) is.takes (stands m) (within l m is) le)
+
+-- what was taken is told by what came out of the ring, and by what waits there still
+pub takes-same : (l m : LinkState) (a b : HasMoved l m) → a.takes ≡ b.takes
+takes-same l m a b =
+    append_cancel_right a.takes b.takes m.early (sym a.taken ∙ ap (λ ps. l.early ++ ps) came ∙ b.taken)
+  where
+    came : a.came ≡ b.came
+    came = append_cancel_left (received l.into) a.came b.came (sym a.into ∙ b.into)

@@ -1,5 +1,5 @@
 -- How the parts of a turn end: with what they do, or at the node's limit.
-use Rattle.std.proofs.Common.{◌≡◌, ◌≤◌, ◌+◌, ◌^◌, ◌⊎◌, ℕ, suc, Bool, true, false, cond, nat_lt, List, [], ◌∷◌, ◌++◌}
+use Rattle.std.proofs.Common.{◌≡◌, ℕ, suc, Bool, true, false, cond, List, [], ◌∷◌, ◌++◌}
 use Rattle.std.proofs.Common.{length, refl, sym, ap, ◌∙◌, subst, append_assoc, append-nil}
 use Rattle.ason_base.specs.declared.ids.NodeId.{NodeId}
 use Rattle.ason_base.specs.Network.{Network}
@@ -9,9 +9,10 @@ use Rattle.world_merge.specs.Logs.{log_of}
 use Rattle.round_rules.specs.Doings.{Doing, Left, Waiting, deeds_in}
 use Rattle.round_rules.specs.Limits.{Progress, going, halted_by, if_able, lines_in}
 use Rattle.station_doings.specs.Entered.{able}
-use Rattle.station_doings.specs.Ends.{Ending, EndsAs, IsAtLimit}
+use Rattle.station_doings.specs.Ends.{EndsAs}
+use Rattle.station_doings.specs.Limits.{IsAtLimit}
+use Rattle.station_doings.specs.Phases.{Phase}
 use Rattle.station_doings.specs.States.{IsStationOf, StationState}
-use Rattle.station_doings.specs.Turned.{StarvesTo}
 use Rattle.station_doings.proofs.Parting.{leave-of}
 
 -- The limit
@@ -75,13 +76,14 @@ going-ends t n ds more new stands = record {
 -- One thing after another
 
 -- a part of a turn from one station to the next, before what ends as R, so that all ends as S
-pub record Across (R S : Ending) (old mid end : StationState) (t : Network) (n : NodeId)
+pub record Across (R S : Phase) (old mid end : StationState) (t : Network) (n : NodeId)
     (ds : List Doing) : Type 0 where
   pub done : List Doing
   pub more : List Doing
   pub all : done ≡ ds ++ more
   pub stands : IsStationOf t n done mid
-  pub on : (halted : Bool) → R mid end t n done halted → S old end t n ds halted
+  pub on : (halted : Bool) → R.ends mid end t n done halted → S.ends old end t n ds halted
+  pub starves : R.starves mid end t n done → S.starves old end t n ds
 
 -- what ends so of more doings does of those before, where the same is done
 pub ends-later : (t : Network) (n : NodeId) (ds es more : List Doing) (halted : Bool) (p q : Progress)
@@ -98,13 +100,3 @@ ends-later t n ds es more halted p q new all same ends =
 -- the doings are the same with a halt that is known
 pub going-of : (p : Progress) → p.halted ≡ false → p ≡ going p.doings
 going-of p e = λ i. record { doings = p.doings; halted = e i }
-
--- and memory may be wanting later
-pub starves-later : (t : Network) (n : NodeId) (ds es more : List Doing) (new : StationState) → es ≡ ds ++ more →
-    StarvesTo t n es new → StarvesTo t n ds new
-starves-later t n ds es more new all starved = record {
-  added = more ++ starved.added;
-  stands =
-      subst (λ xs. IsStationOf t n xs new) (ap (λ xs. xs ++ starved.added) all ∙ append_assoc ds more starved.added)
-      starved.stands;
-}

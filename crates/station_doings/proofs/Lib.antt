@@ -3,10 +3,13 @@ pub mod Ending
 pub mod Keeping
 pub mod Moving
 pub mod Parting
+pub mod Passing
 pub mod Places
 pub mod Pops
 pub mod RingSteps
+pub mod Sends
 pub mod Standing
+pub mod Starving
 pub mod Steps
 pub mod Taking
 pub mod Turning

@@ -19,7 +19,7 @@ use Rattle.control_channels.specs.declared.inputs.CoreInput.TheVariants as input
 use Rattle.round_rules.specs.Doings.{Did, Doing, Freed, Got, Left, Lost, Waiting}
 use Rattle.round_rules.specs.Functions.{Popped, clock_of, delivered, got, handled, ticked}
 use Rattle.station_sound.specs.declared.parcels.Parcel.{Parcel}
-use Rattle.station_sound.specs.Links.{LinkView, after_frames}
+use Rattle.station_sound.specs.Links.{after_frames}
 use Rattle.station_sound.specs.Steps.{HasReacted}
 use Rattle.station_rings.specs.LinkStates.{IsFetched, LinkState, view_of}
 use Rattle.station_doings.specs.Entered.{HasEntered, me_of}

@@ -1,8 +1,8 @@
 -- Lists of links of which one changes, or all.
-use Rattle.std.proofs.Common.{◌≡◌, ◌<◌, ◌≤◌, ◌+◌, ℕ, zero, suc, List, [], ◌∷◌, ◌++◌, length, map, refl, sym, ap, ◌∙◌}
-use Rattle.std.proofs.Common.{subst, arith}
+use Rattle.std.proofs.Common.{◌≡◌, ℕ, zero, suc, List, [], ◌∷◌, ◌++◌, refl, sym, ◌∙◌}
+use Rattle.std.proofs.Common.{subst}
 use Rattle.std.specs.Prelude.{Some, slice_get, slice_set}
-use Rattle.std.specs.List.{AllByRecursion, AllZip}
+use Rattle.std.specs.List.{AllZip}
 use Rattle.ason_base.specs.declared.ids.NodeId.{NodeId}
 use Rattle.control_channels.specs.declared.frames.Frame.{Frame}
 use Rattle.station_sound.specs.declared.parcels.Parcel.{Parcel}
@@ -58,8 +58,8 @@ nones (l ∷ links) = (moved-none l, nones links)
 pub nones-same : (links after : List LinkState) → after ≡ links → NoneTaken links after
 nones-same links after e = subst (NoneTaken links) (sym e) (nones links)
 
-none_then : (l m k : LinkState) → TakesNone l m → TakesNone m k → TakesNone l k
-none_then l m k a b = (moved-then l m k a.0 b.0, λ i. a.1 i ++ b.1 i)
+pub none-then : (l m k : LinkState) → TakesNone l m → TakesNone m k → TakesNone l k
+none-then l m k a b = (moved-then l m k a.0 b.0, λ i. a.1 i ++ b.1 i)
 
 pub nones-then : (xs ys zs : List LinkState) → NoneTaken xs ys → NoneTaken ys zs → NoneTaken xs zs
 nones-then [] [] [] a b = tt
@@ -67,7 +67,7 @@ nones-then [] [] (z ∷ zs) a b = absurd b
 nones-then [] (y ∷ ys) zs a b = absurd a
 nones-then (x ∷ xs) [] zs a b = absurd a
 nones-then (x ∷ xs) (y ∷ ys) [] a b = absurd b
-nones-then (x ∷ xs) (y ∷ ys) (z ∷ zs) a b = (none_then x y z a.0 b.0, nones-then xs ys zs a.1 b.1)
+nones-then (x ∷ xs) (y ∷ ys) (z ∷ zs) a b = (none-then x y z a.0 b.0, nones-then xs ys zs a.1 b.1)
 
 -- frames went over them
 pub nones-sent : (stamp : ℕ) (fs : List Frame) (xs ys : List LinkState) → AllZip (IsSentOver stamp fs) xs ys →
@@ -112,7 +112,7 @@ none-takes u q zero (x ∷ xs) (y ∷ ys) (z ∷ zs) a b = (
   nones-then xs ys zs a.1 b.1,
 )
 none-takes u q (suc i) (x ∷ xs) (y ∷ ys) (z ∷ zs) a b =
-    (none_then x y z a.0 b.0, none-takes u q i xs ys zs a.1 b.1)
+    (none-then x y z a.0 b.0, none-takes u q i xs ys zs a.1 b.1)
 
 pub takes-none : (u : NodeId) (q : Parcel) (i : ℕ) (xs ys zs : List LinkState) → TakesAt u q i xs ys →
     NoneTaken ys zs → TakesAt u q i xs zs
@@ -124,7 +124,7 @@ takes-none u q zero (x ∷ xs) (y ∷ ys) (z ∷ zs) a b = (
   nones-then xs ys zs a.1 b.1,
 )
 takes-none u q (suc i) (x ∷ xs) (y ∷ ys) (z ∷ zs) a b =
-    (none_then x y z a.0 b.0, takes-none u q i xs ys zs a.1 b.1)
+    (none-then x y z a.0 b.0, takes-none u q i xs ys zs a.1 b.1)
 
 -- All links moved
 

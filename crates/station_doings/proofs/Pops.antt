@@ -1,130 +1,217 @@
 -- The frames to which a turn came, link by link.
-use Rattle.std.proofs.Common.{◌≡◌, ℕ, zero, suc, Bool, true, false, List, [], ◌∷◌, ◌++◌, map, refl, sym, ap, ◌∙◌}
-use Rattle.std.proofs.Common.{subst}
+use Rattle.std.proofs.Common.{◌≡◌, inl, inr, ℕ, zero, suc, Bool, true, List, [], ◌∷◌, ◌++◌, map, refl, sym, ap}
+use Rattle.std.proofs.Common.{◌∙◌, subst}
 use Rattle.std.specs.List.{AllZip}
-use Rattle.rtrb.specs.Ring.{known_items}
 use Rattle.ason_base.specs.declared.ids.NodeId.{NodeId}
 use Rattle.round_rules.specs.Functions.{Popped}
 use Rattle.station_sound.specs.declared.parcels.Parcel.{Parcel}
 use Rattle.station_rings.specs.LinkStates.{LinkState}
-use Rattle.station_doings.specs.Ends.{NoneBefore}
 use Rattle.station_doings.specs.Moves.{HasMoved, TakesAt, TakesNone}
-use Rattle.station_doings.specs.Turned.{HasComeTo, HaveComeTo, IsPoppedAs, all_of}
+use Rattle.station_doings.specs.Places.{FromPlace, HasPopped, HaveComeOn, OfLinks}
+use Rattle.station_doings.specs.Turned.{AreUntouched, HaveComeTo, IsCutShort, IsEmptied, IsPoppedAs, all_of}
+use Rattle.station_doings.proofs.Draining.{drained-then}
 use Rattle.station_doings.proofs.Moving.{moved-then}
-use Rattle.station_doings.proofs.Places.{NoneTaken}
+use Rattle.station_doings.proofs.Places.{NoneTaken, none-then, nones}
 
 -- None
 
 abbrev pub no_pops : List LinkState → List (List Popped)
 no_pops links = map (λ (l : LinkState). []) links
 
-came_none : (halted : Bool) (l m : LinkState) → TakesNone l m → HasComeTo halted l m []
-came_none halted l m is = record {
-  moved = is.0;
-  head = [];
-  rest = m.early ++ known_items m.into;
-  next = refl;
-  went_on = λ e. refl;
-  are = subst (λ ts. AllZip (IsPoppedAs l.peer) (ts ++ []) []) (sym is.1) tt;
-}
-
--- frames were sent alone
-pub none-came : (halted : Bool) (links after : List LinkState) → NoneTaken links after →
-    HaveComeTo halted links after (no_pops links)
-none-came halted [] [] is = tt
-none-came halted [] (m ∷ after) is = absurd is
-none-came halted (l ∷ links) [] is = absurd is
-none-came halted (l ∷ links) (m ∷ after) is = (came_none halted l m is.0, none-came halted links after is.1)
-
 pub none-all : (links : List LinkState) → all_of (no_pops links) ≡ []
 none-all [] = refl
 none-all (l ∷ links) = none-all links
 
-pub none-before : (i : ℕ) (links : List LinkState) → NoneBefore i (no_pops links)
-none-before zero links = tt
-none-before (suc i) [] = tt
-none-before (suc i) (l ∷ links) = (refl, none-before i links)
+pub cut-none : (l m : LinkState) → TakesNone l m → IsCutShort l m []
+cut-none l m is = record {
+  moved = is.0;
+  head = [];
+  rest = m.early;
+  next = refl;
+  are = subst (λ ts. AllZip (IsPoppedAs l.peer) (ts ++ []) []) (sym is.1) tt;
+}
+
+pub popped-none : (l m : LinkState) (ps : List Popped) → TakesNone l m → ps ≡ [] → HasPopped l m ps
+popped-none l m ps is none = record {
+  moved = is.0;
+  are =
+      subst (λ qs. AllZip (IsPoppedAs l.peer) is.0.takes qs) (sym none)
+      (subst (λ ts. AllZip (IsPoppedAs l.peer) ts []) (sym is.1) tt);
+}
+
+-- frames were sent alone
+pub untouched : (links after : List LinkState) → NoneTaken links after → AreUntouched links after (no_pops links)
+untouched [] [] is = tt
+untouched [] (m ∷ after) is = absurd is
+untouched (l ∷ links) [] is = absurd is
+untouched (l ∷ links) (m ∷ after) is = (is.0, refl, untouched links after is.1)
+
+-- a turn halted before its rings
+pub none-came : (links after : List LinkState) → NoneTaken links after → HaveComeTo true links after (no_pops links)
+none-came [] [] is = tt
+none-came [] (m ∷ after) is = absurd is
+none-came (l ∷ links) [] is = absurd is
+none-came (l ∷ links) (m ∷ after) is = inr (refl, cut-none l m is.0, untouched links after is.1)
 
 -- Before others
 
-came_after : (halted : Bool) (l m k : LinkState) (ps : List Popped) (a : HasMoved l m) → a.takes ≡ [] →
-    HasComeTo halted m k ps → HasComeTo halted l k ps
-came_after halted l m k ps a none is = record {
-  moved = moved-then l m k a is.moved;
+emptied_after : (l m k : LinkState) (ps : List Popped) → TakesNone l m → IsEmptied m k ps → IsEmptied l k ps
+emptied_after l m k ps a is = record {
+  drained = drained-then l m k a.0 is.drained;
+  are =
+      subst (λ ts. AllZip (IsPoppedAs l.peer) (ts ++ is.drained.0.takes) ps) (sym a.1)
+      (subst (λ u. AllZip (IsPoppedAs u) is.drained.0.takes ps) a.0.peer is.are);
+}
+
+popped_after : (l m k : LinkState) (ps : List Popped) → TakesNone l m → HasPopped m k ps → HasPopped l k ps
+popped_after l m k ps a is = record {
+  moved = moved-then l m k a.0 is.moved;
+  are =
+      subst (λ ts. AllZip (IsPoppedAs l.peer) (ts ++ is.moved.takes) ps) (sym a.1)
+      (subst (λ u. AllZip (IsPoppedAs u) is.moved.takes ps) a.0.peer is.are);
+}
+
+cut_after : (l m k : LinkState) (ps : List Popped) → TakesNone l m → IsCutShort m k ps → IsCutShort l k ps
+cut_after l m k ps a is = record {
+  moved = moved-then l m k a.0 is.moved;
   head = is.head;
   rest = is.rest;
   next = is.next;
-  went_on = is.went_on;
   are =
-      subst (λ ts. AllZip (IsPoppedAs l.peer) ((ts ++ is.moved.takes) ++ is.head) ps) (sym none)
-      (subst (λ u. AllZip (IsPoppedAs u) (is.moved.takes ++ is.head) ps) a.peer is.are);
+      subst (λ ts. AllZip (IsPoppedAs l.peer) ((ts ++ is.moved.takes) ++ is.head) ps) (sym a.1)
+      (subst (λ u. AllZip (IsPoppedAs u) (is.moved.takes ++ is.head) ps) a.0.peer is.are);
 }
 
+untouched_then : (xs ys zs : List LinkState) (pops : List (List Popped)) → NoneTaken xs ys →
+    AreUntouched ys zs pops → AreUntouched xs zs pops
+untouched_then [] [] [] [] a b = tt
+untouched_then [] [] [] (ps ∷ pops) a b = absurd b
+untouched_then [] [] (z ∷ zs) pops a b = absurd b
+untouched_then [] (y ∷ ys) zs pops a b = absurd a
+untouched_then (x ∷ xs) [] zs pops a b = absurd a
+untouched_then (x ∷ xs) (y ∷ ys) [] pops a b = absurd b
+untouched_then (x ∷ xs) (y ∷ ys) (z ∷ zs) [] a b = absurd b
+untouched_then (x ∷ xs) (y ∷ ys) (z ∷ zs) (ps ∷ pops) a b =
+    (none-then x y z a.0 b.0, b.1, untouched_then xs ys zs pops a.1 b.2)
+
 -- frames were sent before
-pub none-then : (halted : Bool) (xs ys zs : List LinkState) (pops : List (List Popped)) → NoneTaken xs ys →
+pub came-then : (halted : Bool) (xs ys zs : List LinkState) (pops : List (List Popped)) → NoneTaken xs ys →
     HaveComeTo halted ys zs pops → HaveComeTo halted xs zs pops
-none-then halted [] [] [] [] a b = tt
-none-then halted [] [] [] (ps ∷ pops) a b = absurd b
-none-then halted [] [] (z ∷ zs) pops a b = absurd b
-none-then halted [] (y ∷ ys) zs pops a b = absurd a
-none-then halted (x ∷ xs) [] zs pops a b = absurd a
-none-then halted (x ∷ xs) (y ∷ ys) [] pops a b = absurd b
-none-then halted (x ∷ xs) (y ∷ ys) (z ∷ zs) [] a b = absurd b
-none-then halted (x ∷ xs) (y ∷ ys) (z ∷ zs) (ps ∷ pops) a b =
-    (came_after halted x y z ps a.0.0 a.0.1 b.0, none-then halted xs ys zs pops a.1 b.1)
+came-then halted [] [] [] [] a b = tt
+came-then halted [] [] [] (ps ∷ pops) a b = absurd b
+came-then halted [] [] (z ∷ zs) pops a b = absurd b
+came-then halted [] (y ∷ ys) zs pops a b = absurd a
+came-then halted (x ∷ xs) [] zs pops a b = absurd a
+came-then halted (x ∷ xs) (y ∷ ys) [] pops a b = absurd b
+came-then halted (x ∷ xs) (y ∷ ys) (z ∷ zs) [] a b = absurd b
+came-then halted (x ∷ xs) (y ∷ ys) (z ∷ zs) (ps ∷ pops) a (inl b) =
+    inl (emptied_after x y z ps a.0 b.0, came-then halted xs ys zs pops a.1 b.1)
+came-then halted (x ∷ xs) (y ∷ ys) (z ∷ zs) (ps ∷ pops) a (inr b) =
+    inr (b.0, cut_after x y z ps a.0 b.1, untouched_then xs ys zs pops a.1 b.2)
+
+pub on-then : (first : LinkState) (halted : Bool) (xs ys zs : List LinkState) (pops : List (List Popped)) →
+    NoneTaken xs ys → HaveComeOn first halted ys zs pops → HaveComeOn first halted xs zs pops
+on-then first halted [] [] zs pops a b = absurd b
+on-then first halted [] (y ∷ ys) zs pops a b = absurd a
+on-then first halted (x ∷ xs) [] zs pops a b = absurd a
+on-then first halted (x ∷ xs) (y ∷ ys) [] pops a b = absurd b
+on-then first halted (x ∷ xs) (y ∷ ys) (z ∷ zs) [] a b = absurd b
+on-then first halted (x ∷ xs) (y ∷ ys) (z ∷ zs) (ps ∷ pops) a (inl b) =
+    inl (popped_after x y z ps a.0 b.0, b.1, came-then halted xs ys zs pops a.1 b.2)
+on-then first halted (x ∷ xs) (y ∷ ys) (z ∷ zs) (ps ∷ pops) a (inr b) =
+    inr (b.0, cut_after x y z ps a.0 b.1, untouched_then xs ys zs pops a.1 b.2)
+
+pub from-then : (first : LinkState) (halted : Bool) (i : ℕ) (xs ys zs : List LinkState) (pops : List (List Popped)) →
+    NoneTaken xs ys → FromPlace (HaveComeOn first halted) i ys zs pops →
+    FromPlace (HaveComeOn first halted) i xs zs pops
+from-then first halted zero xs ys zs pops a b = on-then first halted xs ys zs pops a b
+from-then first halted (suc i) [] [] zs pops a b = b
+from-then first halted (suc i) [] (y ∷ ys) zs pops a b = absurd a
+from-then first halted (suc i) (x ∷ xs) [] zs pops a b = absurd a
+from-then first halted (suc i) (x ∷ xs) (y ∷ ys) [] pops a b = absurd b
+from-then first halted (suc i) (x ∷ xs) (y ∷ ys) (z ∷ zs) [] a b = absurd b
+from-then first halted (suc i) (x ∷ xs) (y ∷ ys) (z ∷ zs) (ps ∷ pops) a b =
+    (none-then x y z a.0 b.0, b.1, from-then first halted i xs ys zs pops a.1 b.2)
+
+-- A frame that is taken
 
 abbrev pub put_at : ℕ → Popped → List (List Popped) → List (List Popped)
 put_at i p [] = []
 put_at zero p (ps ∷ pops) = (p ∷ ps) ∷ pops
 put_at (suc i) p (ps ∷ pops) = ps ∷ put_at i p pops
 
-came_taken : (halted : Bool) (u : NodeId) (q : Parcel) (p : Popped) (l m k : LinkState) (ps : List Popped)
-    (a : HasMoved l m) → a.takes ≡ q ∷ [] → l.peer ≡ u → IsPoppedAs u q p → HasComeTo halted m k ps →
-    HasComeTo halted l k (p ∷ ps)
-came_taken halted u q p l m k ps a one peer popped is = record {
-  moved = moved-then l m k a is.moved;
-  head = is.head;
-  rest = is.rest;
-  next = is.next;
-  went_on = is.went_on;
+-- what came of a frame that was taken at a place, before others that were taken there and later
+pub record Taken (R : OfLinks) (xs zs : List LinkState) (i : ℕ) (p : Popped) (pops : List (List Popped)) : Type 0 where
+  pub are : FromPlace R i xs zs (put_at i p pops)
+  pub all : all_of (put_at i p pops) ≡ p ∷ all_of pops
+
+-- the first link that is taken from
+record TakenFirst (u : NodeId) (q : Parcel) (l m : LinkState) : Type 0 where
+  moved : HasMoved l m
+  one : moved.takes ≡ q ∷ []
+  peer : l.peer ≡ u
+
+popped_taken : (u : NodeId) (q : Parcel) (p : Popped) (l m k : LinkState) (ps : List Popped) → TakenFirst u q l m →
+    IsPoppedAs u q p → HasPopped m k ps → HasPopped l k (p ∷ ps)
+popped_taken u q p l m k ps a popped is = record {
+  moved = moved-then l m k a.moved is.moved;
   are =
-      subst (λ ts. AllZip (IsPoppedAs l.peer) ((ts ++ is.moved.takes) ++ is.head) (p ∷ ps)) (sym one) (
-        subst (λ v. IsPoppedAs v q p) (sym peer) popped,
-        subst (λ v. AllZip (IsPoppedAs v) (is.moved.takes ++ is.head) ps) a.peer is.are,
+      subst (λ ts. AllZip (IsPoppedAs l.peer) (ts ++ is.moved.takes) (p ∷ ps)) (sym a.one) (
+        subst (λ v. IsPoppedAs v q p) (sym a.peer) popped,
+        subst (λ v. AllZip (IsPoppedAs v) is.moved.takes ps) a.moved.peer is.are,
       );
 }
 
--- what came of a frame that was taken at a place, before others that were taken there and later
-pub record Taken (halted : Bool) (xs zs : List LinkState) (i : ℕ) (p : Popped)
-    (pops : List (List Popped)) : Type 0 where
-  pub are : HaveComeTo halted xs zs (put_at i p pops)
-  pub none : NoneBefore i (put_at i p pops)
-  pub all : all_of (put_at i p pops) ≡ p ∷ all_of pops
-
-pub taken-first : (halted : Bool) (u : NodeId) (q : Parcel) (p : Popped) (i : ℕ) (xs ys zs : List LinkState)
-    (pops : List (List Popped)) → IsPoppedAs u q p → TakesAt u q i xs ys → HaveComeTo halted ys zs pops →
-    NoneBefore i pops → Taken halted xs zs i p pops
-taken-first halted u q p i [] ys zs pops popped a b none = absurd a
-taken-first halted u q p i (x ∷ xs) [] zs pops popped a b none = absurd a
-taken-first halted u q p i (x ∷ xs) (y ∷ ys) [] pops popped a b none = absurd b
-taken-first halted u q p i (x ∷ xs) (y ∷ ys) (z ∷ zs) [] popped a b none = absurd b
-taken-first halted u q p zero (x ∷ xs) (y ∷ ys) (z ∷ zs) (ps ∷ pops) popped a b none = record {
-  are = (
-    came_taken halted u q p x y z ps a.0.0 a.0.1 a.0.2 popped b.0,
-    none-then halted xs ys zs pops a.1 b.1,
-  );
-  none = tt;
-  all = refl;
+cut_taken : (u : NodeId) (q : Parcel) (p : Popped) (l m k : LinkState) (ps : List Popped) → TakenFirst u q l m →
+    IsPoppedAs u q p → IsCutShort m k ps → IsCutShort l k (p ∷ ps)
+cut_taken u q p l m k ps a popped is = record {
+  moved = moved-then l m k a.moved is.moved;
+  head = is.head;
+  rest = is.rest;
+  next = is.next;
+  are =
+      subst (λ ts. AllZip (IsPoppedAs l.peer) ((ts ++ is.moved.takes) ++ is.head) (p ∷ ps)) (sym a.one) (
+        subst (λ v. IsPoppedAs v q p) (sym a.peer) popped,
+        subst (λ v. AllZip (IsPoppedAs v) (is.moved.takes ++ is.head) ps) a.moved.peer is.are,
+      );
 }
-taken-first halted u q p (suc i) (x ∷ xs) (y ∷ ys) (z ∷ zs) (ps ∷ pops) popped a b none =
-    let rest = taken-first halted u q p i xs ys zs pops popped a.1 b.1 none.1 in
+
+pub taken-first : (first : LinkState) (halted : Bool) (u : NodeId) (q : Parcel) (p : Popped) (i : ℕ)
+    (xs ys zs : List LinkState) (pops : List (List Popped)) → IsPoppedAs u q p → TakesAt u q i xs ys →
+    FromPlace (HaveComeOn first halted) i ys zs pops → Taken (HaveComeOn first halted) xs zs i p pops
+taken-first first halted u q p i [] ys zs pops popped a b = absurd a
+taken-first first halted u q p i (x ∷ xs) [] zs pops popped a b = absurd a
+taken-first first halted u q p zero (x ∷ xs) (y ∷ ys) [] pops popped a b = absurd b
+taken-first first halted u q p (suc i) (x ∷ xs) (y ∷ ys) [] pops popped a b = absurd b
+taken-first first halted u q p zero (x ∷ xs) (y ∷ ys) (z ∷ zs) [] popped a b = absurd b
+taken-first first halted u q p (suc i) (x ∷ xs) (y ∷ ys) (z ∷ zs) [] popped a b = absurd b
+taken-first first halted u q p zero (x ∷ xs) (y ∷ ys) (z ∷ zs) (ps ∷ pops) popped a b =
+    record { are = go b; all = refl }
+  where
+    one : TakenFirst u q x y
+    one = record { moved = a.0.0; one = a.0.1; peer = a.0.2 }
+
+    go : HaveComeOn first halted (y ∷ ys) (z ∷ zs) (ps ∷ pops) →
+        HaveComeOn first halted (x ∷ xs) (z ∷ zs) ((p ∷ ps) ∷ pops)
+    go (inl b) = inl (popped_taken u q p x y z ps one popped b.0, b.1, came-then halted xs ys zs pops a.1 b.2)
+    go (inr b) = inr (b.0, cut_taken u q p x y z ps one popped b.1, untouched_then xs ys zs pops a.1 b.2)
+taken-first first halted u q p (suc i) (x ∷ xs) (y ∷ ys) (z ∷ zs) (ps ∷ pops) popped a b =
+    let rest = taken-first first halted u q p i xs ys zs pops popped a.1 b.2 in
     record {
-      are = (came_after halted x y z ps a.0.0 a.0.1 b.0, rest.are);
-      none = (none.0, rest.none);
+      are = (none-then x y z a.0 b.0, b.1, rest.are);
       all =
-          ap (λ qs. qs ++ all_of (put_at i p pops)) none.0 ∙ rest.all
-          ∙ ap (λ qs. p ∷ (qs ++ all_of pops)) (sym none.0);
+          ap (λ qs. qs ++ all_of (put_at i p pops)) b.1 ∙ rest.all
+          ∙ ap (λ qs. p ∷ (qs ++ all_of pops)) (sym b.1);
     }
+
+-- and the turn halts
+pub stops-at : (first : LinkState) (u : NodeId) (q : Parcel) (i : ℕ) (xs ys : List LinkState) → TakesAt u q i xs ys →
+    FromPlace (HaveComeOn first true) i ys ys (no_pops ys)
+stops-at first u q i [] ys a = absurd a
+stops-at first u q i (x ∷ xs) [] a = absurd a
+stops-at first u q zero (x ∷ xs) (y ∷ ys) a =
+    let none = nones (y ∷ ys) in inr (refl, cut-none y y none.0, untouched ys ys none.1)
+stops-at first u q (suc i) (x ∷ xs) (y ∷ ys) a = ((nones (y ∷ ys)).0, refl, stops-at first u q i xs ys a.1)
 
 -- A frame that stays
 
@@ -136,33 +223,27 @@ StaysAt u q zero (l ∷ links) (m ∷ after) =
     (TakesNone l m × (l.peer ≡ u) × ((rest : List Parcel) × (m.early ≡ q ∷ rest))) × NoneTaken links after
 StaysAt u q (suc i) (l ∷ links) (m ∷ after) = TakesNone l m × StaysAt u q i links after
 
-pub left-at : (u : NodeId) (q : Parcel) (p : Popped) (i : ℕ) (xs ys : List LinkState) → IsPoppedAs u q p →
-    StaysAt u q i xs ys → Taken true xs ys i p (no_pops xs)
-left-at u q p i [] ys popped a = absurd a
-left-at u q p i (x ∷ xs) [] popped a = absurd a
-left-at u q p zero (x ∷ xs) (y ∷ ys) popped a = record {
-  are = (
-    record {
-      moved = a.0.0.0;
-      head = q ∷ [];
-      rest = a.0.2.0 ++ known_items y.into;
-      next = ap (λ ps. ps ++ known_items y.into) a.0.2.1;
-      went_on = λ e. absurd (cc (e));
-      are =
-          subst (λ ts. AllZip (IsPoppedAs x.peer) (ts ++ q ∷ []) (p ∷ [])) (sym a.0.0.1)
-          (subst (λ v. IsPoppedAs v q p) (sym a.0.1) popped, tt);
-    },
-    none-came true xs ys a.1,
-  );
-  none = tt;
+pub left-at : (first : LinkState) (u : NodeId) (q : Parcel) (p : Popped) (i : ℕ) (xs ys : List LinkState) →
+    IsPoppedAs u q p → StaysAt u q i xs ys → Taken (HaveComeOn first true) xs ys i p (no_pops xs)
+left-at first u q p i [] ys popped a = absurd a
+left-at first u q p i (x ∷ xs) [] popped a = absurd a
+left-at first u q p zero (x ∷ xs) (y ∷ ys) popped a = record {
+  are =
+      inr (
+        refl,
+        record {
+          moved = a.0.0.0;
+          head = q ∷ [];
+          rest = a.0.2.0;
+          next = a.0.2.1;
+          are =
+              subst (λ ts. AllZip (IsPoppedAs x.peer) (ts ++ q ∷ []) (p ∷ [])) (sym a.0.0.1)
+              (subst (λ v. IsPoppedAs v q p) (sym a.0.1) popped, tt);
+        },
+        untouched xs ys a.1,
+      );
   all = refl;
 }
-left-at u q p (suc i) (x ∷ xs) (y ∷ ys) popped a =
-    let rest = left-at u q p i xs ys popped a.1 in
-    record { are = (came_none true x y a.0, rest.are); none = (refl, rest.none); all = rest.all }
-
--- fewer links are passed over
-pub none-less : (i : ℕ) (pops : List (List Popped)) → NoneBefore (suc i) pops → NoneBefore i pops
-none-less zero pops is = tt
-none-less (suc i) [] is = tt
-none-less (suc i) (ps ∷ pops) is = (is.0, none-less i pops is.1)
+left-at first u q p (suc i) (x ∷ xs) (y ∷ ys) popped a =
+    let rest = left-at first u q p i xs ys popped a.1 in
+    record { are = (a.0, refl, rest.are); all = rest.all }

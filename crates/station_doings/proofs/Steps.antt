@@ -1,6 +1,6 @@
 -- One item of the desk, and one frame that is due, before those that follow.
 use Rattle.std.proofs.Common.{◌≡◌, ◌≤◌, ◌+◌, ℕ, zero, suc, Bool, true, false, cond, nat_le, List, [], ◌∷◌, ◌++◌}
-use Rattle.std.proofs.Common.{drop, filter, length, map, refl, sym, ap, ◌∙◌, subst, arith, append_assoc}
+use Rattle.std.proofs.Common.{filter, length, map, refl, sym, ap, ◌∙◌, subst, arith, append_assoc}
 use Rattle.std.specs.Prelude.{max}
 use Rattle.std.specs.List.{AllByRecursion, AllZip}
 use Rattle.ason_base.specs.declared.ids.NodeId.{NodeId}
@@ -11,16 +11,21 @@ use Rattle.round_rules.specs.Doings.{DeskItem, Did, Doing, DueFrame, Freed, Wait
 use Rattle.round_rules.specs.Functions.{Popped, clock_of, freed, handled}
 use Rattle.round_rules.specs.Limits.{Progress, due_part, due_parts, going, halted_by, item_part, item_parts}
 use Rattle.round_rules.specs.Limits.{next_stamp, stamp_for}
+use Rattle.round_rules.specs.Held.{HeldFrame, is_due}
 use Rattle.round_rules.proofs.Due.{Descends, descends-after}
 use Rattle.station_sound.specs.Links.{LinkView}
 use Rattle.station_rings.specs.LinkStates.{view_of}
 use Rattle.station_doings.specs.Entered.{able}
-use Rattle.station_doings.specs.Ends.{DeskEnds, DueEnds, EndsAs, IsAtLimit}
+use Rattle.station_doings.specs.Ends.{DeskEnds, DueEnds, EndsAs}
+use Rattle.station_doings.specs.Limits.{IsAtLimit}
+use Rattle.station_doings.specs.Phases.{desk_phase, due_phase}
+use Rattle.station_doings.specs.Starts.{AreFirstDues, AreFirstItems}
 use Rattle.station_doings.specs.Stands.{IsHeldOf, frame_of}
 use Rattle.station_doings.specs.States.{IsStationOf, StationState}
-use Rattle.station_doings.specs.Turned.{IsPoppedAs, IsPoppedHeld, due_parcels}
+use Rattle.station_doings.specs.Turned.{IsPoppedHeld, due_parcels}
 use Rattle.station_doings.specs.declared.held.HeldParcel.{HeldParcel}
 use Rattle.station_doings.proofs.Ending.{Across, able-is, ends-later, full-is, halted-ends, nothing-ends}
+use Rattle.station_doings.proofs.Starving.{starves-later}
 
 -- The desk
 
@@ -34,8 +39,9 @@ module _ (t : Network) (n : NodeId) (ds : List Doing) (old : StationState) (is :
   clock_next = ap (λ k. k + 1) (sym is.stands.clock)
 
   pub desk-step : (mid end : StationState) (i : Item) → able (length old.log) (old.clock + 1) ≡ true →
-      old.desk ≡ i ∷ mid.desk → IsStationOf t n (handled ds) mid → Across DeskEnds DeskEnds old mid end t n ds
-  desk-step mid end i on first stands = record {
+      old.desk ≡ i ∷ mid.desk → mid.lines ≡ old.lines → IsStationOf t n (handled ds) mid →
+      Across desk_phase desk_phase old mid end t n ds
+  desk-step mid end i on first lines stands = record {
     done = handled ds;
     more = _;
     all = refl;
@@ -44,6 +50,10 @@ module _ (t : Network) (n : NodeId) (ds : List Doing) (old : StationState) (is :
         ends-later t n ds (handled ds) _ halted (item_parts (length mid.desk) (going (handled ds))) _ end refl
         (ap (item_parts (length mid.desk)) (sym (able-is t n ds old is DeskItem (next_stamp ds) (old.clock + 1) handled
         clock_next on)) ∙ sym (ap (λ items. item_parts (length items) (going ds)) first)) ends;
+    starves =
+        starves-later old.lines mid.lines (AreFirstItems (length mid.desk)) (AreFirstItems (length old.desk)) t n ds
+        (handled ds) (Did (Handled (next_stamp ds)) ∷ []) end refl lines
+        (λ made r. (((next_stamp ds, refl), r.0), omega (arith, ap length first, r.1)));
   }
 
   pub desk-halt : (i : Item) (rest : List Item) → able (length old.log) (old.clock + 1) ≡ false →
@@ -120,6 +130,13 @@ due_first : (h : HeldParcel) (hs : List HeldParcel) → is_due_parcel h ≡ true
     due_parcels false (h ∷ hs) ≡ h ∷ due_parcels false hs
 due_first h hs e = ap (λ b. cond b (h ∷ filter is_due_parcel hs) (filter is_due_parcel hs)) e
 
+abbrev frames_due : List HeldParcel → List HeldFrame
+frames_due hs = filter is_due (map frame_of hs)
+
+frame_first : (h : HeldParcel) (hs : List HeldParcel) → is_due_parcel h ≡ true →
+    frames_due (h ∷ hs) ≡ frame_of h ∷ frames_due hs
+frame_first h hs e = ap (λ b. cond b (frame_of h ∷ frames_due hs) (frames_due hs)) e
+
 module _ (t : Network) (n : NodeId) (ds : List Doing) (old : StationState) (is : IsStationOf t n ds old) where
   stamp_is : (h : HeldParcel) (p : Popped) → IsPoppedHeld h p →
       stamp_for p ds ≡ max old.clock h.parcel.stamp + 1
@@ -131,9 +148,9 @@ module _ (t : Network) (n : NodeId) (ds : List Doing) (old : StationState) (is :
   -- the first is let go and delivered, whatever it bears
   pub due-step : (mid end : StationState) (h : HeldParcel) → old.held ≡ h ∷ mid.held → is_due_parcel h ≡ true →
       able (length old.log) (max old.clock h.parcel.stamp + 1) ≡ true →
-      ((p : Popped) → IsPoppedHeld h p → IsStationOf t n (freed ds p) mid) →
-      Across DueEnds DueEnds old mid end t n ds
-  due-step mid end h first due on stands = record {
+      mid.lines ≡ old.lines → ((p : Popped) → IsPoppedHeld h p → IsStationOf t n (freed ds p) mid) →
+      Across due_phase due_phase old mid end t n ds
+  due-step mid end h first due on lines stands = record {
     done = freed ds p;
     more = _;
     all = append_assoc ds (Freed ∷ []) _;
@@ -149,6 +166,23 @@ module _ (t : Network) (n : NodeId) (ds : List Doing) (old : StationState) (is :
           (ap (λ q. due_parts q r.due) (sym (able-is t n ds old is (DueFrame p.from p.number) (stamp_for p ds)
           (max old.clock h.parcel.stamp + 1) (λ ks. freed ks p) (stamp_is h p popped) on))) r.ends;
     };
+    starves =
+        starves-later old.lines mid.lines (AreFirstDues (frames_due mid.held)) (AreFirstDues (frames_due old.held)) t n
+        ds (freed ds p) (Freed ∷ Did (Took stamp p.from p.number p.content) ∷ []) end
+        (append_assoc ds (Freed ∷ []) _) lines
+        (λ made r. record {
+          freed = frame_of h ∷ r.freed;
+          kept = r.kept;
+          all =
+              ap frames_due first ∙ frame_first h mid.held due ∙ ap (λ hs. frame_of h ∷ hs) r.all;
+          are = (
+            stamp,
+            p.content,
+            made,
+            λ i. Freed ∷ Did (Took stamp (popped.from_it i) (popped.number i) p.content) ∷ made,
+            r.are,
+          );
+        });
   }
     where
       found : (p : Popped) × IsPoppedHeld h p
@@ -161,6 +195,9 @@ module _ (t : Network) (n : NodeId) (ds : List Doing) (old : StationState) (is :
 
       popped : IsPoppedHeld h p
       popped = found.1
+
+      stamp : ℕ
+      stamp = max (clock_of (ds ++ Freed ∷ [])) p.stamp + 1
 
   pub due-halt : (h : HeldParcel) (rest : List HeldParcel) → old.held ≡ h ∷ rest → is_due_parcel h ≡ true →
       able (length old.log) (max old.clock h.parcel.stamp + 1) ≡ false → IsAtLimit old → DueEnds old old t n ds true

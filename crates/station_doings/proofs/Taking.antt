@@ -14,7 +14,7 @@ use Rattle.round_rules.specs.Rings.{got_from}
 use Rattle.station_sound.specs.declared.parcels.Parcel.{Parcel}
 use Rattle.station_sound.specs.Links.{HasGot, LinkView, after_frames}
 use Rattle.station_sound.proofs.Linking.{kept-link}
-use Rattle.station_rings.specs.LinkStates.{IsFetched, IsTaken, LinkState, view_of}
+use Rattle.station_rings.specs.LinkStates.{IsFetched, LinkState, view_of}
 use Rattle.station_doings.specs.Moves.{ArePeersApart, IsChangedAt, IsSentOver, IsTakenOf, peers_of}
 use Rattle.station_doings.specs.Stands.{CameFrom}
 use Rattle.station_doings.specs.States.{IsTakenFrom, numbers_of}

@@ -1,5 +1,5 @@
 -- A station stands by what its node did.
-use Rattle.std.specs.Prelude.{◌≡◌, ◌+◌, ℕ, List, [], map}
+use Rattle.std.specs.Prelude.{◌≡◌, ◌+◌, List, [], map}
 use Rattle.std.specs.List.{AllByRecursion, Contains}
 use Rattle.ason_base.specs.declared.ids.NodeId.{NodeId}
 use Rattle.ason_base.specs.Network.{Network}

@@ -1,17 +1,23 @@
 -- What a turn makes of a station.
-use Rattle.std.specs.Prelude.{◌≡◌, ◌≤◌, ◌+◌, ℕ, zero, suc, Bool, true, false, nat_le, List, [], ◌∷◌, ◌++◌, filter}
-use Rattle.std.specs.Prelude.{length, map, if◌then◌else◌}
+use Rattle.std.specs.Prelude.{◌≡◌, ◌≤◌, ◌+◌, ℕ, zero, suc, Bool, true, false, nat_le, List, [], ◌∷◌, ◌++◌, ◌⊎◌, Some}
+use Rattle.std.specs.Prelude.{filter, length, map, if◌then◌else◌}
 use Rattle.std.specs.List.{AllZip, flat_map}
-use Rattle.rtrb.specs.Ring.{known_items}
 use Rattle.ason_base.specs.declared.ids.NodeId.{NodeId}
 use Rattle.ason_base.specs.Network.{Network}
+use Rattle.ason_base.specs.declared.commands.Disturb.{Disturb}
+use Rattle.ason_base.specs.declared.commands.DisturbKind.TheVariants.{Repeat}
 use Rattle.flood.specs.Frames.{IsFrame}
 use Rattle.station_sound.specs.declared.parcels.Parcel.{Parcel}
 use Rattle.station_rings.specs.LinkStates.{LinkState}
-use Rattle.round_rules.specs.Doings.{Doing}
+use Rattle.flood.specs.declared.frames.Content.{Content}
+use Rattle.round_rules.specs.Doings.{Did, Doing, Freed, Got, Lost}
 use Rattle.round_rules.specs.Functions.{Popped}
-use Rattle.round_rules.specs.Limits.{Progress, turn_to}
-use Rattle.station_doings.specs.Moves.{HasMoved}
+use Rattle.round_rules.specs.Halts.{IsCutTurnOf}
+use Rattle.round_rules.specs.Limits.{turn_to}
+use Rattle.round_rules.specs.Lines.{says}
+use Rattle.world_merge.specs.Deeds.{Took}
+use Rattle.station_doings.specs.Limits.{IsAtLimit}
+use Rattle.station_doings.specs.Moves.{HasMoved, IsDrained, TakesNone}
 use Rattle.station_doings.specs.Stands.{parcel_ticked}
 use Rattle.station_doings.specs.States.{IsStationOf, StationState}
 use Rattle.station_doings.specs.declared.held.HeldParcel.{HeldParcel}
@@ -27,19 +33,36 @@ pub record IsPoppedAs (from : NodeId) (q : Parcel) (p : Popped) : Type 0 where
   pub stamp : p.stamp ≡ q.stamp
   pub spells : IsFrame q.frame p.content
 
--- Of a link: the frames to which a turn came. It took them, but for one at most that it left, where it halted.
-pub record HasComeTo (halted : Bool) (old new : LinkState) (pops : List Popped) : Type 0 where
+-- Of a link: all that was known to stand in its ring was taken, and more that came since, which is what was popped.
+pub record IsEmptied (old new : LinkState) (pops : List Popped) : Type 0 where
+  pub drained : IsDrained old new
+  pub are : AllZip (IsPoppedAs old.peer) drained.0.takes pops
+
+-- Of the link at which a turn halted: the frames to which it came. It took them, but for the last ones, which wait
+-- first of those that came out of the ring.
+pub record IsCutShort (old new : LinkState) (pops : List Popped) : Type 0 where
   pub moved : HasMoved old new
   pub head : List Parcel
   pub rest : List Parcel
-  pub next : new.early ++ known_items new.into ≡ head ++ rest
-  pub went_on : halted ≡ false → head ≡ []
+  pub next : new.early ≡ head ++ rest
   pub are : AllZip (IsPoppedAs old.peer) (moved.takes ++ head) pops
 
--- the pops of each link, link by link
+-- nothing is taken of these links, and nothing was popped
+abbrev pub AreUntouched : List LinkState → List LinkState → List (List Popped) → Type 0
+AreUntouched [] [] [] = Unit {0}
+AreUntouched (l ∷ links) (m ∷ after) (ps ∷ pops) = TakesNone l m × (ps ≡ []) × AreUntouched links after pops
+AreUntouched [] (m ∷ after) pops = ⊥
+AreUntouched [] [] (ps ∷ pops) = ⊥
+AreUntouched (l ∷ links) [] pops = ⊥
+AreUntouched (l ∷ links) (m ∷ after) [] = ⊥
+
+-- The pops of each link, link by link. Where the turn halted, the links before one of them were emptied, and those
+-- after it are untouched; a turn that halted before its rings came to no frame of the first one.
 abbrev pub HaveComeTo : Bool → List LinkState → List LinkState → List (List Popped) → Type 0
 HaveComeTo halted [] [] [] = Unit {0}
-HaveComeTo halted (l ∷ links) (m ∷ after) (ps ∷ pops) = HasComeTo halted l m ps × HaveComeTo halted links after pops
+HaveComeTo halted (l ∷ links) (m ∷ after) (ps ∷ pops) =
+    (IsEmptied l m ps × HaveComeTo halted links after pops)
+    ⊎ ((halted ≡ true) × IsCutShort l m ps × AreUntouched links after pops)
 HaveComeTo halted [] (m ∷ after) pops = ⊥
 HaveComeTo halted [] [] (ps ∷ pops) = ⊥
 HaveComeTo halted (l ∷ links) [] pops = ⊥
@@ -68,10 +91,27 @@ pub record TurnsTo (t : Network) (n : NodeId) (ds : List Doing) (tick halted : B
   pub stands : IsStationOf t n (turn_to t old.lines n tick ds due (all_of pops)).doings new
   pub halts : (turn_to t old.lines n tick ds due (all_of pops)).halted ≡ halted
 
--- Memory was wanting: what the node did before stays, and it did this besides, of which nothing more is said.
-pub record StarvesTo (t : Network) (n : NodeId) (ds : List Doing) (new : StationState) : Type 0 where
-  pub added : List Doing
-  pub stands : IsStationOf t n (ds ++ added) new
+-- Memory was wanting
+
+-- What was popped for the line that was refused is lost: a frame out of a ring, before its first delivery or its
+-- second, or a frame that was held. A tick or an item that was refused is made later.
+pub data IsLast (lines : List Disturb) (n : NodeId) : List Doing → Type 0 where
+  NoneLost : IsLast lines n []
+  PopLost : (u : NodeId) (k : ℕ) → IsLast lines n (Got u k (says lines u n k) ∷ Lost u k ∷ [])
+  RepeatLost : (u : NodeId) (k s : ℕ) (x : Content) → says lines u n k ≡ Some Repeat →
+      IsLast lines n (Got u k (Some Repeat) ∷ Did (Took s u k x) ∷ Lost u k ∷ [])
+  HeldLost : (u : NodeId) (k : ℕ) → IsLast lines n (Freed ∷ Lost u k ∷ [])
+
+-- The node did a first part of the turn, and what it came to then is lost.
+pub record StarvesTo (t : Network) (lines : List Disturb) (n : NodeId) (ds : List Doing) (tick : Bool)
+    (new : StationState) : Type 0 where
+  pub made : List Doing
+  pub last : List Doing
+  pub cut : IsCutTurnOf t lines n tick ds made
+  pub is_last : IsLast lines n last
+  pub stands : IsStationOf t n (ds ++ (made ++ last)) new
+
+-- Turns
 
 -- how many lines the log has more
 abbrev pub HasGrown : ℕ → StationState → StationState → Type 0
@@ -88,26 +128,48 @@ HasTurned old new tick turn.Idle =
 HasTurned old new tick turn.AtLimit =
     (t : Network) (n : NodeId) (ds : List Doing) → IsStationOf t n ds old → TurnsTo t n ds tick true old new
 HasTurned old new tick turn.Starved =
-    (t : Network) (n : NodeId) (ds : List Doing) → IsStationOf t n ds old → StarvesTo t n ds new
+    (t : Network) (n : NodeId) (ds : List Doing) → IsStationOf t n ds old → StarvesTo t old.lines n ds tick new
 
--- the one where the turn came to its end, the other where it didn't
-abbrev pub IfEnded : Turn → Type 0 → Type 0 → Type 0
-IfEnded (turn.Worked k) Ended Halted = Ended
-IfEnded turn.Idle Ended Halted = Ended
-IfEnded turn.AtLimit Ended Halted = Halted
-IfEnded turn.Starved Ended Halted = Halted
+-- the turn came to its end
+abbrev pub comes_to_end : Turn → Bool
+comes_to_end (turn.Worked k) = true
+comes_to_end turn.Idle = true
+comes_to_end turn.AtLimit = false
+comes_to_end turn.Starved = false
+
+abbrev pub is_starved : Turn → Bool
+is_starved (turn.Worked k) = false
+is_starved turn.Idle = false
+is_starved turn.AtLimit = false
+is_starved turn.Starved = true
+
+abbrev pub is_at_limit : Turn → Bool
+is_at_limit (turn.Worked k) = false
+is_at_limit turn.Idle = false
+is_at_limit turn.AtLimit = true
+is_at_limit turn.Starved = false
+
+-- one turn, which keeps the fault lines, and what it made of the links
+pub record HasMadeTurn (tick : Bool) (old new : StationState) (end : Turn) : Type 0 where
+  pub turned : HasTurned old new tick end
+  pub lines : new.lines ≡ old.lines
+  pub links : AllZip HasMoved old.links new.links
+  pub drained : comes_to_end end ≡ true → AllZip IsDrained old.links new.links
+  -- where it halted, the log is full, or no stamp is left
+  pub limit : is_at_limit end ≡ true → (t : Network) (n : NodeId) (ds : List Doing) → IsStationOf t n ds old →
+      IsAtLimit new
 
 -- a turn, and then these
-pub record FirstTurns (tick : Bool) (old new : StationState) (end : Turn) (Rest : StationState → Type 0) : Type 0 where
+pub record ThenTurns (tick : Bool) (old : StationState) (Rest : StationState → Type 0) : Type 0 where
   pub mid : StationState
-  pub one : Turn
-  pub turned : HasTurned old mid tick one
-  pub rest : IfEnded one (Rest mid) ((new ≡ mid) × (end ≡ one))
+  pub answer : Turn
+  pub turn : HasMadeTurn tick old mid answer
+  pub ended : comes_to_end answer ≡ true
+  pub rest : Rest mid
 
--- So many turns, the first with a tick where it is asked for. The first that doesn't come to its end is the last; what
--- the last one answers is answered.
-abbrev pub HaveTurned : ℕ → Bool → StationState → StationState → Turn → Type 0
-HaveTurned zero tick old new end = ⊥
-HaveTurned (suc zero) tick old new end = HasTurned old new tick end
-HaveTurned (suc (suc k)) tick old new end =
-    FirstTurns tick old new end (λ mid. HaveTurned (suc k) false mid new end)
+-- At most so many turns and at least one, the first with a tick where it is asked for. One that doesn't come to its end
+-- is the last; what the last one answers is answered.
+abbrev pub HaveMadeTurns : ℕ → Bool → StationState → StationState → Turn → Type 0
+HaveMadeTurns zero tick old new end = ⊥
+HaveMadeTurns (suc k) tick old new end =
+    HasMadeTurn tick old new end ⊎ ThenTurns tick old (λ mid. HaveMadeTurns k false mid new end)

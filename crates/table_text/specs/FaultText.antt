@@ -35,7 +35,6 @@ kind_word kind.Group = codes "group"
 kind_word kind.Channel = codes "channel"
 kind_word kind.Hex = codes "hex"
 kind_word kind.Spells = codes "spells"
-kind_word kind.Unbuilt = codes "unbuilt"
 
 -- `refused plan ENTRY KIND`
 abbrev pub refused_text : PlanFault → List ℕ

@@ -64,6 +64,5 @@ fn kind_word(kind: PlanKind) -> &'static str
         PlanKind::Channel => "channel",
         PlanKind::Hex => "hex",
         PlanKind::Spells => "spells",
-        PlanKind::Unbuilt => "unbuilt",
     }
 }

@@ -2,9 +2,12 @@
 
 use crate::networks::{LINK, row, setup};
 use ason_base::{Command, Group};
+use ason_io::NoGate;
 use fleet::{Fleet, FleetPending};
 use std::alloc::Global;
+use std::sync::Wait;
 use std::test::Fail;
+use std::thread::Threads;
 
 /// What is done to a fleet, or what must be seen of it.
 #[derive(Clone, Copy, Drop)]
@@ -25,7 +28,7 @@ enum Act {
 
 const RUNS: &[&[Act]] = &[
     // After the first round the Path, the Resv and the rows of both nodes aren't acknowledged; the
-    // second brings all acknowledgements. The events are those that proofs/Example of fleet works out.
+    // second brings all acknowledgements.
     &[
         Act::Waits(0, 0, 2),
         Act::Stand(0, 0),
@@ -71,42 +74,52 @@ fn post(fleet: &mut Fleet, command: Command) -> Result<bool, Fail> {
     Ok(true)
 }
 
-fn holds(alloc: Global, fleet: &mut Fleet, act: Act) -> Result<bool, Fail> {
+fn holds<R: Threads + Wait + Sync>(
+    rt: &R,
+    alloc: Global,
+    fleet: &mut Fleet,
+    act: Act,
+) -> Result<bool, Fail> {
     let group = Group::Link(LINK);
     match act {
         Act::SetUp => post(fleet, setup(alloc, 0)?),
         Act::Fail => post(fleet, Command::Fail { group }),
         Act::Repair => post(fleet, Command::Repair { group }),
-        Act::Round(events) => Ok(fleet.round() == Ok(events)),
+        Act::Round(events) => Ok(fleet.round(rt, 1, 1, &NoGate) == Ok(events)),
         Act::Waits(desk, hop, flood) => Ok(waits(fleet, desk, hop, flood)),
         Act::Stand(calls, legs) => stand(alloc, fleet, calls, legs),
     }
 }
 
 // The place of the first act that isn't seen as it must be.
-fn first_unseen(alloc: Global, fleet: &mut Fleet, acts: &[Act]) -> Result<Option<usize>, Fail> {
+fn first_unseen<R: Threads + Wait + Sync>(
+    rt: &R,
+    alloc: Global,
+    fleet: &mut Fleet,
+    acts: &[Act],
+) -> Result<Option<usize>, Fail> {
     for (place, act) in acts.iter().enumerate() {
-        if !holds(alloc, fleet, *act)? {
+        if !holds(rt, alloc, fleet, *act)? {
             return Ok(Some(place));
         }
     }
     Ok(None)
 }
 
-fn first_wrong(alloc: Global, acts: &[Act]) -> Result<Option<usize>, Fail> {
+fn first_wrong<R: Threads + Wait + Sync>(
+    rt: &R,
+    alloc: Global,
+    acts: &[Act],
+) -> Result<Option<usize>, Fail> {
     let t = row(alloc, 2, 1)?;
-    let mut fleets = Vec::new(alloc);
-    fleets.push(Fleet::new(alloc, &t)?)?;
-    match fleets.first_mut() {
-        Some(fleet) => first_unseen(alloc, fleet, acts),
-        None => Err(Fail::new("no fleet")),
-    }
+    let mut fleet = Fleet::new(alloc, &t)?;
+    first_unseen(rt, alloc, &mut fleet, acts)
 }
 
 #[test]
 fn rounds(rt: HostRuntime) -> Result<(), Fail> {
     for acts in RUNS {
-        assert_eq!(rt; first_wrong(rt.alloc(), acts)?, None);
+        assert_eq!(rt; first_wrong(&rt, rt.alloc(), acts)?, None);
     }
     Ok(())
 }

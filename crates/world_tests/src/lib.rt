@@ -4,6 +4,8 @@
 #[cfg(test)]
 mod fleets;
 #[cfg(test)]
+mod gates;
+#[cfg(test)]
 mod networks;
 #[cfg(test)]
 mod replays;

@@ -59,7 +59,7 @@ pub(crate) fn setup(alloc: Global, call: u16) -> Result<Command, Fail> {
     Ok(asked(call, B, Some(via)))
 }
 
-/// The call of this number from a to c, over whatever route.
-pub(crate) fn search(call: u16) -> Command {
-    asked(call, C, None)
+/// The call of this number from a to a node, over whatever route.
+pub(crate) fn search_to(call: u16, to: NodeId) -> Command {
+    asked(call, to, None)
 }

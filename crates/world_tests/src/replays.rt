@@ -1,6 +1,6 @@
 //! Replays of controllers in a row: frames are lost, come twice or overtake, and a link is learnt.
 
-use crate::networks::{A, B, row, search, setup};
+use crate::networks::{A, B, C, row, search_to, setup};
 use ason_base::{Bytes, CallState, Cause, Event, NodeId, Phase};
 use std::alloc::Global;
 use std::test::Fail;
@@ -238,7 +238,7 @@ fn event_of(alloc: Global, act: Act) -> Result<Event, Fail> {
             command: setup(alloc, call)?,
         },
         Act::Search(call) => Event::Post {
-            command: search(call),
+            command: search_to(call, C),
         },
         Act::Desk(node) => Event::Desk { node: NodeId(node) },
         Act::Tick(node) => Event::Tick { node: NodeId(node) },

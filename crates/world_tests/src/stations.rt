@@ -2,7 +2,9 @@
 
 use crate::networks::{A, row};
 use ason_base::{CallNo, Command, DeskItem, Topology};
-use station::{Station, Turn};
+use ason_io::NoGate;
+use station::Station;
+use station_doings::Turn;
 use std::alloc::Global;
 use std::test::Fail;
 
@@ -28,7 +30,7 @@ fn makes_turns(station: &mut Station) -> Result<bool, Fail> {
     station.order(release())?;
     station.order(release())?;
     let waiting = station.desk_len();
-    let turns = (station.turn(true), station.turn(false));
+    let turns = (station.turn(&NoGate, true), station.turn(&NoGate, false));
     let left = (station.desk_len(), station.controller().pending().hop);
     let made = station.made();
     Ok(waiting == 2 && turns == (Turn::Worked(3), Turn::Idle) && left == (0, 0) && made == 3)

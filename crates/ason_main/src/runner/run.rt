@@ -1,29 +1,34 @@
 //! Runs a plan's script, and writes what its lines print as they are done.
 
-ghost use Rattle.std.specs.Prelude.{◌∷◌, [], IfErr, OnOk};
+ghost use Rattle.std.specs.Prelude.{◌≡◌, ◌≤◌, ◌∷◌, [], IfErr, None, OnOk};
+ghost use Rattle.round_rules.specs.Records.{new_record};
+ghost use Rattle.fleet.specs.Standing.{StandsFor};
 ghost use Rattle.plan_reader.specs.Plans.{ArePostable};
-ghost use Rattle.ason_main.specs.Laws.{WorldLaws};
-ghost use Rattle.ason_main.specs.Outputs.{settling_script};
-ghost use Rattle.ason_main.specs.Running.{DoesAll, IsRan, StopsAll, at};
+ghost use Rattle.script_rules.specs.Outputs.{script_of};
+ghost use Rattle.ason_main.specs.Outputs.{IsRan};
+ghost use Rattle.ason_main.specs.Running.{CanDoAll, DoesAll, StopsAll, at};
 
-use crate::runner::lines::line_text;
+use crate::laws::every_law;
+use crate::runner::crew::Crew;
+use crate::runner::lines::{do_line, text_of};
 use crate::runner::stops::Stop;
-use ason_base::{NodeId, OutOfMemory};
-use ason_io::{Sink, write_all};
-use fleet::{Fleet, every_script};
+use ason_base::NodeId;
+use ason_io::{Gate, Sink, write_all};
+use fleet::Fleet;
 use plan_reader::{Line, Plan};
 use std::alloc::Global;
-use world_rules::every_world_run;
+use std::sync::Wait;
+use std::thread::Threads;
 
 /// The most rounds before the script and after it.
-pub const ROUNDS: u32 = 1000;
+const ROUNDS: u32 = 1000;
 
 /// How a run ended.
 #[derive(Clone, Copy, Debug, PartialEq, Eq, Drop)]
 pub enum Ran {
     /// The whole script was run.
     Ended,
-    /// A node came to its limit.
+    /// The log of this node is full, and an input is at hand there: the least such node.
     AtLimit(NodeId),
     /// The sink failed.
     Failed,
@@ -31,22 +36,28 @@ pub enum Ran {
     OutOfMemory,
 }
 
-// Does what a line says, and writes what it prints.
-fn run_line<K: Sink>(
+// Does what a line says, and writes what it prints, where that is asked for.
+fn run_line<R: Threads + Wait + Sync, K: Sink, G: Gate>(
     alloc: Global,
     plan: &Plan,
+    crew: &Crew<R, G>,
     fleet: &mut Fleet,
     out: &mut K,
     line: &Line,
 ) -> Result<(), Stop>
-    ensures done { OnOk result (DoesAll plan.now (line.now ∷ [])
+    requires { CanDoAll plan.now.topology fleet.old (line.now ∷ []) }
+    ensures done { OnOk result (DoesAll plan.now crew.now (line.now ∷ [])
         (at fleet.old (K.written out.old) (K.faults out.old))
-        (at fleet.new (K.written out.new) (K.faults out.new))) }
-    ensures stops { IfErr result (StopsAll plan.now (line.now ∷ [])
+        (at fleet.new (K.written out.new) (K.faults out.new)) None) }
+    ensures stops { IfErr result (StopsAll plan.now crew.now (line.now ∷ [])
         (at fleet.old (K.written out.old) (K.faults out.old))
         (at fleet.new (K.written out.new) (K.faults out.new))) }
 {
-    let text = line_text(alloc, plan, fleet, line)?;
+    do_line(crew, fleet, line)?;
+    if !crew.tables() {
+        return Ok(());
+    }
+    let text = text_of(alloc, plan, fleet, line)?;
     match write_all(out, &text) {
         Ok(()) => Ok(()),
         Err(_) => Err(Stop::Failed),
@@ -54,69 +65,84 @@ fn run_line<K: Sink>(
 }
 
 // Does what these lines say, one after the other.
-fn run_lines<K: Sink>(
+fn run_lines<R: Threads + Wait + Sync, K: Sink, G: Gate>(
     alloc: Global,
     plan: &Plan,
+    crew: &Crew<R, G>,
     fleet: &mut Fleet,
     out: &mut K,
     lines: &[Line],
 ) -> Result<(), Stop>
-    ensures done { OnOk result (DoesAll plan.now lines.now
+    requires { CanDoAll plan.now.topology fleet.old lines.now }
+    ensures done { OnOk result (DoesAll plan.now crew.now lines.now
         (at fleet.old (K.written out.old) (K.faults out.old))
-        (at fleet.new (K.written out.new) (K.faults out.new))) }
-    ensures stops { IfErr result (StopsAll plan.now lines.now
+        (at fleet.new (K.written out.new) (K.faults out.new)) None) }
+    ensures stops { IfErr result (StopsAll plan.now crew.now lines.now
         (at fleet.old (K.written out.old) (K.faults out.old))
         (at fleet.new (K.written out.new) (K.faults out.new))) }
 {
+    every_law();
     for line in lines {
-        run_line(alloc, plan, fleet, out, line)?;
+        run_line(alloc, plan, crew, fleet, out, line)?;
     }
     Ok(())
 }
 
 // The network settles, the plan's lines are done, the network settles again, and the table comes last.
-fn run_script<K: Sink>(
+fn run_script<R: Threads + Wait + Sync, K: Sink, G: Gate>(
     alloc: Global,
     plan: &Plan,
+    crew: &Crew<R, G>,
     fleet: &mut Fleet,
     out: &mut K,
-    rounds: u32,
 ) -> Result<(), Stop>
-    ensures done { OnOk result (DoesAll plan.now (settling_script rounds plan.now)
+    requires new { StandsFor plan.now.topology [] fleet.old new_record }
+    requires postable { ArePostable plan.now.topology [] plan.now.lines }
+    ensures done { OnOk result (DoesAll plan.now crew.now (script_of plan.now)
+        (at fleet.old (K.written out.old) (K.faults out.old))
+        (at fleet.new (K.written out.new) (K.faults out.new)) None) }
+    ensures stops { IfErr result (StopsAll plan.now crew.now (script_of plan.now)
         (at fleet.old (K.written out.old) (K.faults out.old))
         (at fleet.new (K.written out.new) (K.faults out.new))) }
-    ensures stops { IfErr result (StopsAll plan.now (settling_script rounds plan.now)
-        (at fleet.old (K.written out.old) (K.faults out.old))
-        (at fleet.new (K.written out.new) (K.faults out.new))) }
-{
-    run_lines(alloc, plan, fleet, out, &[Line::Settle(rounds)])?;
-    run_lines(alloc, plan, fleet, out, plan.lines.items())?;
-    run_lines(alloc, plan, fleet, out, &[Line::Settle(rounds), Line::Show])
-}
-
-/// The laws of worlds, and of posts and rounds.
-pub fn every_law()
-    ensures { WorldLaws }
-{
-    every_world_run();
-    every_script();
-}
-
-/// Runs the plan: the network settles, the script is run, the network settles again, and the table comes last. What a
-/// line prints is written as soon as the line is done. The events that the lines make, one after the other, are a run
-/// of a world, and the laws of the machine hold of the mesh that it shows.
-pub fn run_plan<K: Sink>(alloc: Global, plan: &Plan, out: &mut K) -> Ran
-    requires { ArePostable plan.now.topology [] plan.now.lines }
-    ensures { IsRan K.written K.faults plan.now out.old out.new result }
 {
     every_law();
-    // So that it is known that the plan's network is a topology.
-    let _links = plan.topology.links();
-    let mut fleet = match Fleet::new(alloc, &plan.topology) {
-        Ok(fleet) => fleet,
-        Err(OutOfMemory) => return Ran::OutOfMemory,
-    };
-    match run_script(alloc, plan, &mut fleet, out, ROUNDS) {
+    run_lines(alloc, plan, crew, fleet, out, &[Line::Settle(ROUNDS)])?;
+    run_lines(alloc, plan, crew, fleet, out, plan.lines.items())?;
+    run_lines(
+        alloc,
+        plan,
+        crew,
+        fleet,
+        out,
+        &[Line::Settle(ROUNDS), Line::Show],
+    )
+}
+
+/// Runs the plan on so many workers, each station with so many turns a round: the network settles, the script is run,
+/// the network settles again, and the table comes last. With `tables` what a line prints is written as soon as the line
+/// is done; else nothing is written. The fleet's logs and posts are those of the last stage of the script: their merge
+/// is a run of a world, and the laws of the machine hold of the mesh that it shows.
+pub fn run_plan<R: Threads + Wait + Sync, K: Sink, G: Gate>(
+    rt: &R,
+    alloc: Global,
+    fleet: &mut Fleet,
+    plan: &Plan,
+    workers: usize,
+    stride: u32,
+    tables: bool,
+    out: &mut K,
+    gate: &G,
+) -> Ran
+    requires new { StandsFor plan.now.topology [] fleet.old new_record }
+    requires postable { ArePostable plan.now.topology [] plan.now.lines }
+    requires workers { (1 ≤ workers) × (workers ≤ 16) }
+    requires stride { (1 ≤ stride) × (stride ≤ 64) }
+    ensures { IsRan K.written K.faults plan.now (record { workers = workers; tables = tables })
+        fleet.new out.old out.new result }
+{
+    every_law();
+    let crew = Crew::new(rt, gate, workers, stride, tables);
+    match run_script(alloc, plan, &crew, fleet, out) {
         Ok(()) => Ran::Ended,
         Err(Stop::AtLimit(node)) => Ran::AtLimit(node),
         Err(Stop::Failed) => Ran::Failed,

@@ -1,20 +1,33 @@
 //! Rounds until all is quiet.
 
-ghost use Rattle.std.specs.Prelude.{IfErr, OnOk};
-ghost use Rattle.ason_main.specs.Running.{Settles, StopsSettling};
+ghost use Rattle.std.specs.Prelude.{IfErr, None, OnOk};
+ghost use Rattle.ason_base.specs.Network.{Network};
+ghost use Rattle.plan_reader.specs.declared.lines.Line.TheVariants as said;
+ghost use Rattle.ason_main.specs.Running.{Does, Stops};
 
-use fleet::{Fleet, RoundFault};
+use crate::runner::crew::Crew;
+use crate::runner::stops::Stop;
+use ason_io::Gate;
+use fleet::Fleet;
+use std::sync::Wait;
+use std::thread::Threads;
 
 /// Makes rounds until all is quiet, at most so many.
-pub fn settle(fleet: &mut Fleet, rounds: u32) -> Result<(), RoundFault>
-    ensures on { OnOk result (Settles rounds fleet.old fleet.new) }
-    ensures stops { IfErr result (StopsSettling rounds fleet.old) }
+pub fn settle<R: Threads + Wait + Sync, G: Gate>(
+    crew: &Crew<R, G>,
+    fleet: &mut Fleet,
+    rounds: u32,
+) -> Result<(), Stop>
+    ensures done { (t : Network) → OnOk result
+        (Does t crew.now.workers (said.Settle rounds) fleet.old fleet.new None) }
+    ensures stops { (t : Network) → IfErr result
+        (Stops t crew.now.workers (said.Settle rounds) fleet.old fleet.new) }
 {
     for _made in 0..rounds {
         if fleet.quiet() {
             return Ok(());
         }
-        fleet.round()?;
+        crew.round(fleet)?;
     }
     Ok(())
 }

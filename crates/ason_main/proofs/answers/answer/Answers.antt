@@ -10,8 +10,8 @@ pub returns-in_default : goal.returns-in_default
 returns-in_default g c = (
   Usage,
   usage_reply g.S.Source.left g.S.Source.handed g.S.Source.ended g.S.Source.faults (map string_bytes c.args.words.now)
-      c.args.src.now (ap (option_map (request_for (map string_bytes c.args.words.now)))
-      (sym c.task_of.ensures ∙ c.in_default.is)),
+      c.args.src.now c.args.kept.now (ap (option_map (request_for (map string_bytes c.args.words.now)))
+      (sym c.task_of.ensures ∙ c.in_default.is)) c.requires,
   c.tell.ensures,
 )
 
@@ -22,9 +22,10 @@ returns-in-Ok g c =
       given.0,
       judged_reply g.S.Source.left g.S.Source.handed g.S.Source.ended g.S.Source.faults
           (map string_bytes c.args.words.now) c.args.src.now c.read_all.new.src c.in-Ok.bytes.items request given.0
+          c.judge.new.kept
           (ap (option_map (request_for (map string_bytes c.args.words.now))) (sym c.task_of.ensures ∙ c.in-Some.is))
           c.in-Ok.ensures.to_end c.in-Ok.ensures.within
-          (subst (λ bs. IsJudged request bs given.0) c.deref.ensures.value given.1),
+          (subst (λ bs. IsJudged request bs given.0 c.judge.new.kept) c.deref.ensures.value given.1),
       given.2,
     )
 
@@ -33,9 +34,11 @@ returns-in-Err-Failed g c = (
   ReadFault,
   reply_read g.S.Source.left g.S.Source.handed g.S.Source.ended g.S.Source.faults (map string_bytes c.args.words.now)
       c.args.src.now c.read_all.new.src (request_for (map string_bytes c.args.words.now) c.in-Some.task) ReadFault
+      c.args.kept.now
       (ap (option_map (request_for (map string_bytes c.args.words.now))) (sym c.task_of.ensures ∙ c.in-Some.is)) (
         c.in-Err-Failed.ensures.failed (ap Err c.in-Err-Failed.field-0-is),
         c.in-Err-Failed.ensures.failed_within (ap Err c.in-Err-Failed.field-0-is),
+        c.requires,
       ),
   inl (refl, Appends-nil (g.K.Sink.written c.args.out.now)),
 )
@@ -45,8 +48,9 @@ returns-in-Err-OutOfMemory g c = (
   Unfinished [],
   reply_read g.S.Source.left g.S.Source.handed g.S.Source.ended g.S.Source.faults (map string_bytes c.args.words.now)
       c.args.src.now c.read_all.new.src (request_for (map string_bytes c.args.words.now) c.in-Some.task) (Unfinished [])
+      c.args.kept.now
       (ap (option_map (request_for (map string_bytes c.args.words.now))) (sym c.task_of.ensures ∙ c.in-Some.is))
-      (c.in-Err-OutOfMemory.ensures.memory_within (ap Err c.in-Err-OutOfMemory.field-0-is), inl refl),
+      (c.in-Err-OutOfMemory.ensures.memory_within (ap Err c.in-Err-OutOfMemory.field-0-is), inl (refl, c.requires)),
   inl (refl, Appends-nil (g.K.Sink.written c.args.out.now)),
 )
 
@@ -55,7 +59,8 @@ returns-in-Err-TooLong g c = (
   TooLong,
   reply_read g.S.Source.left g.S.Source.handed g.S.Source.ended g.S.Source.faults (map string_bytes c.args.words.now)
       c.args.src.now c.read_all.new.src (request_for (map string_bytes c.args.words.now) c.in-Some.task) TooLong
+      c.args.kept.now
       (ap (option_map (request_for (map string_bytes c.args.words.now))) (sym c.task_of.ensures ∙ c.in-Some.is))
-      (c.in-Err-TooLong.ensures.too_long (ap Err c.in-Err-TooLong.field-0-is)),
+      (c.in-Err-TooLong.ensures.too_long (ap Err c.in-Err-TooLong.field-0-is), c.requires),
   c.tell-in-Err-TooLong.ensures,
 )

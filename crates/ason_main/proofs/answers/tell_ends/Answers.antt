@@ -1,4 +1,4 @@
-use Rattle.std.proofs.Common.{subst}
+use Rattle.std.proofs.Common.{None, refl, subst}
 use Rattle.ason_main.specs.declared.answers.Status.{Status}
 use Rattle.ason_main.specs.Answers.{Ask, Done, WasTold}
 use Rattle.ason_main.proofs.Replies.{no_memory}
@@ -7,7 +7,7 @@ use Rattle.ason_main.proofs.answers.tell_ends.Goals as goal
 pub returns-in-Ok : goal.returns-in-Ok
 returns-in-Ok g c bs plan = (
   Done c.in-Ok.text.items,
-  (c.args.plan.now, plan, c.in-Ok.ensures),
+  ((c.args.plan.now, plan, c.in-Ok.ensures), refl),
   subst
       (λ text. WasTold g.K.Sink.written g.K.Sink.faults c.args.out.now c.tell.new.out text Status.Done c.tell.result)
       c.deref.ensures.value c.tell.ensures,
@@ -16,4 +16,4 @@ returns-in-Ok g c bs plan = (
 pub returns-in-Err : goal.returns-in-Err
 returns-in-Err g c bs plan =
     no_memory g.K.Sink.written g.K.Sink.faults (Ask c.args.question c.args.from.now c.args.to.now) bs
-    c.args.out.now
+    c.args.out.now None refl

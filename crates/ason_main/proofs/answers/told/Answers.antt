@@ -2,7 +2,7 @@ use Rattle.std.proofs.Common.{subst, sym}
 use Rattle.std.specs.Prelude.{IfOk}
 use Rattle.ason_base.proofs.Results.{if_ok}
 use Rattle.ason_main.specs.Answers.{IsTold}
-use Rattle.ason_main.specs.declared.answers.Question.{Question}
+use Rattle.command_words.specs.declared.tasks.Question.{Question}
 use Rattle.table_text.proofs.BestPairs.{one_text}
 use Rattle.ason_main.proofs.answers.told.Goals as goal
 

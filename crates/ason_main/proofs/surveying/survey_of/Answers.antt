@@ -1,19 +1,55 @@
 use Rattle.std.proofs.Common.{subst, sym}
 use Rattle.ason_base.proofs.Results.{passed_on}
-use Rattle.ason_main.specs.Outputs.{script_of}
-use Rattle.ason_main.specs.Running.{StopsLeading}
-use Rattle.ason_main.proofs.SurveyRuns.{survey_stopped, surveyed}
+use Rattle.ason_main.specs.Outputs.{end_of}
+use Rattle.ason_main.specs.Surveys.{StopsSurvey}
+use Rattle.ason_main.proofs.Replies.{made_yet}
+use Rattle.ason_main.proofs.SurveyRuns.{begun_silently, cut_silently, ended_silently, never_failed, survey_stopped, surveyed}
 use Rattle.ason_main.proofs.surveying.survey_of.Goals as goal
 
-pub returns-in_err-do_script-clause-stops : goal.returns-in_err-do_script-clause-stops
-returns-in_err-do_script-clause-stops c =
+pub returns-in_err-text-in-Ended-clause-stops : goal.returns-in_err-text-in-Ended-clause-stops
+returns-in_err-text-in-Ended-clause-stops g c =
     let p = c.args.plan.now in
-    passed_on c.from_residual-in_err-do_script.result _ _
-    (λ e same. survey_stopped c.every_law.ensures p c.in_ok-fleet.fleet e c.requires c.in_ok-fleet.ensures
-    (subst (StopsLeading p (script_of p) c.in_ok-fleet.fleet) (sym same) c.in_err-do_script.ensures.stops))
-    c.from_residual-in_err-do_script.ensures.1
+    passed_on c.from_residual.result _ _
+    (λ e same. subst (StopsSurvey p c.run_plan.new.fleet) (sym same)
+    (made_yet p c.run_plan.new.fleet (end_of c.in-Ended.ensures.1.more) c.in-Ended.ensures.1.kept))
+    c.from_residual.ensures.1
 
-pub returns-clause-done : goal.returns-clause-done
-returns-clause-done c =
-    surveyed c.every_law.ensures c.no_contend.ensures.rows c.args.plan.now c.in_ok-fleet.fleet c.do_script.new.fleet
-    c.in_ok-text.text.items c.requires c.in_ok-fleet.ensures c.in_ok-do_script.ensures.done c.in_ok-text.ensures
+pub returns-in_err-text-in-Ended-clause-written : goal.returns-in_err-text-in-Ended-clause-written
+returns-in_err-text-in-Ended-clause-written g c =
+    ended_silently c.args.plan.now c.run_plan.new.fleet (g.K.Sink.written c.args.out.now) (g.K.Sink.written
+    c.run_plan.new.out)
+    c.in-Ended.ensures.1
+
+pub unreachable-requires : goal.unreachable-requires
+unreachable-requires g c =
+    never_failed c.args.plan.now (g.K.Sink.written c.args.out.now) (g.K.Sink.written c.run_plan.new.out)
+    c.in-Failed.ensures.1
+
+pub returns-in_ok-text-in-Ended-clause-done : goal.returns-in_ok-text-in-Ended-clause-done
+returns-in_ok-text-in-Ended-clause-done g c =
+    surveyed c.no_contend.ensures.rows c.args.plan.now c.run_plan.new.fleet
+    (g.K.Sink.written c.args.out.now) (g.K.Sink.written c.run_plan.new.out)
+    c.in_ok-text-in-Ended.text.items c.in-Ended.ensures.1 c.in_ok-text-in-Ended.ensures
+
+pub returns-in_ok-text-in-Ended-clause-written : goal.returns-in_ok-text-in-Ended-clause-written
+returns-in_ok-text-in-Ended-clause-written g c =
+    ended_silently c.args.plan.now c.run_plan.new.fleet (g.K.Sink.written c.args.out.now) (g.K.Sink.written
+    c.run_plan.new.out)
+    c.in-Ended.ensures.1
+
+pub returns-in-AtLimit-clause-stops : goal.returns-in-AtLimit-clause-stops
+returns-in-AtLimit-clause-stops g c =
+    survey_stopped c.args.plan.now c.in-AtLimit.node c.run_plan.new.fleet
+    (g.K.Sink.written c.args.out.now) (g.K.Sink.written c.run_plan.new.out)
+    c.in-AtLimit.ensures.1
+
+pub returns-in-AtLimit-clause-written : goal.returns-in-AtLimit-clause-written
+returns-in-AtLimit-clause-written g c =
+    cut_silently c.args.plan.now c.in-AtLimit.node c.run_plan.new.fleet
+    (g.K.Sink.written c.args.out.now) (g.K.Sink.written c.run_plan.new.out)
+    c.in-AtLimit.ensures.1
+
+pub returns-in-OutOfMemory-clause-written : goal.returns-in-OutOfMemory-clause-written
+returns-in-OutOfMemory-clause-written g c =
+    begun_silently c.args.plan.now (g.K.Sink.written c.args.out.now) (g.K.Sink.written c.run_plan.new.out)
+    c.in-OutOfMemory.ensures.1

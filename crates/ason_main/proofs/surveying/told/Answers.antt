@@ -1,7 +1,7 @@
 use Rattle.std.proofs.Common.{subst, ◌∙◌}
 use Rattle.std.specs.Prelude.{◌↔◌, IsTrue}
 use Rattle.ason_base.proofs.Results.{if_ok}
-use Rattle.station.specs.Histories.{world_after}
+use Rattle.round_rules.specs.Records.{world_of}
 use Rattle.table_text.specs.SurveyText.{survey_text}
 use Rattle.ason_main.specs.Surveys.{IsCalmWorld}
 use Rattle.ason_main.proofs.SurveyRuns.{tells_survey}
@@ -23,7 +23,7 @@ returns c =
       same_legs = c.in_ok-rows-2.ensures.same_legs;
       legs = c.in_ok-rows-2.ensures.legs;
     })
-    (λ t h stands. subst (λ legs. IsTrue calm ↔ IsCalmWorld (world_after t h) legs) c.items.ensures
-    (c.is_calm-calm.ensures t h stands))
+    (λ t lines r stands. subst (λ legs. IsTrue calm ↔ IsCalmWorld (world_of t r) legs) c.items.ensures
+    (c.is_calm-calm.ensures t lines r stands))
     (told ∙ (λ i. survey_text p calm (hits i) (contends i))))
     c.survey_text.ensures

@@ -2,8 +2,8 @@ use Rattle.std.proofs.Common.{rules}
 use Rattle.std.proofs.lemmas.List.Sorted.{answers_always}
 use Rattle.std.specs.List.Sorted.{IsSortedBy}
 use Rattle.ason_base.specs.declared.calls.CallRow.{CallRow}
-use Rattle.ason_main.specs.Outputs.{call_before}
-use Rattle.ason_main.proofs.LegOrder.{calls_in_order}
+use Rattle.script_rules.specs.Tables.{call_before}
+use Rattle.script_rules.proofs.LegOrder.{calls_in_order}
 use Rattle.ason_main.proofs.table_rows.sort_calls.Goals as goal
 
 pub returns-clause-sorted : goal.returns-clause-sorted

@@ -2,8 +2,8 @@ use Rattle.std.proofs.Common.{rules}
 use Rattle.std.proofs.lemmas.List.Sorted.{answers_always}
 use Rattle.std.specs.List.Sorted.{IsSortedBy}
 use Rattle.ason_base.specs.declared.calls.LegRow.{LegRow}
-use Rattle.ason_main.specs.Outputs.{leg_before}
-use Rattle.ason_main.proofs.LegOrder.{legs_in_order}
+use Rattle.script_rules.specs.Tables.{leg_before}
+use Rattle.script_rules.proofs.LegOrder.{legs_in_order}
 use Rattle.ason_main.proofs.table_rows.sort_legs.Goals as goal
 
 pub returns-clause-sorted : goal.returns-clause-sorted

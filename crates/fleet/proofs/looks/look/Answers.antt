@@ -1,40 +1,61 @@
-use Rattle.std.proofs.Common.{ap, arith, get_or}
-use Rattle.fleet.proofs.Ends.{look-high, look-low}
+use Rattle.std.proofs.Common.{arith, get_or, ap}
+use Rattle.fleet.proofs.Meeting.{here-within, met-high, met-low, read-ends, read-high, read-low}
 use Rattle.fleet.proofs.looks.look.Goals as goal
 
+pub look-requires-clause-ends : goal.look-requires-clause-ends
+look-requires-clause-ends c =
+    let split = c.split_at_mut-low in
+    let old = c.args.stations.now in
+    let a = get_or split.result.0.now c.args.place c.index-low-place.result in
+    let b = get_or split.result.1.now 0 c.index-high-0.result in
+    read-ends old c.args.place c.args.link c.args.end a b c.requires
+    (read-low old split.result.0.now split.result.1.now c.args.place c.args.link c.args.end a b c.requires
+    (omega (arith, c.if-place-end.true)) split.ensures.front split.ensures.back
+    (ap (get_or split.result.0.now c.args.place) c.index-low-place.is)
+    (ap (get_or split.result.1.now 0) c.index-high-0.is))
+
+pub split_at_mut-low-requires-else-place-end : goal.split_at_mut-low-requires-else-place-end
+split_at_mut-low-requires-else-place-end c =
+    let h = here-within c.args.stations.now c.args.place c.args.link c.args.end c.requires in
+    omega (arith, h)
+
+pub look-requires-else-place-end-clause-ends : goal.look-requires-else-place-end-clause-ends
+look-requires-else-place-end-clause-ends c =
+    let split = c.split_at_mut-low-else-place-end in
+    let old = c.args.stations.now in
+    let a = get_or split.result.1.now 0 c.index-high-0-else-place-end.result in
+    let b = get_or split.result.0.now c.args.end.station c.index-low-end.result in
+    read-ends old c.args.place c.args.link c.args.end a b c.requires
+    (read-high old split.result.0.now split.result.1.now c.args.place c.args.link c.args.end a b c.requires
+    (omega (arith, c.if-place-end.false)) split.ensures.front split.ensures.back
+    (ap (get_or split.result.1.now 0) c.index-high-0-else-place-end.is)
+    (ap (get_or split.result.0.now c.args.end.station) c.index-low-end.is))
+
 pub returns-then-place-end : goal.returns-then-place-end
-returns-then-place-end c j =
-    let low = c.split_at_mut-low.result.0.now in
-    let high = c.split_at_mut-low.result.1.now in
-    look-low c.args.stations.now low high c.args.place c.args.link c.args.end
-    (get_or low c.args.place c.index-low-place.result)
-    (get_or high 0 c.index-high-0.result) c.look.new.self c.look.new.other j
-    (omega (arith, c.if-place-end.true)) c.split_at_mut-low.ensures.front c.split_at_mut-low.ensures.back
-    (ap (get_or low c.args.place) c.index-low-place.is) (ap (get_or high 0) c.index-high-0.is)
-    (record {
-      here = c.look.ensures.here;
-      there = c.look.ensures.there;
-      controllers = c.look.ensures.controllers;
-      desks = c.look.ensures.desks;
-      spares = c.look.ensures.spares;
-    })
+returns-then-place-end c =
+    let split = c.split_at_mut-low in
+    let old = c.args.stations.now in
+    let a = get_or split.result.0.now c.args.place c.index-low-place.result in
+    let b = get_or split.result.1.now 0 c.index-high-0.result in
+    met-low old split.result.0.now split.result.1.now c.args.place c.args.link c.args.end a b c.look.new.a c.look.new.b
+    c.requires
+    (read-low old split.result.0.now split.result.1.now c.args.place c.args.link c.args.end a b c.requires
+    (omega (arith, c.if-place-end.true)) split.ensures.front split.ensures.back
+    (ap (get_or split.result.0.now c.args.place) c.index-low-place.is)
+    (ap (get_or split.result.1.now 0) c.index-high-0.is))
+    (omega (arith, c.if-place-end.true)) split.ensures.front split.ensures.back c.look.ensures
 
 pub returns-else-place-end : goal.returns-else-place-end
-returns-else-place-end c j =
+returns-else-place-end c =
     let split = c.split_at_mut-low-else-place-end in
     let look = c.look-else-place-end in
-    let low = c.split_at_mut-low-else-place-end.result.0.now in
-    let high = c.split_at_mut-low-else-place-end.result.1.now in
-    look-high c.args.stations.now low high c.args.place c.args.link c.args.end
-    (get_or high 0 c.index-high-0-else-place-end.result) (get_or low c.args.end.station c.index-low-end.result)
-    look.new.self look.new.other j
-    (omega (arith, c.if-place-end.false))
-    split.ensures.front split.ensures.back
-    (ap (get_or high 0) c.index-high-0-else-place-end.is) (ap (get_or low c.args.end.station) c.index-low-end.is)
-    (record {
-      here = look.ensures.here;
-      there = look.ensures.there;
-      controllers = look.ensures.controllers;
-      desks = look.ensures.desks;
-      spares = look.ensures.spares;
-    })
+    let old = c.args.stations.now in
+    let a = get_or split.result.1.now 0 c.index-high-0-else-place-end.result in
+    let b = get_or split.result.0.now c.args.end.station c.index-low-end.result in
+    met-high old split.result.0.now split.result.1.now c.args.place c.args.link c.args.end a b look.new.a look.new.b
+    c.requires
+    (read-high old split.result.0.now split.result.1.now c.args.place c.args.link c.args.end a b c.requires
+    (omega (arith, c.if-place-end.false)) split.ensures.front split.ensures.back
+    (ap (get_or split.result.1.now 0) c.index-high-0-else-place-end.is)
+    (ap (get_or split.result.0.now c.args.end.station) c.index-low-end.is))
+    (omega (arith, c.if-place-end.false)) split.ensures.front split.ensures.back look.ensures

@@ -1,21 +1,30 @@
-use Rattle.std.proofs.Common.{◌+◌, ◌∷◌, [], length, ap, ◌∙◌, sym, arith}
-use Rattle.std.specs.Prelude.{slice_get}
-use Rattle.std.proofs.lemmas.List.{length-append}
-use Rattle.fleet.proofs.Finding.{ends-more}
+use Rattle.std.proofs.Common.{◌+◌, Global, Vec, ap, arith, subst, sym, ◌∙◌}
+use Rattle.fleet.specs.declared.seats.End.{End}
+use Rattle.fleet.proofs.NewSeats.{AreEnds, end-found, end-none, new-seat}
+use Rattle.fleet.proofs.seats.new_seat.Goals.{in-Some+in_ok-push, in_default}
 use Rattle.fleet.proofs.seats.new_seat.Goals as goal
 
-pub loop-link-preserved : goal.loop-link-preserved
-loop-link-preserved c =
-    let t = c.args.t.now in
-    let n = c.args.id in
-    let ends = c.loop-link.ends.items in
-    let end = c.far_end-end.result in
-    record {
-      within = omega (arith, c.loop-link-test.true);
-      total = ap length c.in_ok-push.ensures.items ∙ length-append ends (end ∷ []) ∙
-          ap (λ k. k + 1) c.loop-link.invariant.total;
-      each = λ k e u at near.
-          ends-more t n c.args.station.now ends end c.loop-link.link c.peer.result c.requires.one
-          c.loop-link.invariant.total c.loop-link.invariant.each c.peer.ensures c.far_end-end.ensures k e u
-          (ap (λ xs. slice_get xs k) (sym c.in_ok-push.ensures.items) ∙ at) near;
-    }
+pub loop-station-preserved : goal.loop-station-preserved
+loop-station-preserved c = record {
+  within = omega (arith, c.loop-station-test.true);
+  ends = λ t new.
+      let place = c.loop-station.station in
+      let was = c.loop-station.invariant.ends t new in
+      elim c.match-link_to.branch [
+        | in-Some+in_ok-push w ↦
+            subst (AreEnds t (place + 1) c.args.id)
+            (sym (ap (λ (v : Vec End Global). v.items) w.ends-is ∙ w.in_ok-push.ensures.items))
+            (end-found t c.args.stations.now c.loop-station.ends.items place w.in-Some.link c.args.id
+            c.index-stations-station.result new c.loop-station-test.true c.index-stations-station.is
+            (sym c.link_to.ensures ∙ w.in-Some.is) was)
+        | in_default w ↦
+            subst (AreEnds t (place + 1) c.args.id) (sym (ap (λ (v : Vec End Global). v.items) w.ends-is))
+            (end-none t c.args.stations.now c.loop-station.ends.items place c.args.id c.index-stations-station.result new
+            c.loop-station-test.true c.index-stations-station.is (sym c.link_to.ensures ∙ w.in_default.is) was)
+      ];
+}
+
+pub returns-clause-seat : goal.returns-clause-seat
+returns-clause-seat c t new =
+    new-seat t c.args.stations.now c.loop-station.station _ new
+    (omega (arith, c.loop-station-test.false, c.loop-station.invariant.within)) (c.loop-station.invariant.ends t new)

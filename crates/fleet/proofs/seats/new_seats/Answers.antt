@@ -1,9 +1,15 @@
-use Rattle.std.proofs.Common.{arith}
-use Rattle.fleet.proofs.Finding.{new-read}
+use Rattle.std.proofs.Common.{map, ap, ◌∙◌}
+use Rattle.std.proofs.lemmas.List.{take_all}
+use Rattle.ason_base.specs.declared.network.NodeSpec.{NodeSpec}
 use Rattle.fleet.proofs.seats.new_seats.Goals as goal
 
-pub new_seat-requires-clause-one : goal.new_seat-requires-clause-one
-new_seat-requires-clause-one c =
-    new-read c.args.t.now c.nodes-node-items.result.now c.args.stations.now c.loop-node.node-index c.len.result _
-    c.index-stations-len.result c.requires c.nodes-node-items.ensures.list c.loop-node-test.true
-    (omega (arith, c.len.ensures, c.loop-node.seats.ok.0, c.loop-node.invariant.count)) c.index-stations-len.is
+pub returns : goal.returns
+returns c =
+    let nodes = c.nodes-node-items.result.now in
+    record {
+      ids =
+          c.loop-node.invariant.ids
+          ∙ ap (map (λ (n : NodeSpec). n.id)) (take_all c.loop-node.node-index nodes c.loop-node-test.false
+          ∙ c.nodes-node-items.ensures.list);
+      each = c.loop-node.invariant.each;
+    }

@@ -1,6 +1,6 @@
 use Rattle.std.proofs.Common.{[], length, refl, ap, arith}
 use Rattle.mesh_rules.proofs.LinkNews.{apart-at, news-more}
-use Rattle.fleet.proofs.Changing.{told-both, told-none}
+use Rattle.fleet.proofs.News.{told-both, told-none}
 use Rattle.fleet.proofs.telling.tell.Goals as goal
 
 pub tell_of-requires-clause-apart : goal.tell_of-requires-clause-apart

@@ -1,7 +1,7 @@
 use Rattle.std.proofs.Common.{◌≤◌, ◌+◌, length, take}
 use Rattle.std.specs.Prelude.{flat_map}
 use Rattle.mesh_rules.specs.Failures.{changed_news}
-use Rattle.fleet.specs.Posts.{IsTold}
+use Rattle.fleet.specs.Posting.{IsTold}
 use Rattle.fleet.proofs.telling.tell.Given as goal
 
 abbrev pub invariant-loop-link : goal.invariant-loop-link

@@ -2,7 +2,7 @@ use Rattle.std.proofs.Common.{◌≡◌, ◌≤◌, ◌^◌, ap, ◌∙◌, subs
 use Rattle.control_channels.specs.Controllers.{ControllerState}
 use Rattle.flood.specs.State.{pending_count}
 use Rattle.fleet.specs.Waiting.{rows_due_of}
-use Rattle.fleet.proofs.Sums.{few-all, few-more, sum-more}
+use Rattle.fleet.proofs.Fitting.{few-all, few-more, sum-more}
 use Rattle.fleet.proofs.waiting.rows_due_of.Goals as goal
 
 pub loop-station-preserved : goal.loop-station-preserved

@@ -1,5 +1,5 @@
 use Rattle.std.proofs.lemmas.Result.{IfOk-weaker}
-use Rattle.plan_reader.proofs.PostableLines.{plan_is_named, plan_is_postable}
+use Rattle.plan_reader.proofs.PostablePlans.{plan_is_named, plan_is_postable}
 use Rattle.plan_reader.proofs.reader.read_plan.Goals as goal
 
 pub returns-in-Ok-clause-postable : goal.returns-in-Ok-clause-postable

@@ -1,38 +1,40 @@
-use Rattle.std.proofs.Common.{◌≡◌, rules, length, map, sym, ◌∙◌, ap, subst}
-use Rattle.std.specs.List.{AllByRecursion}
-use Rattle.station.specs.Links.{ArePeersApart, HasNumbers, after_frame}
-use Rattle.station.proofs.Linking.{after_frame-peer, map-more, map-none, numbers-less, numbers-one, peers-apart-map}
+use Rattle.std.proofs.Common.{◌≡◌, ◌∷◌, [], rules, length, sym, ap, subst, arith}
+use Rattle.std.proofs.lemmas.List.{length-append}
+use Rattle.station_doings.specs.Moves.{AreApart}
+use Rattle.station.proofs.Sending.{may-still, sent-more, sent-peers, sent-start}
 use Rattle.station.proofs.links.send_frames.Goals as goal
 
 pub loop-frame-init : goal.loop-frame-init
 loop-frame-init c = record {
-  links = sym (map-none c.args.links.now.items);
-  apart = c.requires.apart;
-  numbers =
+  sent = sent-start c.args.stamp c.args.links.now.items;
+  many =
       (let all : c.into_iter-frame-iterator.result.rest.items ≡ c.args.frames = search rules in
-      subst (λ fs. AllByRecursion (HasNumbers (length fs)) c.args.links.now.items) (sym all) c.requires.numbers);
+      omega (arith, ap length all));
 }
 
 pub send_frame-requires-clause-apart : goal.send_frame-requires-clause-apart
-send_frame-requires-clause-apart c = c.loop-frame.invariant.apart
+send_frame-requires-clause-apart c =
+    subst AreApart
+    (sym (sent-peers c.args.stamp c.loop-frame.yielded c.args.links.now.items c.loop-frame.links.items
+    c.loop-frame.invariant.sent)) c.requires.apart
 
-pub send_frame-requires-clause-numbers : goal.send_frame-requires-clause-numbers
-send_frame-requires-clause-numbers c =
-    numbers-one (length c.next.new.self.rest.items) c.loop-frame.links.items
-    (subst (λ fs. AllByRecursion
-    (HasNumbers (length fs)) c.loop-frame.links.items) c.in-Some.ensures.steps.0 c.loop-frame.invariant.numbers)
+pub send_frame-requires-clause-may : goal.send_frame-requires-clause-may
+send_frame-requires-clause-may c =
+    may-still c.args.stamp (length c.args.frames) c.loop-frame.yielded c.args.links.now.items c.loop-frame.links.items
+    (omega (arith, c.loop-frame.invariant.many, ap length c.in-Some.ensures.steps.0)) c.loop-frame.invariant.sent
+    c.requires.may
 
 pub loop-frame-preserved : goal.loop-frame-preserved
-loop-frame-preserved c =
-    let f = c.in-Some.frame in
-    let before = c.loop-frame.links.items in
-    record {
-      links = c.send_frame.ensures ∙ ap (map (after_frame f)) c.loop-frame.invariant.links
-          ∙ map-more c.loop-frame.yielded f c.args.links.now.items;
-      apart = subst ArePeersApart (sym c.send_frame.ensures)
-          (peers-apart-map (after_frame f) before (after_frame-peer f) c.loop-frame.invariant.apart);
-      numbers = subst (AllByRecursion (HasNumbers (length c.next.new.self.rest.items))) (sym c.send_frame.ensures)
-          (numbers-less f (length c.next.new.self.rest.items) before
-          (subst (λ fs. AllByRecursion
-          (HasNumbers (length fs)) before) c.in-Some.ensures.steps.0 c.loop-frame.invariant.numbers));
-    }
+loop-frame-preserved c = record {
+  sent =
+      sent-more c.args.stamp c.loop-frame.yielded c.in-Some.frame c.args.links.now.items c.loop-frame.links.items
+      c.send_frame.new.links.items c.loop-frame.invariant.sent c.send_frame.ensures;
+  many =
+      omega (
+        arith,
+        c.loop-frame.invariant.many,
+        ap length c.in-Some.ensures.steps.0,
+        length-append c.loop-frame.yielded
+            (c.in-Some.frame ∷ []),
+      );
+}

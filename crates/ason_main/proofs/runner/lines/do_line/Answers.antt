@@ -1,22 +1,62 @@
 use Rattle.std.proofs.Common.{subst, sym}
-use Rattle.std.specs.Prelude.{IfErr}
-use Rattle.ason_main.specs.Running.{Leads, Stops}
-use Rattle.ason_main.proofs.Lines.{show_leads}
+use Rattle.std.specs.Prelude.{IfErr, None, OnOk}
+use Rattle.plan_reader.specs.declared.lines.Line.TheVariants as said
+use Rattle.ason_main.specs.Running.{Does, Stops}
+use Rattle.ason_main.proofs.Lines.{show_does}
 use Rattle.ason_main.proofs.runner.lines.do_line.Goals as goal
 
+pub returns-in-Post-clause-done : goal.returns-in-Post-clause-done
+returns-in-Post-clause-done g c t =
+    let w = c.args.crew.now.workers in
+    subst (λ l. OnOk c.post_line.result (Does t w l c.args.fleet.now c.post_line.new.fleet None)) (sym c.in-Post.is)
+    (c.post_line.ensures.done t w)
+
 pub returns-in-Post-clause-stops : goal.returns-in-Post-clause-stops
-returns-in-Post-clause-stops c p =
-    subst (λ l. IfErr c.post_line.result (Stops p l c.args.fleet.now)) (sym c.in-Post.is) (c.post_line.ensures.stops p)
+returns-in-Post-clause-stops g c t =
+    let w = c.args.crew.now.workers in
+    subst (λ l. IfErr c.post_line.result (Stops t w l c.args.fleet.now c.post_line.new.fleet)) (sym c.in-Post.is)
+    (c.post_line.ensures.stops t w)
+
+pub returns-in-Disturb-clause-stops : goal.returns-in-Disturb-clause-stops
+returns-in-Disturb-clause-stops g c t =
+    let w = c.args.crew.now.workers in
+    subst (λ l. IfErr c.disturb_line.result (Stops t w l c.args.fleet.now c.disturb_line.new.fleet))
+    (sym c.in-Disturb.is) (c.disturb_line.ensures.stops t w)
+
+pub returns-in-Noise-clause-stops : goal.returns-in-Noise-clause-stops
+returns-in-Noise-clause-stops g c t =
+    let w = c.args.crew.now.workers in
+    subst (λ l. IfErr c.noise_line.result (Stops t w l c.args.fleet.now c.noise_line.new.fleet)) (sym c.in-Noise.is)
+    (subst (λ bytes. IfErr c.noise_line.result
+    (Stops t w (said.Noise c.in-Noise.from c.in-Noise.to bytes) c.args.fleet.now c.noise_line.new.fleet))
+    c.items.ensures (c.noise_line.ensures.stops t w))
+
+pub returns-in-Settle-clause-done : goal.returns-in-Settle-clause-done
+returns-in-Settle-clause-done g c t =
+    let w = c.args.crew.now.workers in
+    subst (λ l. OnOk c.settle.result (Does t w l c.args.fleet.now c.settle.new.fleet None)) (sym c.in-Settle.is)
+    (c.settle.ensures.done t)
 
 pub returns-in-Settle-clause-stops : goal.returns-in-Settle-clause-stops
-returns-in-Settle-clause-stops c p =
-    subst (λ l. IfErr c.settle_line.result (Stops p l c.args.fleet.now)) (sym c.in-Settle.is)
-    (c.settle_line.ensures.stops p)
+returns-in-Settle-clause-stops g c t =
+    let w = c.args.crew.now.workers in
+    subst (λ l. IfErr c.settle.result (Stops t w l c.args.fleet.now c.settle.new.fleet)) (sym c.in-Settle.is)
+    (c.settle.ensures.stops t)
+
+pub returns-in-Wait-clause-done : goal.returns-in-Wait-clause-done
+returns-in-Wait-clause-done g c t =
+    let w = c.args.crew.now.workers in
+    subst (λ l. OnOk c.wait.result (Does t w l c.args.fleet.now c.wait.new.fleet None)) (sym c.in-Wait.is)
+    (c.wait.ensures.done t)
 
 pub returns-in-Wait-clause-stops : goal.returns-in-Wait-clause-stops
-returns-in-Wait-clause-stops c p =
-    subst (λ l. IfErr c.wait_line.result (Stops p l c.args.fleet.now)) (sym c.in-Wait.is) (c.wait_line.ensures.stops p)
+returns-in-Wait-clause-stops g c t =
+    let w = c.args.crew.now.workers in
+    subst (λ l. IfErr c.wait.result (Stops t w l c.args.fleet.now c.wait.new.fleet)) (sym c.in-Wait.is)
+    (c.wait.ensures.stops t)
 
 pub returns-in-Show-clause-done : goal.returns-in-Show-clause-done
-returns-in-Show-clause-done c p =
-    subst (λ l. Leads p l c.args.fleet.now c.args.fleet.now) (sym c.in-Show.is) (show_leads p c.args.fleet.now)
+returns-in-Show-clause-done g c t =
+    let w = c.args.crew.now.workers in
+    subst (λ l. Does t w l c.args.fleet.now c.args.fleet.now None) (sym c.in-Show.is)
+    (show_does t w c.args.fleet.now)

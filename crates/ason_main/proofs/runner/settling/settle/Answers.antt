@@ -1,35 +1,53 @@
 use Rattle.std.proofs.Common.{sym, ◌∙◌}
 use Rattle.ason_base.proofs.Results.{passed_on}
-use Rattle.ason_main.proofs.Settling.{settled_end, settled_next, settled_quiet, settling_begins, settling_stops}
+use Rattle.script_rules.specs.Stages.{Settles}
+use Rattle.ason_main.specs.Running.{Stops}
+use Rattle.ason_main.proofs.Rounding.{making_begins, making_ends, making_next, making_rests, making_stops}
+use Rattle.ason_main.proofs.Settling.{settles_line, settles_none, settles_rest, settles_stay, settles_step, settles_stops}
+use Rattle.plan_reader.specs.declared.lines.Line.TheVariants as said
+use Rattle.std.proofs.Common.{subst}
 use Rattle.ason_main.proofs.runner.settling.settle.Goals as goal
 
 pub loop-made-init : goal.loop-made-init
-loop-made-init c = settling_begins c.args.rounds c.args.fleet.now
+loop-made-init g c t =
+    let w = c.args.crew.now.workers in
+    making_begins (Settles t w) t w (settles_none t w) (settles_stay t w) c.args.rounds c.args.fleet.now
 
-pub returns-then-quiet-clause-on : goal.returns-then-quiet-clause-on
-returns-then-quiet-clause-on c = record {
-  settled =
-      settled_quiet c.args.rounds c.loop-made._made c.args.fleet.now c.loop-made.fleet c.loop-made-test.true
-      c.loop-made.invariant (λ t h stands. sym (c.quiet.ensures t h stands) ∙ c.if-quiet.true);
-}
+pub returns-then-quiet-clause-done : goal.returns-then-quiet-clause-done
+returns-then-quiet-clause-done g c t =
+    let w = c.args.crew.now.workers in
+    settles_line t w c.args.rounds c.args.fleet.now c.loop-made.fleet
+    (making_rests (Settles t w) t w (settles_none t w) (settles_stay t w) c.args.rounds c.loop-made._made
+    c.args.fleet.now c.loop-made.fleet (c.loop-made.invariant t)
+    (settles_rest t w c.args.rounds c.loop-made._made c.loop-made.fleet c.loop-made-test.true
+    (λ s at. sym (c.quiet.ensures t s.lines s.made at.stands) ∙ c.if-quiet.true)))
 
 pub returns-in_err-round-clause-stops : goal.returns-in_err-round-clause-stops
-returns-in_err-round-clause-stops c =
+returns-in_err-round-clause-stops g c t =
+    let w = c.args.crew.now.workers in
     passed_on c.from_residual.result _ _
-    (λ e same. settling_stops c.args.rounds c.loop-made._made c.args.fleet.now c.loop-made.fleet e c.loop-made-test.true
-    c.loop-made.invariant (λ t h stands. sym (c.quiet.ensures t h stands) ∙ c.if-quiet.false)
-    (λ n is. c.in_err-round.ensures.stops n (sym same ∙ is)))
+    (λ e same. subst (Stops t w (said.Settle c.args.rounds) c.args.fleet.now c.round.new.fleet) (sym same)
+    (settles_stops t w c.args.rounds c.args.fleet.now c.round.new.fleet c.in_err-round.field-0.0
+    (making_stops (Settles t w) t w (settles_none t w) (settles_stay t w) c.args.rounds c.loop-made._made
+    c.args.fleet.now
+    c.loop-made.fleet c.round.new.fleet c.in_err-round.field-0.0 c.loop-made-test.true (c.loop-made.invariant t)
+    (settles_step t w c.loop-made.fleet (λ s at. sym (c.quiet.ensures t s.lines s.made at.stands) ∙
+    c.if-quiet.false)) c.in_err-round.ensures)))
     c.from_residual.ensures.1
 
 pub loop-made-preserved : goal.loop-made-preserved
-loop-made-preserved c =
-    settled_next c.args.rounds c.loop-made._made c.args.fleet.now c.loop-made.fleet c.round.new.self
-    c.loop-made-test.true c.loop-made.invariant (λ t h stands. sym (c.quiet.ensures t h stands) ∙ c.if-quiet.false)
-    c.in_ok-round.ensures.on
+loop-made-preserved g c t =
+    let w = c.args.crew.now.workers in
+    making_next (Settles t w) t w (settles_none t w) (settles_stay t w) c.args.rounds c.loop-made._made
+    c.in_ok-round.field-0 c.args.fleet.now
+    c.loop-made.fleet c.round.new.fleet c.loop-made-test.true (c.loop-made.invariant t) (settles_step t w
+    c.loop-made.fleet (λ s at. sym (c.quiet.ensures t s.lines s.made at.stands) ∙ c.if-quiet.false))
+    c.in_ok-round.ensures
 
-pub returns-clause-on : goal.returns-clause-on
-returns-clause-on c = record {
-  settled =
-      settled_end c.args.rounds c.loop-made._made c.args.fleet.now c.loop-made.fleet c.loop-made-test.false
-      c.loop-made.invariant;
-}
+pub returns-clause-done : goal.returns-clause-done
+returns-clause-done g c t =
+    let w = c.args.crew.now.workers in
+    settles_line t w c.args.rounds c.args.fleet.now c.loop-made.fleet
+    (making_ends (Settles t w) t w (settles_none t w) (settles_stay t w) c.args.rounds c.loop-made._made
+    c.args.fleet.now c.loop-made.fleet
+    c.loop-made-test.false (c.loop-made.invariant t))

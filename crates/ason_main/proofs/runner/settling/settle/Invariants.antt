@@ -1,5 +1,8 @@
-use Rattle.ason_main.proofs.Settling.{IsSettling}
+use Rattle.ason_base.specs.Network.{Network}
+use Rattle.script_rules.specs.Stages.{Settles}
+use Rattle.ason_main.proofs.Rounding.{IsMaking}
 use Rattle.ason_main.proofs.runner.settling.settle.Given as goal
 
 abbrev pub invariant-loop-made : goal.invariant-loop-made
-invariant-loop-made l = IsSettling l.rounds l._made l.initial.fleet l.fleet
+invariant-loop-made g l =
+    (t : Network) → IsMaking (Settles t l.crew.workers) t l.rounds l._made l.initial.fleet l.fleet

@@ -1,26 +1,42 @@
-use Rattle.std.proofs.Common.{sym, ◌∙◌}
+use Rattle.std.proofs.Common.{sym}
 use Rattle.ason_base.proofs.Results.{passed_on}
-use Rattle.ason_main.proofs.Waiting.{waited_end, waited_next, waiting_begins, waiting_stops}
+use Rattle.script_rules.specs.Stages.{Waits}
+use Rattle.ason_main.specs.Running.{Stops}
+use Rattle.ason_main.proofs.Rounding.{making_begins, making_ends, making_next, making_stops}
+use Rattle.ason_main.proofs.Waiting.{waits_line, waits_none, waits_stay, waits_step, waits_stops}
+use Rattle.plan_reader.specs.declared.lines.Line.TheVariants as said
+use Rattle.std.proofs.Common.{subst}
 use Rattle.ason_main.proofs.runner.waiting.wait.Goals as goal
 
 pub loop-made-init : goal.loop-made-init
-loop-made-init c = waiting_begins c.args.rounds c.args.fleet.now
+loop-made-init g c t =
+    let w = c.args.crew.now.workers in
+    making_begins (Waits t w) t w (waits_none t w) (waits_stay t w) c.args.rounds c.args.fleet.now
 
 pub returns-in_err-round-clause-stops : goal.returns-in_err-round-clause-stops
-returns-in_err-round-clause-stops c =
+returns-in_err-round-clause-stops g c t =
+    let w = c.args.crew.now.workers in
     passed_on c.from_residual.result _ _
-    (λ e same. waiting_stops c.args.rounds c.loop-made._made c.args.fleet.now c.loop-made.fleet e c.loop-made-test.true
-    c.loop-made.invariant (λ n is. c.in_err-round.ensures.stops n (sym same ∙ is)))
+    (λ e same. subst (Stops t w (said.Wait c.args.rounds) c.args.fleet.now c.round.new.fleet) (sym same)
+    (waits_stops t w c.args.rounds c.args.fleet.now c.round.new.fleet c.in_err-round.field-0.0
+    (making_stops (Waits t w) t w (waits_none t w) (waits_stay t w) c.args.rounds c.loop-made._made c.args.fleet.now
+    c.loop-made.fleet c.round.new.fleet c.in_err-round.field-0.0 c.loop-made-test.true (c.loop-made.invariant t)
+    (waits_step t w c.loop-made.fleet) c.in_err-round.ensures)))
     c.from_residual.ensures.1
 
 pub loop-made-preserved : goal.loop-made-preserved
-loop-made-preserved c =
-    waited_next c.args.rounds c.loop-made._made c.args.fleet.now c.loop-made.fleet c.round.new.self
-    c.loop-made-test.true c.loop-made.invariant c.in_ok-round.ensures.on
+loop-made-preserved g c t =
+    let w = c.args.crew.now.workers in
+    making_next (Waits t w) t w (waits_none t w) (waits_stay t w) c.args.rounds c.loop-made._made
+    c.in_ok-round.field-0 c.args.fleet.now
+    c.loop-made.fleet c.round.new.fleet c.loop-made-test.true (c.loop-made.invariant t) (waits_step t w
+    c.loop-made.fleet)
+    c.in_ok-round.ensures
 
-pub returns-clause-on : goal.returns-clause-on
-returns-clause-on c = record {
-  waited =
-      waited_end c.args.rounds c.loop-made._made c.args.fleet.now c.loop-made.fleet c.loop-made-test.false
-      c.loop-made.invariant;
-}
+pub returns-clause-done : goal.returns-clause-done
+returns-clause-done g c t =
+    let w = c.args.crew.now.workers in
+    waits_line t w c.args.rounds c.args.fleet.now c.loop-made.fleet
+    (making_ends (Waits t w) t w (waits_none t w) (waits_stay t w) c.args.rounds c.loop-made._made c.args.fleet.now
+    c.loop-made.fleet
+    c.loop-made-test.false (c.loop-made.invariant t))

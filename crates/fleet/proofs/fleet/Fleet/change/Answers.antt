@@ -1,38 +1,113 @@
-use Rattle.std.proofs.Common.{◌≡◌, ◌+◌, length, sym, ap, ◌∙◌, arith}
-use Rattle.ason_base.specs.Network.{Network}
+use Rattle.std.proofs.Common.{◌≡◌, ◌≤◌, ◌∷◌, ◌++◌, [], length, map, sym, ap, ◌∙◌, subst, arith}
+use Rattle.std.specs.List.{AllByRecursion}
+use Rattle.std.specs.Vec.{with_items}
+use Rattle.std.proofs.lemmas.List.{with_items_is}
 use Rattle.mesh_rules.specs.Failures.{failed_after}
+use Rattle.station_doings.specs.States.{StationState}
+use Rattle.fleet.specs.Commands.{but_room}
+use Rattle.fleet.specs.Posting.{HaveRoom, news_for}
 use Rattle.fleet.specs.Standing.{FleetState}
-use Rattle.fleet.proofs.Changing.{has-changed, roomed-stands}
+use Rattle.fleet.proofs.Kept.{items-links, seats-back, seats-count, seats-roomed}
+use Rattle.fleet.proofs.Taking.{room-clocks, stamp-above, take-roomed, take-same}
 use Rattle.fleet.proofs.fleet.Fleet.change.Goals as goal
 
-pub tell_all-requires : goal.tell_all-requires
-tell_all-requires c = λ place s below at.
-    omega (
+pub invariant_of-self : goal.invariant_of-self
+invariant_of-self c =
+    seats-roomed c.self.inside.seats.items c.self.inside.stations.items c.deref_mut.result.now c.make_room.new.stations
+    (with_items c.self.inside.stations c.make_room.new.stations).items c.self.invariant c.deref_mut.ensures.value
+    c.make_room.ensures.same (with_items_is c.self.inside.stations c.make_room.new.stations
+    (omega (arith, c.make_room.auto.stations, c.deref_mut.ensures.len)))
+
+pub invariant_of-self-in_err-push : goal.invariant_of-self-in_err-push
+invariant_of-self-in_err-push c =
+    seats-roomed c.self.inside.seats.items c.self.inside.stations.items c.deref_mut.result.now c.make_room.new.stations
+    (with_items c.self.inside.stations c.make_room.new.stations).items c.self.invariant c.deref_mut.ensures.value
+    c.make_room.ensures.same (with_items_is c.self.inside.stations c.make_room.new.stations
+    (omega (arith, c.make_room.auto.stations, c.deref_mut.ensures.len)))
+
+pub take_news-requires : goal.take_news-requires
+take_news-requires c =
+    let mid = c.make_room.new.stations in
+    let is : c.deref_mut-2.result.now ≡ mid =
+    c.deref_mut-2.ensures.value
+    ∙ with_items_is c.self.inside.stations mid (omega (arith, c.make_room.auto.stations, c.deref_mut.ensures.len)) in
+    record {
+      count = omega (
+        arith,
+        ap length is,
+        c.make_room.auto.stations,
+        c.deref_mut.ensures.len,
+        c.self.inside.stations.ok.0,
+        seats-count c.self.inside.seats.items c.self.inside.stations.items c.self.invariant,
+        ap length c.deref-2.ensures.value,
+      );
+      room =
+          subst (λ k. HaveRoom k c.deref_mut-2.result.now) (ap length c.links.ensures.list)
+          (subst (HaveRoom (length c.links.result.now)) (sym is) c.in_ok-make_room.ensures.room);
+      clocks =
+          subst (AllByRecursion (λ (s : StationState). s.clock ≤ c.args.stamp)) (sym is)
+          (room-clocks c.args.stamp c.deref_mut.result.now mid c.make_room.ensures.same
+          (stamp-above c.args.stamp c.deref_mut.result.now c.args.self.now.stations
+          (c.deref_mut.ensures.value ∙ ap (λ (f : FleetState). f.stations) c.self.view_is) c.requires));
+    }
+
+pub invariant_of-self-2 : goal.invariant_of-self-2
+invariant_of-self-2 c =
+    let mid = c.make_room.new.stations in
+    let vec = with_items c.self.inside.stations mid in
+    let new = c.take_news.new.stations in
+    let is : vec.items ≡ mid =
+    with_items_is c.self.inside.stations mid (omega (arith, c.make_room.auto.stations, c.deref_mut.ensures.len)) in
+    let lent : c.deref_mut-2.result.now ≡ mid = c.deref_mut-2.ensures.value ∙ is in
+    seats-back c.self.inside.seats.items vec.items c.deref_mut-2.result.now new (with_items vec new).items
+    (seats-roomed c.self.inside.seats.items c.self.inside.stations.items c.deref_mut.result.now mid vec.items
+    c.self.invariant c.deref_mut.ensures.value c.make_room.ensures.same is)
+    c.deref_mut-2.ensures.value
+    (items-links (news_for c.self.inside.network c.deref-3.result.now c.deref-4.result.now) c.args.stamp
+    c.deref-2.result.now c.deref_mut-2.result.now new (omega (
       arith,
-      c.in_ok-make_room.ensures.room place s below at,
-      ap length c.links-links.ensures.list,
-      ap (λ (x : FleetState). length x.network.links) c.self.view_is,
-      ap (λ (t : Network). length t.links) c.make_room.ensures.same.rest.network,
-    )
+      ap length lent,
+      c.make_room.auto.stations,
+      c.deref_mut.ensures.len,
+      c.self.inside.stations.ok.0,
+      seats-count c.self.inside.seats.items c.self.inside.stations.items c.self.invariant,
+      ap length c.deref-2.ensures.value,
+    )) c.take_news.ensures)
+    (with_items_is vec new (omega (arith, c.take_news.auto.stations, c.deref_mut-2.ensures.len)))
 
 pub returns-clause-on : goal.returns-clause-on
-returns-clause-on c = λ t h s.
-    let command = c.args.command.now in
-    let mid = c.make_room.new.self in
-    let groups = c.deref-2.result.now in
-    let which : groups ≡ failed_after command mid.failed =
-    c.deref-2.ensures.value ∙ c.in_ok-failed.ensures
-    ∙ ap (failed_after command) c.deref.ensures.value
-    ∙ ap (λ (x : FleetState). failed_after command x.failed) c.self.view_is
-    ∙ ap (failed_after command) (sym c.make_room.ensures.same.rest.failed) in
+returns-clause-on c =
+    let f = c.args.self.now in
+    let mid = c.make_room.new.stations in
+    let vec = with_items c.self.inside.stations mid in
+    let new = c.take_news.new.stations in
+    let is : vec.items ≡ mid =
+    with_items_is c.self.inside.stations mid (omega (arith, c.make_room.auto.stations, c.deref_mut.ensures.len)) in
+    let before : c.deref-3.result.now ≡ f.failed =
+    c.deref-3.ensures.value ∙ ap (λ (x : FleetState). x.failed) c.self.view_is in
+    let groups : c.in_ok-failed.failed.items ≡ failed_after c.args.command.now f.failed =
+    c.in_ok-failed.ensures ∙ ap (failed_after c.args.command.now) (c.deref.ensures.value
+    ∙ ap (λ (x : FleetState). x.failed) c.self.view_is) in
+    let network = ap (λ (x : FleetState). x.network) c.self.view_is in
+    let after = c.deref-4.ensures.value ∙ groups in
     record {
-      roomed = mid;
-      stands = roomed-stands t h c.args.self.now mid c.make_room.ensures.same s;
-      changed = has-changed t h command groups mid c.tell_all.new.self _ (roomed-stands t h c.args.self.now mid c.make_room.ensures.same s)
-          c.tell_all.ensures which
-          (ap (λ (x : FleetState). x.stations) c.self-2.view_is)
-          (ap (λ (x : FleetState). x.seats) c.self-2.view_is)
-          (ap (λ (x : FleetState). x.posts + 1) c.self-2.view_is)
-          (ap (λ (x : FleetState). x.network) c.self-2.view_is)
-          (sym c.deref-2.ensures.value);
+      stations =
+          take-roomed (news_for f.network f.failed (failed_after c.args.command.now f.failed)) c.args.stamp f.seats
+          f.stations mid (with_items vec new).items
+          (c.make_room.ensures.same ∙ ap (map but_room) (c.deref_mut.ensures.value
+          ∙ ap (λ (x : FleetState). x.stations) c.self.view_is))
+          (take-same (news_for c.self.inside.network c.deref-3.result.now c.deref-4.result.now)
+          (news_for f.network f.failed (failed_after c.args.command.now f.failed)) c.args.stamp c.deref-2.result.now
+          f.seats c.deref_mut-2.result.now mid new (with_items vec new).items
+          (λ i. news_for (network i) (before i) (after i))
+          (c.deref-2.ensures.value ∙ ap (λ (x : FleetState). x.seats) c.self.view_is)
+          (c.deref_mut-2.ensures.value ∙ is)
+          (sym (with_items_is vec new (omega (arith, c.take_news.auto.stations, c.deref_mut-2.ensures.len))))
+          c.take_news.ensures);
+      seats = ap (λ (x : FleetState). x.seats) c.self.view_is;
+      posts =
+          c.in_ok-push.ensures.items ∙ (λ i. (ap (λ (x : FleetState). x.posts) c.self.view_is i)
+          ++ c.in_ok-line.ensures i ∷ []);
+      network = network;
+      failed = groups;
     }

@@ -1,31 +1,114 @@
-use Rattle.std.proofs.Common.{◌≡◌, ◌<◌, length, sym, subst}
-use Rattle.fleet.specs.Posts.{is_seat}
+use Rattle.std.proofs.Common.{◌≡◌, ◌≤◌, ◌∷◌, ◌++◌, [], length, map, sym, ap, ◌∙◌, subst, arith}
+use Rattle.std.specs.Prelude.{position}
+use Rattle.std.specs.List.{AllByRecursion}
+use Rattle.std.specs.Vec.{with_items}
+use Rattle.std.proofs.lemmas.List.{with_items_is}
+use Rattle.ason_base.specs.declared.commands.Command.{Command}
+use Rattle.ason_base.specs.declared.commands.DeskItem.TheVariants.{Order}
+use Rattle.station_doings.specs.States.{StationState}
+use Rattle.fleet.specs.Commands.{but_room, is_seat}
+use Rattle.fleet.specs.Posting.{HaveRoom, TakesOrder, order_for}
 use Rattle.fleet.specs.Standing.{FleetState}
-use Rattle.ason_base.proofs.Results.{on_ok}
-use Rattle.station.proofs.Linking.{IsPlaced}
-use Rattle.fleet.proofs.Finding.{placed-at, seat-found, seat-lost}
-use Rattle.fleet.proofs.Places.{within}
+use Rattle.fleet.proofs.Finding.{IsFirst, first-at, seat-lost}
+use Rattle.fleet.proofs.Kept.{order-links, seats-back, seats-count, seats-roomed}
+use Rattle.fleet.proofs.Posted.{groups-left}
+use Rattle.fleet.proofs.Taking.{order-takes, room-clocks, stamp-above, take-roomed, within-at}
 use Rattle.fleet.proofs.fleet.Fleet.order.Goals as goal
 
-pub order_at-requires-clause-within : goal.order_at-requires-clause-within
-order_at-requires-clause-within c =
-    let f = c.args.self.now in
-    let at : IsPlaced (is_seat c.args.node) (λ x. x) f.seats c.in-Some.place =
-    placed-at (is_seat c.args.node) f.seats c.in-Some.place (sym c.in-Some.ensures) in
-    let same : length f.stations ≡ length f.seats =
-    subst (λ (x : FleetState). length x.stations ≡ length x.seats) c.self.view_is c.self.invariant.count in
-    subst (λ k. c.in-Some.place < k) (sym same) (within f.seats c.in-Some.place at.item at.there)
+pub invariant_of-self : goal.invariant_of-self
+invariant_of-self c =
+    seats-roomed c.self.inside.seats.items c.self.inside.stations.items c.deref_mut.result.now c.make_room.new.stations
+    (with_items c.self.inside.stations c.make_room.new.stations).items c.self.invariant c.deref_mut.ensures.value
+    c.make_room.ensures.same (with_items_is c.self.inside.stations c.make_room.new.stations
+    (omega (arith, c.make_room.auto.stations, c.deref_mut.ensures.len)))
+
+pub invariant_of-self-in_err-push-in-Some : goal.invariant_of-self-in_err-push-in-Some
+invariant_of-self-in_err-push-in-Some c =
+    seats-roomed c.self.inside.seats.items c.self.inside.stations.items c.deref_mut.result.now c.make_room.new.stations
+    (with_items c.self.inside.stations c.make_room.new.stations).items c.self.invariant c.deref_mut.ensures.value
+    c.make_room.ensures.same (with_items_is c.self.inside.stations c.make_room.new.stations
+    (omega (arith, c.make_room.auto.stations, c.deref_mut.ensures.len)))
+
+pub take_order-requires : goal.take_order-requires
+take_order-requires c =
+    let mid = c.make_room.new.stations in
+    let is : c.deref_mut-in-Some.result.now ≡ mid =
+    c.deref_mut-in-Some.ensures.value
+    ∙ with_items_is c.self.inside.stations mid (omega (arith, c.make_room.auto.stations, c.deref_mut.ensures.len)) in
+    let first : IsFirst (is_seat c.args.ingress) c.deref.result.now c.in-Some.place =
+    first-at (is_seat c.args.ingress) c.deref.result.now c.in-Some.place (sym c.in-Some.ensures) in
+    record {
+      within = omega (
+        arith,
+        ap length is,
+        c.make_room.auto.stations,
+        c.deref_mut.ensures.len,
+        c.self.inside.stations.ok.0,
+        seats-count c.self.inside.seats.items c.self.inside.stations.items c.self.invariant,
+        ap length c.deref.ensures.value,
+        within-at c.deref.result.now c.in-Some.place first.item first.there,
+      );
+      room = subst (HaveRoom 1) (sym is) c.in_ok-make_room-in-Some.ensures.room;
+      clocks =
+          subst (AllByRecursion (λ (s : StationState). s.clock ≤ c.args.stamp)) (sym is)
+          (room-clocks c.args.stamp c.deref_mut.result.now mid c.make_room.ensures.same
+          (stamp-above c.args.stamp c.deref_mut.result.now c.args.self.now.stations
+          (c.deref_mut.ensures.value ∙ ap (λ (f : FleetState). f.stations) c.self.view_is) c.requires.stamp));
+    }
+
+pub invariant_of-self-in-Some : goal.invariant_of-self-in-Some
+invariant_of-self-in-Some c =
+    let mid = c.make_room.new.stations in
+    let vec = with_items c.self.inside.stations mid in
+    let new = c.take_order.new.stations in
+    let is : vec.items ≡ mid =
+    with_items_is c.self.inside.stations mid (omega (arith, c.make_room.auto.stations, c.deref_mut.ensures.len)) in
+    seats-back c.self.inside.seats.items vec.items c.deref_mut-in-Some.result.now new (with_items vec new).items
+    (seats-roomed c.self.inside.seats.items c.self.inside.stations.items c.deref_mut.result.now mid vec.items
+    c.self.invariant c.deref_mut.ensures.value c.make_room.ensures.same is)
+    c.deref_mut-in-Some.ensures.value
+    (order-links c.in-Some.place (Order c.in_ok-copy-in-Some.field-0) c.args.stamp c.deref_mut-in-Some.result.now new
+    c.take_order.ensures)
+    (with_items_is vec new (omega (arith, c.take_order.auto.stations, c.deref_mut-in-Some.ensures.len)))
 
 pub returns-in-None-clause-on : goal.returns-in-None-clause-on
-returns-in-None-clause-on c t h s known =
-    absurd (seat-lost t c.args.self.now.seats c.args.node s.seats (sym c.in-None.ensures) known)
+returns-in-None-clause-on c t valid are known =
+    absurd (seat-lost t c.args.self.now.seats c.args.ingress are
+    (ap (position (is_seat c.args.ingress)) (sym (ap (λ (f : FleetState). f.seats) c.self.view_is)
+    ∙ sym c.deref.ensures.value) ∙ sym c.in-None.ensures) known)
 
-pub returns-in-Some-clause-on : goal.returns-in-Some-clause-on
-returns-in-Some-clause-on c =
-    on_ok c.order_at.result _ _
-    (λ done t h s known. record {
-      place = c.in-Some.place;
-      node = seat-found t c.args.self.now.seats c.args.node c.in-Some.place s.seats (sym c.in-Some.ensures);
-      order = done;
-    })
-    c.order_at.ensures.on
+pub returns-in_ok-push-in-Some-clause-on : goal.returns-in_ok-push-in-Some-clause-on
+returns-in_ok-push-in-Some-clause-on c t valid are known =
+    let f = c.args.self.now in
+    let n = c.args.ingress in
+    let command = c.args.command.now in
+    let place = c.in-Some.place in
+    let mid = c.make_room.new.stations in
+    let vec = with_items c.self.inside.stations mid in
+    let new = c.take_order.new.stations in
+    let is : c.deref_mut-in-Some.result.now ≡ mid =
+    c.deref_mut-in-Some.ensures.value
+    ∙ with_items_is c.self.inside.stations mid (omega (arith, c.make_room.auto.stations, c.deref_mut.ensures.len)) in
+    let last : (with_items vec new).items ≡ new =
+    with_items_is vec new (omega (arith, c.take_order.auto.stations, c.deref_mut-in-Some.ensures.len)) in
+    let seats : c.deref.result.now ≡ f.seats =
+    c.deref.ensures.value ∙ ap (λ (x : FleetState). x.seats) c.self.view_is in
+    let first : IsFirst (is_seat n) f.seats place =
+    first-at (is_seat n) f.seats place (ap (position (is_seat n)) (sym seats) ∙ sym c.in-Some.ensures) in
+    let take : TakesOrder place (Order command) c.args.stamp mid new =
+    subst (λ (k : Command). TakesOrder place (Order k) c.args.stamp mid new) c.in_ok-copy-in-Some.ensures
+    (subst (λ xs. TakesOrder place (Order c.in_ok-copy-in-Some.field-0) c.args.stamp xs new) is c.take_order.ensures) in
+    record {
+      stations =
+          take-roomed (order_for n command) c.args.stamp f.seats f.stations mid (with_items vec new).items
+          (c.make_room.ensures.same ∙ ap (map but_room) (c.deref_mut.ensures.value
+          ∙ ap (λ (x : FleetState). x.stations) c.self.view_is))
+          (order-takes t valid f.seats are n command c.args.stamp place first.item first.there first.passes mid take.put
+          (with_items vec new).items take.is_put (last ∙ take.clocks));
+      seats = ap (λ (x : FleetState). x.seats) c.self.view_is;
+      posts =
+          c.in_ok-push-in-Some.ensures.items ∙ (λ i. (ap (λ (x : FleetState). x.posts) c.self.view_is i)
+          ++ c.in_ok-line-in-Some.ensures i ∷ []);
+      network = ap (λ (x : FleetState). x.network) c.self.view_is;
+      failed = ap (λ (x : FleetState). x.failed) c.self.view_is ∙ sym (groups-left command n f.failed c.requires.call);
+    }

@@ -6,7 +6,7 @@ use Rattle.fleet.proofs.Sums.{quiet-stands}
 use Rattle.fleet.proofs.fleet.Fleet.quiet.Goals as goal
 
 pub returns : goal.returns
-returns c t h s =
+returns c t lines r s =
     c.are_quiet.ensures
     ∙ ap (list_all has_nothing) (c.deref.ensures.value ∙ ap (λ (x : FleetState). x.stations) c.self.view_is)
-    ∙ quiet-stands t h c.args.self.now s
+    ∙ quiet-stands t lines c.args.self.now r s

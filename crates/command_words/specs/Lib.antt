@@ -1,0 +1,4 @@
+pub mod Given
+pub mod Options
+pub mod Paces
+pub mod Tasks

@@ -1,0 +1,172 @@
+-- Where links and seats stay a fleet stays connected, and with more room on desks it stands for the same records.
+use Rattle.std.proofs.Common.{◌≡◌, ◌≤◌, ◌<◌, ◌^◌, ℕ, zero, suc, List, [], ◌∷◌, ◌++◌, length, map, refl, sym, ap, ◌∙◌}
+use Rattle.std.proofs.Common.{subst}
+use Rattle.std.specs.Prelude.{Some, slice_get, slice_set}
+use Rattle.std.specs.List.{AllZip}
+use Rattle.std.proofs.lemmas.List.{length-map}
+use Rattle.ason_base.specs.declared.ids.NodeId.{NodeId}
+use Rattle.ason_base.specs.declared.commands.DeskItem.{DeskItem}
+use Rattle.ason_base.specs.declared.commands.Disturb.{Disturb}
+use Rattle.ason_base.specs.Network.{Network}
+use Rattle.station_rings.specs.LinkStates.{LinkState}
+use Rattle.round_rules.specs.OneWorker.{ids_of}
+use Rattle.round_rules.specs.Records.{Record}
+use Rattle.station_doings.specs.States.{StationState}
+use Rattle.fleet_rounds.specs.Fleets.{IsStationAt, Wires}
+use Rattle.fleet_rounds.specs.Looks.{HasLinks}
+use Rattle.fleet.specs.declared.seats.Seat.{Seat}
+use Rattle.fleet.specs.Commands.{IsAsBefore, StandsOn, but_room}
+use Rattle.fleet.specs.Connections.{HaveSeats}
+use Rattle.fleet.specs.Noises.{HasLine}
+use Rattle.fleet.specs.Posting.{TakeItems, TakesOrder, with_clock}
+use Rattle.fleet.specs.Standing.{AreSeats, FleetState}
+use Rattle.fleet.proofs.Places.{zip-length}
+use Rattle.fleet.proofs.Taking.{same-places, there-at, within-at}
+
+abbrev pub links_of : StationState → List LinkState
+links_of s = s.links
+
+zip_links : (t : Network) (w : Wires) (ns : List NodeId) (xs ys : List StationState) →
+    map links_of ys ≡ map links_of xs → AllZip (HasLinks t w) ns xs → AllZip (HasLinks t w) ns ys
+zip_links t w [] [] [] same all = tt
+zip_links t w [] [] (y ∷ ys) same all = absurd (cc (same))
+zip_links t w [] (x ∷ xs) ys same all = absurd all
+zip_links t w (n ∷ ns) [] ys same all = absurd all
+zip_links t w (n ∷ ns) (x ∷ xs) [] same all = absurd (cc (same))
+zip_links t w (n ∷ ns) (x ∷ xs) (y ∷ ys) same all =
+    let first : y.links ≡ x.links = cc (same) in
+    let rest : map links_of ys ≡ map links_of xs = cc (same) in
+    (first ∙ all.0, zip_links t w ns xs ys rest all.1)
+
+-- seats and stations stay connected where each link is as it was
+pub seats-kept : (seats : List Seat) (xs ys : List StationState) → HaveSeats seats xs →
+    map links_of ys ≡ map links_of xs → HaveSeats seats ys
+seats-kept seats xs ys are same = (
+  are.0,
+  record {
+    valid = are.1.valid;
+    seated = are.1.seated;
+    wires = are.1.wires;
+    wired = record {
+      links = zip_links are.0 are.1.wires (ids_of are.0) xs ys same are.1.wired.links;
+      rings = are.1.wired.rings;
+    };
+  },
+)
+
+-- a seat for each station
+pub seats-count : (seats : List Seat) (xs : List StationState) → HaveSeats seats xs → length xs ≡ length seats
+seats-count seats xs are =
+    zip-length (HasLinks are.0 are.1.wires) (ids_of are.0) xs are.1.wired.links
+    ∙ ap length (sym are.1.seated.ids) ∙ length-map seats (λ (s : Seat). s.id)
+
+map_map : {X Y Z : Type 0} (f : X → Y) (g : Y → Z) (xs : List X) → map g (map f xs) ≡ map (λ x. g (f x)) xs
+map_map f g [] = refl
+map_map f g (x ∷ xs) = ap (λ zs. g (f x) ∷ zs) (map_map f g xs)
+
+-- more room changes no link
+pub room-links : (xs ys : List StationState) → map but_room ys ≡ map but_room xs → map links_of ys ≡ map links_of xs
+room-links xs ys same = sym (map_map but_room links_of ys) ∙ ap (map links_of) same ∙ map_map but_room links_of xs
+
+-- nor do items on desks
+pub items-links : (items : NodeId → List DeskItem) (stamp : ℕ) (seats : List Seat) (xs ys : List StationState) →
+    length xs ≡ length seats → TakeItems items stamp seats xs ys → map links_of ys ≡ map links_of xs
+items-links items stamp seats xs ys count take =
+    same-places links_of xs ys take.count (λ place x y was is.
+    (let n = there-at seats place (subst (λ k. place < k) count (within-at xs place x was)) in
+    ap links_of (take.each place n.0 x y n.1 was is).station))
+
+-- stations that were lent, and came back with more room
+pub seats-roomed : (seats : List Seat) (xs lent mid now : List StationState) → HaveSeats seats xs → lent ≡ xs →
+    map but_room mid ≡ map but_room lent → now ≡ mid → HaveSeats seats now
+seats-roomed seats xs lent mid now are was same is =
+    subst (HaveSeats seats) (sym is)
+    (seats-kept seats lent mid (subst (HaveSeats seats) (sym was) are) (room-links lent mid same))
+
+-- and came back with the same links
+pub seats-back : (seats : List Seat) (xs lent mid now : List StationState) → HaveSeats seats xs → lent ≡ xs →
+    map links_of mid ≡ map links_of lent → now ≡ mid → HaveSeats seats now
+seats-back seats xs lent mid now are was same is =
+    subst (HaveSeats seats) (sym is) (seats-kept seats lent mid (subst (HaveSeats seats) (sym was) are) same)
+
+-- where one station is another with the same links
+pub set-links : (xs : List StationState) (place : ℕ) (x y : StationState) → slice_get xs place ≡ Some x →
+    y.links ≡ x.links → map links_of (slice_set xs place y) ≡ map links_of xs
+set-links [] place x y at same = refl
+set-links (z ∷ xs) zero x y at same =
+    let here : z ≡ x = cc (at) in ap (λ ls. ls ∷ map links_of xs) (same ∙ ap links_of (sym here))
+set-links (z ∷ xs) (suc place) x y at same = ap (λ ls. z.links ∷ ls) (set-links xs place x y at same)
+
+-- one that is as it was
+pub set-same : (xs : List StationState) (place : ℕ) (x y : StationState) → slice_get xs place ≡ Some x → y ≡ x →
+    slice_set xs place y ≡ xs
+set-same [] place x y at same = refl
+set-same (z ∷ xs) zero x y at same =
+    let here : z ≡ x = cc (at) in ap (λ (k : StationState). k ∷ xs) (same ∙ sym here)
+set-same (z ∷ xs) (suc place) x y at same = ap (λ ks. z ∷ ks) (set-same xs place x y at same)
+
+-- one station has an item more
+pub order-links : (place : ℕ) (item : DeskItem) (stamp : ℕ) (xs ys : List StationState) →
+    TakesOrder place item stamp xs ys → map links_of ys ≡ map links_of xs
+order-links place item stamp xs ys take =
+    ap (map links_of) take.clocks ∙ map_map (with_clock stamp) links_of take.put
+    ∙ ap (map links_of) take.is_put.stations
+    ∙ set-links xs place take.is_put.before take.is_put.after take.is_put.there (ap links_of take.is_put.told.station)
+
+-- or a line
+pub line-links : (d : Disturb) (place : ℕ) (xs ys : List StationState) → HasLine d place xs ys →
+    map links_of ys ≡ map links_of xs
+line-links d place xs ys has =
+    ap (map links_of) has.stations
+    ∙ set-links xs place has.before (record has.before { lines = has.before.lines ++ d ∷ [] }) has.there refl
+
+-- Room
+
+roomed : (t : Network) (lines : List Disturb) (r : Record) (w : Wires) (n : NodeId) (x y : StationState) →
+    but_room y ≡ but_room x → IsStationAt t lines r w n x → IsStationAt t lines r w n y
+roomed t lines r w n x y same is =
+    back (subst (IsStationAt t lines r w n) (sym same) (record {
+      station = record { stands = is.station.stands; taken = is.station.taken };
+      links = is.links;
+      told = is.told;
+    }))
+  where
+    back : IsStationAt t lines r w n (but_room y) → IsStationAt t lines r w n y
+    back k = record {
+      station = record { stands = k.station.stands; taken = k.station.taken };
+      links = k.links;
+      told = k.told;
+    }
+
+zip_roomed : (t : Network) (lines : List Disturb) (r : Record) (w : Wires) (ns : List NodeId)
+    (xs ys : List StationState) → map but_room ys ≡ map but_room xs → AllZip (IsStationAt t lines r w) ns xs →
+    AllZip (IsStationAt t lines r w) ns ys
+zip_roomed t lines r w [] [] [] same all = tt
+zip_roomed t lines r w [] [] (y ∷ ys) same all = absurd (cc (same))
+zip_roomed t lines r w [] (x ∷ xs) ys same all = absurd all
+zip_roomed t lines r w (n ∷ ns) [] ys same all = absurd all
+zip_roomed t lines r w (n ∷ ns) (x ∷ xs) [] same all = absurd (cc (same))
+zip_roomed t lines r w (n ∷ ns) (x ∷ xs) (y ∷ ys) same all =
+    let first : but_room y ≡ but_room x = cc (same) in
+    let rest : map but_room ys ≡ map but_room xs = cc (same) in
+    (roomed t lines r w n x y first all.0, zip_roomed t lines r w ns xs ys rest all.1)
+
+-- With more room on desks a fleet stands for the same records.
+pub room-stands : (old new : FleetState) → IsAsBefore old new → StandsOn old new
+room-stands old new same t lines r s = record {
+  seats = subst (AreSeats t) (sym same.seats) s.seats;
+  wires = s.wires;
+  stations = record {
+    valid = s.stations.valid;
+    each = zip_roomed t lines r s.wires (ids_of t) old.stations new.stations same.stations s.stations.each;
+    rings = s.stations.rings;
+    nowhere = s.stations.nowhere;
+    posts = s.stations.posts;
+  };
+  begun = s.begun;
+  posts = same.rest.posts ∙ s.posts;
+  follow = s.follow;
+  few = subst (λ ps. length ps ≤ 2 ^ 32) (sym same.rest.posts) s.few;
+  network = same.rest.network ∙ s.network;
+  failed = same.rest.failed ∙ s.failed;
+}

@@ -1,0 +1,15 @@
+use Rattle.std.proofs.Common.{get_or, ap}
+use Rattle.ason_base.proofs.Results.{on_ok}
+use Rattle.fleet.proofs.Pairs.{joined-pair}
+use Rattle.fleet.proofs.joining.join.Goals as goal
+
+pub returns : goal.returns
+returns c =
+    let split = c.split_at_mut-before in
+    let a = get_or split.result.0.now c.args.low c.index-before-low.result in
+    let b = get_or split.result.1.now 0 c.index-after-0.result in
+    on_ok c.connect.result _ _ (λ connected.
+    joined-pair c.args.stations.now split.result.0.now split.result.1.now c.args.low c.args.high a b c.connect.new.a
+    c.connect.new.b c.requires.order c.requires.may split.ensures.front split.ensures.back
+    (ap (get_or split.result.0.now c.args.low) c.index-before-low.is)
+    (ap (get_or split.result.1.now 0) c.index-after-0.is) connected) c.connect.ensures.ok

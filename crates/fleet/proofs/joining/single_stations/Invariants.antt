@@ -1,0 +1,9 @@
+use Rattle.std.proofs.Common.{◌≡◌, length}
+use Rattle.fleet.proofs.JoinStart.{AreSingle}
+use Rattle.fleet.proofs.joining.single_stations.Given as goal
+
+abbrev pub invariant-loop-node : goal.invariant-loop-node
+invariant-loop-node l = record {
+  count : length l.stations.items ≡ l.node-index;
+  each : AreSingle l.t l.stations.items;
+}

@@ -1,0 +1,11 @@
+use Rattle.std.proofs.Common.{◌≤◌}
+use Rattle.fleet.specs.Connections.{HaveSeats}
+use Rattle.fleet.specs.Looks.{IsNodeBefore, LooksOver}
+use Rattle.fleet.proofs.looks.look_all.Given as goal
+
+abbrev pub invariant-loop-place : goal.invariant-loop-place
+invariant-loop-place l = record {
+  within : l.place ≤ l.place-end;
+  seats : HaveSeats l.seats l.stations;
+  looks : LooksOver l.seats (IsNodeBefore l.place) l.initial.stations l.stations;
+}

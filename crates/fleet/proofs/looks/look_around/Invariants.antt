@@ -1,0 +1,11 @@
+use Rattle.std.proofs.Common.{◌≤◌}
+use Rattle.fleet.specs.Connections.{HaveSeats}
+use Rattle.fleet.specs.Looks.{IsLinkBefore, LooksOver}
+use Rattle.fleet.proofs.looks.look_around.Given as goal
+
+abbrev pub invariant-loop-link : goal.invariant-loop-link
+invariant-loop-link l = record {
+  within : l.link ≤ l.link-end;
+  seats : HaveSeats l.seats l.stations;
+  looks : LooksOver l.seats (IsLinkBefore l.place l.link) l.initial.stations l.stations;
+}

@@ -1,0 +1,11 @@
+use Rattle.std.proofs.Common.{◌≤◌}
+use Rattle.fleet.specs.Connections.{HaveSeats}
+use Rattle.fleet.proofs.OneWorker.{AreUnder}
+use Rattle.fleet.proofs.rounds.round_in_order.Given as goal
+
+abbrev pub invariant-loop-place : goal.invariant-loop-place
+invariant-loop-place g l = record {
+  within : l.place ≤ l.place-end;
+  seats : HaveSeats l.seats l.stations;
+  under : AreUnder l.seats l.initial.stations l.place l.stations;
+}

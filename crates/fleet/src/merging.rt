@@ -1,0 +1,86 @@
+//! The logs and the posts in one order.
+
+ghost use Rattle.std.specs.Prelude.{◌≡◌, ◌≤◌, ◌+◌, ◌*◌, ◌∷◌, IfOk, List, length, map, sum_by};
+ghost use Rattle.ason_base.specs.declared.commands.Disturb.{Disturb};
+ghost use Rattle.ason_base.specs.Network.{Network};
+ghost use Rattle.log_merge.specs.Lines.{line_of, lines_left, lists_of};
+ghost use Rattle.round_rules.specs.Records.{Record, posts_in};
+ghost use Rattle.fleet.specs.Rounds.{Merges, lines_of};
+ghost use Rattle.fleet.specs.Standing.{StandsFor};
+
+use crate::fleet::Fleet;
+use ason_base::{Copied, Entry, EntryRef, OutOfMemory};
+use log_merge::{Merging, every_merging};
+use station::Station;
+use std::alloc::Global;
+
+// The posts, and the log of each station.
+fn lists_of<'a>(
+    alloc: Global,
+    posts: &'a [Entry],
+    stations: &'a [Station],
+) -> Result<Vec<&'a [Entry]>, OutOfMemory>
+    ensures { IfOk result (λ v. lists_of v.items ≡ posts.now ∷ map (λ s. s.log) stations.now) }
+{
+    let mut lists = Vec::new(alloc);
+    lists.push(posts)?;
+    for station in stations {
+        lists.push(station.log())?;
+    }
+    Ok(lists)
+}
+
+// How many lines all logs have.
+fn log_lines(stations: &[Station]) -> u64
+    requires { length stations.now ≤ 64 }
+    ensures lines { result ≡ sum_by (λ s. length s.log) stations.now }
+    ensures few { result ≤ 50000 * 64 }
+{
+    let mut lines = 0;
+    for station in stations {
+        lines += station.made();
+    }
+    lines
+}
+
+// The line with an event of its own.
+fn owned(alloc: Global, line: EntryRef) -> Result<Entry, OutOfMemory>
+    ensures { IfOk result (λ e. e ≡ line_of line.entry) }
+{
+    let event = line.event.copy(alloc)?;
+    Ok(Entry {
+        stamp: line.stamp,
+        node: line.node,
+        event,
+    })
+}
+
+impl Fleet {
+    /// The lines of all logs and the posts in one order, one at a time: by stamp, then node, a post first.
+    pub fn entries(&self, alloc: Global) -> Result<Merging<'_>, OutOfMemory>
+        ensures { IfOk result (λ m. Merges self.now (lines_left m)) }
+    {
+        every_merging();
+        let lists = lists_of(alloc, &self.posts, &self.stations)?;
+        Ok(Merging::new(lists))
+    }
+
+    /// The same as a list.
+    pub fn merged(&self, alloc: Global) -> Result<Vec<Entry>, OutOfMemory>
+        ensures { IfOk result (λ v. Merges self.now v.items) }
+    {
+        let mut all = Vec::new(alloc);
+        for line in self.entries(alloc)? {
+            all.push(owned(alloc, line)?)?;
+        }
+        Ok(all)
+    }
+
+    /// How many lines and posts that are.
+    pub fn entry_count(&self) -> u64
+        ensures { (t : Network) (lines : List Disturb) (r : Record) → StandsFor t lines self.now r →
+            result ≡ lines_of t r + length (posts_in r) }
+    {
+        log_lines(&self.stations) + self.posts.len() as u64
+    }
+}

@@ -1,0 +1,100 @@
+//! Lines that name a frame, bytes that spell nothing, and full logs.
+
+ghost use Rattle.std.specs.Prelude.{◌≡◌, ◌==◌, ◌≤◌, ◌<◌, ◌*◌, ◌^◌, IfSome, OnErr, OnOk, false, length, true};
+ghost use Rattle.flood.specs.Frames.{SpellsNothing};
+ghost use Rattle.world_rules.specs.Runs.{is_channel};
+ghost use Rattle.fleet.specs.Commands.{Disturbs, Noises, is_full};
+ghost use Rattle.fleet.specs.Noises.{HasLine, Hears, sent_on};
+
+use crate::fleet::Fleet;
+use crate::posts::place_of;
+use crate::seats::Seat;
+use ason_base::{Disturb, NodeId, OutOfMemory};
+use station::Station;
+
+/// How many lines a log has at most.
+const MOST_LINES: u64 = 50_000;
+
+// How many frames were sent on a channel, if it is one of these stations.
+fn sent_on(seats: &[Seat], stations: &[Station], from: NodeId, to: NodeId) -> Option<u64>
+    requires { length stations.now ≡ length seats.now }
+    ensures sent { result ≡ sent_on seats.now stations.now from to }
+    ensures few { IfSome result (λ k. k ≤ 50000 * 2 ^ 40) }
+{
+    let place = place_of(seats, from)?;
+    let station = &stations[place];
+    let link = station.link_to(to)?;
+    Some(station.sent_to(link))
+}
+
+// The line goes to the station at this place.
+fn put_line(stations: &mut [Station], place: usize, line: Disturb) -> Result<(), OutOfMemory>
+    requires { place < length stations.old }
+    ensures ok { OnOk result (HasLine line place stations.old stations.new) }
+    ensures err { OnErr result (stations.new ≡ stations.old) }
+{
+    stations[place].disturb(line)
+}
+
+// Bytes that spell nothing come to the station, if the node that sent them is a neighbour.
+fn hear(station: &mut Station, from: NodeId, bytes: &[u8]) -> Result<(), OutOfMemory>
+    requires nothing { SpellsNothing bytes.now }
+    requires room { (length station.old.log == 50000) ≡ false }
+    ensures ok { OnOk result (Hears from bytes.now station.old station.new) }
+    ensures err { OnErr result (station.new ≡ station.old) }
+    ensures links { station.new.links ≡ station.old.links }
+{
+    if station.made() == MOST_LINES || station.clock() == u64::MAX {
+        return Err(OutOfMemory);
+    }
+    match station.link_to(from) {
+        None => Ok(()),
+        Some(_) => station.noise(from, bytes),
+    }
+}
+
+impl Fleet {
+    /// A line names the k-th frame from now on of a channel, which is to be lost, repeated or held.
+    pub fn disturb(&mut self, line: &Disturb) -> Result<(), OutOfMemory>
+        requires near { is_channel self.old.network line.now.from line.now.to ≡ true }
+        requires few { line.now.k ≤ 65535 }
+        ensures on { OnOk result (Disturbs line.now self.old self.new) }
+        ensures err { OnErr result (self.new ≡ self.old) }
+    {
+        let sent = sent_on(&self.seats, &self.stations, line.from, line.to);
+        match (sent, place_of(&self.seats, line.to)) {
+            (Some(sent), Some(place)) => {
+                let named = Disturb {
+                    k: sent + line.k,
+                    ..*line
+                };
+                put_line(&mut self.stations, place, named)
+            }
+            _ => Ok(()),
+        }
+    }
+
+    /// Whether the log of this node has its 50,000 lines.
+    pub fn full(&self, node: NodeId) -> bool
+        ensures { result ≡ is_full node self.now }
+    {
+        match place_of(&self.seats, node) {
+            None => false,
+            Some(place) => self.stations[place].made() == MOST_LINES,
+        }
+    }
+
+    /// Bytes that spell nothing come from one node to a neighbour.
+    pub fn noise(&mut self, from: NodeId, to: NodeId, bytes: &[u8]) -> Result<(), OutOfMemory>
+        requires near { is_channel self.old.network from to ≡ true }
+        requires nothing { SpellsNothing bytes.now }
+        requires room { is_full to self.old ≡ false }
+        ensures on { OnOk result (Noises from to bytes.now self.old self.new) }
+        ensures err { OnErr result (self.new ≡ self.old) }
+    {
+        match place_of(&self.seats, to) {
+            None => Ok(()),
+            Some(place) => hear(&mut self.stations[place], from, bytes),
+        }
+    }
+}

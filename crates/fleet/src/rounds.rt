@@ -1,0 +1,216 @@
+//! Rounds of a fleet.
+
+ghost use Rattle.std.specs.Prelude.{◌≡◌, ◌<◌, ◌≤◌, length, position};
+ghost use Rattle.std.specs.List.{list_any};
+ghost use Rattle.station_doings.specs.Turned.{is_at_limit, is_starved};
+ghost use Rattle.fleet.specs.Connections.{HaveSeats};
+ghost use Rattle.fleet.specs.RoundLaws.{RoundLaws};
+ghost use Rattle.fleet.specs.Turning.{HaveTurned, MakesTurns, RoundsOf, TurnsAt};
+ghost use Rattle.fleet.specs.Turning.{fault_after, fault_of, line_count, was_at_limit, was_starved};
+
+use crate::fleet::RoundFault;
+use crate::looks::{look_all, look_around};
+use crate::seats::Seat;
+use ason_base::NodeId;
+use ason_io::Gate;
+use fleet_rounds::{every_clock, every_look, every_round, every_worker};
+use station::Station;
+use station_doings::Turn;
+use std::thread;
+use std::thread::Threads;
+use world_merge::every_merge;
+
+// What the laws of looks, turns and rounds say.
+fn round_laws()
+    ensures { RoundLaws }
+{
+    every_look();
+    every_round();
+    every_worker();
+    every_clock();
+    every_merge();
+}
+
+// Whether memory was wanting in the station's last turn.
+fn is_starved(station: &Station) -> bool
+    ensures { result ≡ is_starved station.now.answer }
+{
+    match station.answer() {
+        Turn::Starved => true,
+        Turn::Worked(_) | Turn::Idle | Turn::AtLimit => false,
+    }
+}
+
+// Whether the station's last turn ended at its limit.
+fn is_at_limit(station: &Station) -> bool
+    ensures { result ≡ is_at_limit station.now.answer }
+{
+    match station.answer() {
+        Turn::AtLimit => true,
+        Turn::Worked(_) | Turn::Idle | Turn::Starved => false,
+    }
+}
+
+// Whether memory was wanting at some station.
+fn any_starved(stations: &[Station]) -> bool
+    ensures { result ≡ list_any was_starved stations.now }
+{
+    stations.iter().any(|station| is_starved(station))
+}
+
+// The place of the first station at its limit.
+fn first_at_limit(stations: &[Station]) -> Option<usize>
+    ensures { result ≡ position was_at_limit stations.now }
+{
+    stations.iter().position(|station| is_at_limit(station))
+}
+
+// The fault that ended the turns of some station, if one did: want of memory before a limit, and of the nodes at their
+// limit the least.
+fn fault_of(seats: &[Seat], stations: &[Station]) -> Option<RoundFault>
+    ensures { result ≡ fault_of seats.now stations.now }
+{
+    if any_starved(stations) {
+        return Some(RoundFault::Starved);
+    }
+    let Some(place) = first_at_limit(stations) else {
+        return None;
+    };
+    match seats.get(place) {
+        Some(seat) => Some(RoundFault::AtLimit(seat.id)),
+        None => None,
+    }
+}
+
+// How many lines all logs have.
+fn line_count(stations: &[Station]) -> u64
+    requires { length stations.now ≤ 64 }
+    ensures { result ≡ line_count stations.now }
+{
+    let mut lines = 0;
+    for station in stations {
+        lines += station.made();
+    }
+    lines
+}
+
+// Each station makes so many turns, on at most so many threads.
+fn turn_all<R: Threads + Sync, G: Gate>(
+    rt: &R,
+    stations: &mut [Station],
+    workers: usize,
+    stride: u32,
+    gate: &G,
+)
+    requires workers { 0 < workers }
+    requires stride { 0 < stride }
+    ensures { HaveTurned stride stations.old stations.new }
+{
+    thread::for_each_mut(
+        rt,
+        stations,
+        workers,
+        &|_: usize, station: &mut Station|
+            requires { 0 < stride }
+            ensures { MakesTurns stride station.entry.now station.exit.now }
+        {
+            station.turns(gate, stride);
+        },
+    );
+}
+
+/// A round on so many threads. All rings are looked at before it and after it.
+pub(crate) fn round_on_threads<R: Threads + Sync, G: Gate>(
+    rt: &R,
+    seats: &[Seat],
+    stations: &mut [Station],
+    workers: usize,
+    stride: u32,
+    gate: &G,
+) -> Result<u64, RoundFault>
+    requires seats { HaveSeats seats.now stations.old }
+    requires workers { 2 ≤ workers }
+    requires stride { 0 < stride }
+    ensures rounds { RoundsOf workers seats.now stations.old stations.new result }
+    ensures seats { HaveSeats seats.now stations.new }
+{
+    round_laws();
+    let before = line_count(stations);
+    look_all(seats, stations);
+    turn_all(rt, stations, workers, stride, gate);
+    let fault = fault_of(seats, stations);
+    look_all(seats, stations);
+    match fault {
+        Some(fault) => Err(fault),
+        None => Ok(line_count(stations) - before),
+    }
+}
+
+// How the turns of this node end a round, if they do.
+fn fault_after(end: Turn, node: NodeId) -> Option<RoundFault>
+    ensures { result ≡ fault_after end node }
+{
+    match end {
+        Turn::Worked(_) | Turn::Idle => None,
+        Turn::AtLimit => Some(RoundFault::AtLimit(node)),
+        Turn::Starved => Some(RoundFault::Starved),
+    }
+}
+
+// A station makes its turns.
+fn turn_one<G: Gate>(
+    station: &mut Station,
+    node: NodeId,
+    stride: u32,
+    gate: &G,
+) -> Option<RoundFault>
+    requires { 0 < stride }
+    ensures turns { MakesTurns stride station.old station.new }
+    ensures fault { result ≡ fault_after station.new.answer node }
+{
+    station.turns(gate, stride);
+    fault_after(station.answer(), node)
+}
+
+// The station at this place makes its turns. Its rings are looked at before them and after them.
+fn turn_at<G: Gate>(
+    seats: &[Seat],
+    stations: &mut [Station],
+    place: usize,
+    stride: u32,
+    gate: &G,
+) -> Option<RoundFault>
+    requires seats { HaveSeats seats.now stations.old }
+    requires within { place < length seats.now }
+    requires stride { 0 < stride }
+    ensures turns { TurnsAt seats.now place stride stations.old stations.new result }
+    ensures seats { HaveSeats seats.now stations.new }
+{
+    look_around(seats, stations, place);
+    let fault = turn_one(&mut stations[place], seats[place].id, stride, gate);
+    look_around(seats, stations, place);
+    fault
+}
+
+/// A round with one worker: the stations make their turns in order of node number, up to the first that doesn't come to
+/// its end.
+pub(crate) fn round_in_order<G: Gate>(
+    seats: &[Seat],
+    stations: &mut [Station],
+    stride: u32,
+    gate: &G,
+) -> Result<u64, RoundFault>
+    requires seats { HaveSeats seats.now stations.old }
+    requires stride { 0 < stride }
+    ensures rounds { RoundsOf 1 seats.now stations.old stations.new result }
+    ensures seats { HaveSeats seats.now stations.new }
+{
+    round_laws();
+    let before = line_count(stations);
+    for place in 0..seats.len() {
+        if let Some(fault) = turn_at(seats, stations, place, stride, gate) {
+            return Err(fault);
+        }
+    }
+    Ok(line_count(stations) - before)
+}

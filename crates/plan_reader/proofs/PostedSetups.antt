@@ -1,0 +1,72 @@
+-- Setups without fault can be posted.
+use Rattle.std.proofs.Common.{◌≡◌, ℕ, Bool, true, false, ◌&&◌, ◌==◌, not, nat_le, length, List, Ok, refl, ap, ◌∙◌, subst}
+use Rattle.std.specs.Prelude.{Option, Some, None}
+use Rattle.ason_base.specs.Network.{Network, is_node_id}
+use Rattle.ason_base.specs.declared.commands.Command.{Command}
+use Rattle.ason_base.specs.declared.ids.CallNo.{CallNo}
+use Rattle.ason_base.specs.declared.ids.NodeId.{NodeId}
+use Rattle.mesh_rules.specs.Commands.{has_backup_way, has_way, is_searchable}
+use Rattle.plan_reader.specs.Names.{has_name, is_name, place_of}
+use Rattle.plan_reader.specs.declared.forms.SetupForm.{SetupForm}
+use Rattle.plan_reader.specs.declared.limits.TheConstants.{MOST_CALLS}
+use Rattle.plan_reader.specs.declared.setups.RouteIds.{RouteIds}
+use Rattle.plan_reader.specs.declared.setups.Routes.{Routes}
+use Rattle.plan_reader.specs.PlanCalls.{CallList}
+use Rattle.plan_reader.specs.PlanSetups.{next_setup, node_at, route_ids, routes_over, setup_between, setup_of, setup_over, steps_given}
+use Rattle.plan_reader.specs.PlanTexts.{word_at}
+use Rattle.plan_reader.proofs.Entries.{both_read, passed}
+use Rattle.plan_reader.proofs.KnownNodes.{place_is_known}
+use Rattle.plan_reader.proofs.SetupRoutes.{BacksProtected, backup_way, good_are, steps_back_protected, way}
+use Rattle.plan_reader.proofs.FittingCalls.{AreFitting, CanPost, call_fits, fresh}
+
+all_pass :
+    (from to same route backup : Bool) → from ≡ true → to ≡ true → same ≡ false → route ≡ true → backup ≡ true
+    → (from && to && not same && route && backup) ≡ true
+all_pass from to same route backup a b c d e = rw (a, b, c, d, e) refl
+
+over_posts :
+    (t : Network) (calls : CallList) (before : List CallNo) (ws : List (List ℕ)) (protected : Bool) (ids : RouteIds)
+    (from to : NodeId) (c : Command) → is_searchable t ≡ true → AreFitting t calls before
+    → is_node_id t.nodes from ≡ true → is_node_id t.nodes to ≡ true
+    → BacksProtected protected (steps_given t from ids.backup)
+    → setup_over t calls ws protected ids from to ≡ Ok c → CanPost t calls before ws c
+over_posts t calls before ws protected ids from to c searchable fit from_known to_known backs h =
+    let via = steps_given t from ids.via in
+    let backup = steps_given t from ids.backup in
+    let other = passed (from.0 == to.0) _ _ _ h in
+    let new = passed (has_name calls.names (word_at ws 1)) _ _ _ other.1 in
+    let few = passed (nat_le MOST_CALLS (length calls.names)) _ _ _ new.1 in
+    let routes = both_read (routes_over t from to ids) _ c few.1 in
+    let good = good_are t from to via backup routes.0 routes.1 in
+    let same : next_setup calls from to protected routes.0 ≡ c = cc (routes.2) in
+    subst (CanPost t calls before ws) (ap (λ (r : Routes). next_setup calls from to protected r) good.same ∙ same) (
+      all_pass (is_node_id t.nodes from) (is_node_id t.nodes to) (from.0 == to.0) (has_way t from to via)
+          (has_backup_way t from to protected via backup) from_known to_known other.0
+          (way t from to via searchable good.led)
+          (backup_way t from to protected via backup searchable backs good.backed),
+      fresh (length calls.names) before fit.below,
+      call_fits t calls before (word_at ws 1) from from_known fit,
+    )
+
+-- a setup without fault can be posted
+pub setup_posts :
+    (t : Network) (names : List (List ℕ)) (calls : CallList) (before : List CallNo) (ws : List (List ℕ))
+    (f : SetupForm) (c : Command) → is_searchable t ≡ true → AreFitting t calls before
+    → BacksProtected f.protected f.backup → setup_of t names calls ws f ≡ Ok c → CanPost t calls before ws c
+setup_posts t names calls before ws f c searchable fit backs h =
+    let read = both_read (route_ids ws f) _ c h in
+    let ids = read.0 in
+    let named = passed (not (is_name (word_at ws 1))) _ _ _ read.2 in
+    between ids read.1 (node_at t names ws 2) (node_at t names ws 3) refl refl named.1
+  where
+    between :
+        (ids : RouteIds) → route_ids ws f ≡ Ok ids → (from to : Option NodeId) → node_at t names ws 2 ≡ from
+        → node_at t names ws 3 ≡ to → setup_between t calls ws f.protected ids from to ≡ Ok c
+        → CanPost t calls before ws c
+    between ids i None to e g k = absurd (cc (k))
+    between ids i (Some from) None e g k = absurd (cc (k))
+    between ids i (Some from) (Some to) e g k =
+        over_posts t calls before ws f.protected ids from to c searchable fit
+        (place_is_known t.nodes (place_of names (word_at ws 2)) from e)
+        (place_is_known t.nodes (place_of names (word_at ws 3)) to g)
+        (steps_back_protected t from ws f ids backs i) k

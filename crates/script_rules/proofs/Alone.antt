@@ -1,0 +1,179 @@
+-- With one worker a script makes one list of stages and prints one text.
+use Rattle.std.proofs.Common.{◌≡◌, ℕ, zero, suc, Bool, true, false, cond, List, [], ◌∷◌, ◌++◌, refl, ap, sym, subst, ◌∙◌}
+use Rattle.std.specs.Prelude.{Option, None, Some}
+use Rattle.std.specs.List.{AllByRecursion}
+use Rattle.ason_base.specs.declared.calls.TableRows.{TableRows}
+use Rattle.ason_base.specs.declared.commands.Disturb.{Disturb}
+use Rattle.ason_base.specs.declared.ids.NodeId.{NodeId}
+use Rattle.ason_base.specs.Network.{Network}
+use Rattle.world_rules.specs.Images.{image}
+use Rattle.world_rules.specs.Worlds.{World}
+use Rattle.round_rules.specs.OneWorker.{one_round}
+use Rattle.round_rules.specs.Records.{Record}
+use Rattle.plan_reader.specs.declared.lines.Line.{Line}
+use Rattle.plan_reader.specs.declared.lines.Line.TheVariants as said
+use Rattle.plan_reader.specs.declared.lines.Line.TheVariants.{Noise, Post, Settle, Wait, Show}
+use Rattle.plan_reader.specs.declared.plan.Plan.{Plan}
+use Rattle.table_text.specs.TableText.{table_text}
+use Rattle.script_rules.specs.Laws.{AreSame, OneWorkerIsAFunction, OneWorkerIsAlone}
+use Rattle.script_rules.specs.Lawful.{IsLawfulRecord}
+use Rattle.script_rules.specs.OneWorker.{after_round, line_end, lines_end, round_end, settle_end, wait_end}
+use Rattle.script_rules.specs.Outputs.{LinePrints, Prints, Shows, UnlessStopped}
+use Rattle.script_rules.specs.Stages.{ComesTo, IsNextRound, LineMakes, Settles, Stage, Waits, is_settled, is_stopped, last_of, with_line, with_noise, with_post, world_at}
+use Rattle.script_rules.proofs.Follows.{last_append}
+use Rattle.script_rules.proofs.Lawful.{HasOneTable, lawful_table}
+use Rattle.script_rules.proofs.OneTable.{one_table}
+
+-- The next round
+
+to_end : (t : Network) (lines : List Disturb) (workers : ℕ) (before after : Record) (o : Option NodeId) →
+    workers ≡ 1 → ComesTo t lines workers before after o →
+    one_round t lines before ≡ record { made = after; stopped = o }
+to_end t lines workers before after None one comes = comes.one one
+to_end t lines workers before after (Some n) one comes = comes.one one
+
+pub next_is : (t : Network) (workers : ℕ) (s a : Stage) → workers ≡ 1 → IsNextRound t workers s a → round_end t s ≡ a
+next_is t workers s a one next =
+    ap (after_round s) (to_end t s.lines workers s.made a.made a.stopped one next.comes)
+    ∙ λ i. record { made = a.made; lines = sym next.lines i; stopped = a.stopped }
+
+-- Rounds
+
+not_two : (b : Bool) → b ≡ true → b ≡ false → ⊥
+not_two b e f = absurd (cc (e, f))
+
+settles_alone : (t : Network) (workers rounds : ℕ) (s : Stage) (xs ys : List Stage) → workers ≡ 1 →
+    Settles t workers rounds s xs → Settles t workers rounds s ys → xs ≡ ys
+settles_alone t workers zero s [] [] one x y = refl
+settles_alone t workers zero s (a ∷ xs) ys one x y = absurd x
+settles_alone t workers zero s [] (b ∷ ys) one x y = absurd y
+settles_alone t workers (suc rounds) s [] [] one x y = refl
+settles_alone t workers (suc rounds) s [] (b ∷ ys) one x y = absurd (not_two (is_settled t s) x y.0)
+settles_alone t workers (suc rounds) s (a ∷ xs) [] one x y = absurd (not_two (is_settled t s) y x.0)
+settles_alone t workers (suc rounds) s (a ∷ xs) (b ∷ ys) one x y =
+    let same : a ≡ b = sym (next_is t workers s a one x.1) ∙ next_is t workers s b one y.1 in
+    let others : xs ≡ ys =
+    settles_alone t workers rounds b xs ys one (subst (λ z. Settles t workers rounds z xs) same x.2) y.2 in
+    λ i. same i ∷ others i
+
+waits_alone : (t : Network) (workers rounds : ℕ) (s : Stage) (xs ys : List Stage) → workers ≡ 1 →
+    Waits t workers rounds s xs → Waits t workers rounds s ys → xs ≡ ys
+waits_alone t workers zero s [] [] one x y = refl
+waits_alone t workers zero s (a ∷ xs) ys one x y = absurd x
+waits_alone t workers zero s [] (b ∷ ys) one x y = absurd y
+waits_alone t workers (suc rounds) s [] [] one x y = refl
+waits_alone t workers (suc rounds) s [] (b ∷ ys) one x y = absurd (not_two (is_stopped s) x y.0)
+waits_alone t workers (suc rounds) s (a ∷ xs) [] one x y = absurd (not_two (is_stopped s) y x.0)
+waits_alone t workers (suc rounds) s (a ∷ xs) (b ∷ ys) one x y =
+    let same : a ≡ b = sym (next_is t workers s a one x.1) ∙ next_is t workers s b one y.1 in
+    let others : xs ≡ ys =
+    waits_alone t workers rounds b xs ys one (subst (λ z. Waits t workers rounds z xs) same x.2) y.2 in
+    λ i. same i ∷ others i
+
+-- where they lead is where the function leads
+settles_end : (t : Network) (workers rounds : ℕ) (s : Stage) (more : List Stage) → workers ≡ 1 →
+    Settles t workers rounds s more → last_of s more ≡ settle_end t rounds s
+settles_end t workers zero s [] one x = refl
+settles_end t workers zero s (a ∷ more) one x = absurd x
+settles_end t workers (suc rounds) s [] one x =
+    sym (ap (λ b. cond b s (settle_end t rounds (round_end t s))) x)
+settles_end t workers (suc rounds) s (a ∷ more) one x =
+    settles_end t workers rounds a more one x.2
+    ∙ (ap (settle_end t rounds) (sym (next_is t workers s a one x.1))
+    ∙ sym (ap (λ b. cond b s (settle_end t rounds (round_end t s))) x.0))
+
+waits_end : (t : Network) (workers rounds : ℕ) (s : Stage) (more : List Stage) → workers ≡ 1 →
+    Waits t workers rounds s more → last_of s more ≡ wait_end t rounds s
+waits_end t workers zero s [] one x = refl
+waits_end t workers zero s (a ∷ more) one x = absurd x
+waits_end t workers (suc rounds) s [] one x =
+    sym (ap (λ b. cond b s (wait_end t rounds (round_end t s))) x)
+waits_end t workers (suc rounds) s (a ∷ more) one x =
+    waits_end t workers rounds a more one x.2
+    ∙ (ap (wait_end t rounds) (sym (next_is t workers s a one x.1))
+    ∙ sym (ap (λ b. cond b s (wait_end t rounds (round_end t s))) x.0))
+
+-- Lines
+
+line_alone : (t : Network) (workers : ℕ) (line : Line) (s : Stage) (xs ys : List Stage) → workers ≡ 1 →
+    LineMakes t workers line s xs → LineMakes t workers line s ys → xs ≡ ys
+line_alone t workers (Post c) s xs ys one x y = x ∙ sym y
+line_alone t workers (said.Disturb d) s xs ys one x y = x ∙ sym y
+line_alone t workers (Noise u d bytes) s xs ys one x y = x ∙ sym y
+line_alone t workers (Settle rounds) s xs ys one x y = settles_alone t workers rounds s xs ys one x y
+line_alone t workers (Wait rounds) s xs ys one x y = waits_alone t workers rounds s xs ys one x y
+line_alone t workers Show s xs ys one x y = x ∙ sym y
+
+unless_ends : (s a : Stage) (b : Bool) → last_of s (cond b [] (a ∷ [])) ≡ cond b s a
+unless_ends s a true = refl
+unless_ends s a false = refl
+
+line_ends : (t : Network) (workers : ℕ) (line : Line) (s : Stage) (more : List Stage) → workers ≡ 1 →
+    LineMakes t workers line s more → last_of s more ≡ line_end t s line
+line_ends t workers (Post c) s more one x = ap (last_of s) x ∙ unless_ends s (with_post t c s) (is_stopped s)
+line_ends t workers (said.Disturb d) s more one x = ap (last_of s) x ∙ unless_ends s (with_line t d s) (is_stopped s)
+line_ends t workers (Noise u d bytes) s more one x =
+    ap (last_of s) x ∙ unless_ends s (with_noise u d bytes s) (is_stopped s)
+line_ends t workers (Settle rounds) s more one x = settles_end t workers rounds s more one x
+line_ends t workers (Wait rounds) s more one x = waits_end t workers rounds s more one x
+line_ends t workers Show s more one x = ap (last_of s) x
+
+pub function_end : OneWorkerIsAFunction
+function_end p how [] s more text one prints = ap (last_of s) prints.0
+function_end p how (line ∷ lines) s more text one prints =
+    ap (last_of s) prints.7
+    ∙ (last_append s prints.0 prints.1
+    ∙ (function_end p how lines (last_of s prints.0) prints.1 prints.3 one prints.6
+    ∙ ap (lines_end p.topology lines) (line_ends p.topology how.workers line s prints.0 one prints.4)))
+
+-- Texts
+
+one_show : (p : Plan) (line : Line) (w : World) (a b : List ℕ) → HasOneTable (image w) →
+    Shows p line w a → Shows p line w b → a ≡ b
+one_show p (Post c) w a b one this that = this ∙ sym that
+one_show p (said.Disturb d) w a b one this that = this ∙ sym that
+one_show p (Noise u d bytes) w a b one this that = this ∙ sym that
+one_show p (Settle r) w a b one this that = this.line ∙ sym that.line
+one_show p (Wait r) w a b one this that = this ∙ sym that
+one_show p Show w a b one this that =
+    let same : this.0 ≡ that.0 =
+    one_table p.topology (image w) this.0 that.0 one.legs one.calls this.1 that.1 in
+    this.2 ∙ (ap (λ (rows : TableRows). table_text p rows) same ∙ sym that.2)
+
+one_line : (tables : Bool) (p : Plan) (line : Line) (s : Stage) (a b : List ℕ) → IsLawfulRecord p.topology s.made →
+    LinePrints tables p line s a → LinePrints tables p line s b → a ≡ b
+one_line false p line s a b is this that = this ∙ sym that
+one_line true p line s a b is this that = go s.stopped this that
+  where
+    go : (o : Option NodeId) → UnlessStopped o (Shows p line (world_at p.topology s) a) a →
+        UnlessStopped o (Shows p line (world_at p.topology s) b) b → a ≡ b
+    go None shown seen =
+        one_show p line (world_at p.topology s) a b (lawful_table p.topology s.made is) shown seen
+    go (Some n) none nothing = none ∙ sym nothing
+
+-- Lists
+
+-- of the last of some first stages on
+pub all_from : (P : Stage → Type 0) (s : Stage) (xs ys : List Stage) → AllByRecursion P (s ∷ (xs ++ ys)) →
+    AllByRecursion P (last_of s xs ∷ ys)
+all_from P s [] ys all = all
+all_from P s (x ∷ xs) ys all = all_from P x xs ys all.1
+
+pub one_list : OneWorkerIsAlone
+one_list p how [] s xs ys a b one all this that =
+    record { stages = this.0 ∙ sym that.0; text = this.1 ∙ sym that.1 }
+one_list p how (line ∷ lines) s xs ys a b one all this that =
+    let first : this.0 ≡ that.0 = line_alone p.topology how.workers line s this.0 that.0 one this.4 that.4 in
+    let lawful : AllByRecursion (λ (z : Stage). IsLawfulRecord p.topology z.made) (last_of s this.0 ∷ this.1) =
+    all_from (λ (z : Stage). IsLawfulRecord p.topology z.made) s this.0 this.1
+    (subst (λ zs. AllByRecursion (λ (z : Stage). IsLawfulRecord p.topology z.made) (s ∷ zs)) this.7 all) in
+    let here : this.2 ≡ that.2 =
+    one_line how.tables p line (last_of s this.0) this.2 that.2 lawful.0 this.5
+    (subst (λ zs. LinePrints how.tables p line (last_of s zs) that.2) (sym first) that.5) in
+    let rest : AreSame this.1 that.1 this.3 that.3 =
+    one_list p how lines (last_of s this.0) this.1 that.1 this.3 that.3 one lawful this.6
+    (subst (λ zs. Prints p how lines (last_of s zs) that.1 that.3) (sym first) that.6) in
+    record {
+      stages = this.7 ∙ ((λ i. first i ++ rest.stages i) ∙ sym that.7);
+      text = this.8 ∙ ((λ i. here i ++ rest.text i) ∙ sym that.8);
+    }

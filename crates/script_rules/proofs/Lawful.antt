@@ -1,0 +1,107 @@
+-- The runs of records have the laws of the mesh.
+use Rattle.std.proofs.Common.{◌≡◌, ℕ, List, [], ◌∷◌, ◌++◌, sym, ap, subst, ◌∙◌, append-nil}
+use Rattle.ason_base.specs.declared.commands.Entry.{Entry}
+use Rattle.ason_base.specs.declared.commands.Event.{Event}
+use Rattle.ason_base.specs.Network.{IsTopology, Network}
+use Rattle.mesh_rules.specs.Events as mesh_runs
+use Rattle.mesh_rules.specs.Machine as mesh
+use Rattle.mesh_rules.specs.Machine.{Mesh}
+use Rattle.mesh_rules.specs.Quiet as mesh_quiet
+use Rattle.mesh_laws.specs.CallLaw.{CallsFit}
+use Rattle.mesh_laws.specs.HopLaw.{HasOneLegEach}
+use Rattle.mesh_laws.specs.Laws.{LawsHold}
+use Rattle.world_rules.specs.Images.{IsQuiet, image, mesh_events}
+use Rattle.world_rules.specs.Laws.{EveryImageHasTheLaws, EveryRunIsShown, JoinedKnowTheLinks, JoinedKnowTheSame, QuietIsShown, TopologiesFindEach}
+use Rattle.world_rules.specs.Runs.{IsRun, after, step}
+use Rattle.world_rules.specs.Worlds.{World, start}
+use Rattle.world_merge.specs.Merges.{events_of}
+use Rattle.world_merge.specs.Orders.{IsMerge}
+use Rattle.log_merge.specs.Logs.{EveryMergingMerges}
+use Rattle.round_rules.specs.Laws.{RecordsAreRuns}
+use Rattle.round_rules.specs.Records.{Record, log_at, posts_in, world_of}
+use Rattle.script_rules.specs.Laws.{RecordsAreLawful}
+use Rattle.script_rules.specs.Lawful.{AreRestored, IsLawful, IsLawfulRecord, IsLawfulRun, QuietLawsHold}
+use Rattle.script_rules.proofs.Merges.{has_merge}
+
+-- the laws of worlds
+pub record WorldLaws : Type 0 where
+  pub topology : TopologiesFindEach
+  pub shown : EveryRunIsShown
+  pub laws : EveryImageHasTheLaws
+  pub quiet : QuietIsShown
+  pub same : JoinedKnowTheSame
+  pub links : JoinedKnowTheLinks
+
+quiet_laws : WorldLaws → (t : Network) → IsTopology t → (events : List Event) → IsRun t (start t) events →
+    IsQuiet (after t (start t) events) → QuietLawsHold t events
+quiet_laws laws t valid events run quiet = record {
+  shown = nothing;
+  restored = λ g alone.
+      subst (AreRestored t (mesh_events t (start t) events)) leads
+      (are.restored valid g alone (subst mesh_quiet.IsQuiet (sym leads) nothing));
+  same = laws.same t events valid run quiet;
+  links = laws.links t events valid run quiet;
+}
+  where
+    nothing : mesh_quiet.IsQuiet (image (after t (start t) events))
+    nothing = laws.quiet t events run (record { desks = quiet.desks; hops = quiet.hops })
+
+    are : LawsHold t (mesh_events t (start t) events)
+    are = laws.laws t events (laws.topology t valid) run
+
+    leads : mesh_runs.after t mesh.start (mesh_events t (start t) events) ≡ image (after t (start t) events)
+    leads = (laws.shown t events (laws.topology t valid) run).leads
+
+lawful : WorldLaws → (t : Network) → IsTopology t → (events : List Event) → IsRun t (start t) events →
+    IsLawful t events
+lawful laws t valid events run =
+    let each = laws.topology t valid in
+    record {
+      shown = laws.shown t events each run;
+      laws = laws.laws t events each run;
+      quiet = quiet_laws laws t valid events run;
+    }
+
+-- each first part of a run is a run
+first_part : (t : Network) (w : World) (first left : List Event) → IsRun t w (first ++ left) → IsRun t w first
+first_part t w [] left run = tt
+first_part t w (e ∷ first) left run = (run.0, first_part t (step t w e) first left run.1)
+
+pub records_lawful : WorldLaws → RecordsAreRuns → EveryMergingMerges → RecordsAreLawful
+records_lawful laws runs merging t r valid is = record {
+  possible = is;
+  merges = has_merge merging t r valid is;
+  runs = lawful_run;
+}
+  where
+    lawful_run : (m : List Entry) → IsMerge (log_at r) (posts_in r) m → IsLawfulRun t r m
+    lawful_run m merge = record {
+      run = (runs t r m is merge).run;
+      leads = (runs t r m is merge).leads;
+      laws = λ first left all.
+          lawful laws t valid first (first_part t (start t) first left
+          (subst (IsRun t (start t)) (sym all) (runs t r m is merge).run));
+    }
+
+-- One table
+
+-- what makes the table of a mesh one
+pub record HasOneTable (s : Mesh) : Type 0 where
+  pub legs : HasOneLegEach s
+  pub calls : (n : ℕ) → CallsFit n (s.nodes n)
+
+-- The laws of a record's run make it one.
+pub lawful_table : (t : Network) (r : Record) → IsLawfulRecord t r → HasOneTable (image (world_of t r))
+lawful_table t r is = subst HasOneTable leads (record { legs = whole.laws.one_leg; calls = whole.laws.calls })
+  where
+    events : List Event
+    events = events_of is.merges.0
+
+    run : IsLawfulRun t r is.merges.0
+    run = is.runs is.merges.0 is.merges.1
+
+    whole : IsLawful t events
+    whole = run.laws events [] (append-nil events)
+
+    leads : mesh_runs.after t mesh.start (mesh_events t (start t) events) ≡ image (world_of t r)
+    leads = whole.shown.leads ∙ ap image run.leads

@@ -1,0 +1,11 @@
+pub mod Alone
+pub mod Follows
+pub mod Grows
+pub mod Lawful
+pub mod LegOrder
+pub mod Merges
+pub mod Nodes
+pub mod OneOrder
+pub mod OneTable
+pub mod Posts
+pub mod Stops

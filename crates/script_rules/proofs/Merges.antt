@@ -1,0 +1,111 @@
+-- The logs and posts of a record have a merge.
+use Rattle.std.proofs.Common.{◌≡◌, ◌<◌, ◌≤◌, ℕ, Bool, true, false, cond, List, [], ◌∷◌, filter, map, refl, sym, ◌∙◌, subst, inl, arith}
+use Rattle.std.specs.Prelude.{◌&&◌, not}
+use Rattle.std.specs.List.{AllByRecursion}
+use Rattle.ason_base.specs.declared.ids.NodeId.{NodeId}
+use Rattle.ason_base.specs.declared.commands.Entry.{Entry}
+use Rattle.ason_base.specs.Network.{IsTopology, Network, is_node_id}
+use Rattle.world_rules.specs.Worlds.{World, start}
+use Rattle.world_merge.specs.Deeds.{AreDoable, Deed, Handled, Heard, Posted, Ticked, Took, done, stamp_of}
+use Rattle.world_merge.specs.Histories.{at}
+use Rattle.world_merge.specs.Logs.{RisesAbove, is_posted, line_of, log_of, posts_of}
+use Rattle.world_merge.specs.Orders.{IsBefore, IsMerge, IsSorted, is_of, is_post}
+use Rattle.world_merge.specs.Picking.{merged_of}
+use Rattle.world_merge.proofs.Splitting.{line-stamp}
+use Rattle.log_merge.specs.Logs.{AreLogsOf, EveryMergingMerges}
+use Rattle.round_rules.specs.Records.{IsRecord, Record, deeds_at, log_at, posts_in}
+use Rattle.script_rules.proofs.Nodes.{among, distinct_nodes, numbers_of}
+
+-- Lines
+
+-- each line of a log is of its node
+own_lines : (n : ℕ) (ds : List Deed) → AllByRecursion (λ (e : Entry). is_of n e ≡ true) (log_of (at n) ds)
+own_lines n [] = tt
+own_lines n (Ticked s ∷ ds) = (grind arith, own_lines n ds)
+own_lines n (Handled s ∷ ds) = (grind arith, own_lines n ds)
+own_lines n (Took s u k x ∷ ds) = (grind arith, own_lines n ds)
+own_lines n (Heard s u bytes ∷ ds) = (grind arith, own_lines n ds)
+own_lines n (Posted s c ∷ ds) = own_lines n ds
+
+-- and each post of none
+post_lines : (n : NodeId) (ds : List Deed) → AllByRecursion (λ (e : Entry). is_post e ≡ true) (posts_of n ds)
+post_lines n [] = tt
+post_lines n (Ticked s ∷ ds) = post_lines n ds
+post_lines n (Handled s ∷ ds) = post_lines n ds
+post_lines n (Took s u k x ∷ ds) = post_lines n ds
+post_lines n (Heard s u bytes ∷ ds) = post_lines n ds
+post_lines n (Posted s c ∷ ds) = (refl, post_lines n ds)
+
+-- stamps that rise stay above where some deeds are left out
+all_above : (p : Deed → Bool) (n : NodeId) (r s : ℕ) (ds : List Deed) → r ≤ s → RisesAbove s ds →
+    AllByRecursion (λ (e : Entry). r < e.stamp) (map (line_of n) (filter p ds))
+all_above p n r s [] below up = tt
+all_above p n r s (d ∷ ds) below up = go (p d) (all_above p n r (stamp_of d) ds (omega (arith, below, up.0)) up.1)
+  where
+    go : (b : Bool) → AllByRecursion (λ (e : Entry). r < e.stamp) (map (line_of n) (filter p ds)) →
+        AllByRecursion (λ (e : Entry). r < e.stamp) (map (line_of n) (cond b (d ∷ filter p ds) (filter p ds)))
+    go true rest = (omega (arith, below, up.0, line-stamp n d), rest)
+    go false rest = rest
+
+before_all : (e : Entry) (s : ℕ) (m : List Entry) → e.stamp ≡ s → AllByRecursion (λ (f : Entry). s < f.stamp) m →
+    AllByRecursion (IsBefore e) m
+before_all e s [] is all = tt
+before_all e s (f ∷ m) is all = (inl (subst (λ k. k < f.stamp) (sym is) all.0), before_all e s m is all.1)
+
+sorted_lines : (p : Deed → Bool) (n : NodeId) (s : ℕ) (ds : List Deed) → RisesAbove s ds →
+    IsSorted (map (line_of n) (filter p ds))
+sorted_lines p n s [] up = tt
+sorted_lines p n s (d ∷ ds) up =
+    go (p d) (all_above p n (stamp_of d) (stamp_of d) ds (omega arith) up.1) (sorted_lines p n (stamp_of d) ds up.1)
+  where
+    go : (b : Bool) → AllByRecursion (λ (e : Entry). stamp_of d < e.stamp) (map (line_of n) (filter p ds)) →
+        IsSorted (map (line_of n) (filter p ds)) → IsSorted (map (line_of n) (cond b (d ∷ filter p ds) (filter p ds)))
+    go true later rest =
+        (before_all (line_of n d) (stamp_of d) (map (line_of n) (filter p ds)) (line-stamp n d) later, rest)
+    go false later rest = rest
+
+-- Logs
+
+-- what isn't a node of the network has no log
+not_both : (a b : Bool) → a ≡ false → (a && b) ≡ true → ⊥
+not_both false b none both = absurd (cc (both))
+not_both true b none both = absurd (cc (none))
+
+first : (a b : Bool) → (a && b) ≡ true → a ≡ true
+first true b both = refl
+first false b both = both
+
+no_log : (t : Network) (n : NodeId) (w : World) (ds : List Deed) → is_node_id t.nodes n ≡ false →
+    AreDoable t n w ds → log_of n ds ≡ []
+no_log t n w [] none are = refl
+no_log t n w (Ticked s ∷ ds) none are = absurd (not_both _ _ none are.0)
+no_log t n w (Handled s ∷ ds) none are = absurd (not_both _ _ none (first _ _ are.0))
+no_log t n w (Took s u k x ∷ ds) none are = absurd (not_both _ _ none (first _ _ are.0))
+no_log t n w (Heard s u bytes ∷ ds) none are = absurd (not_both _ _ none (first _ _ are.0.0))
+no_log t n w (Posted s c ∷ ds) none are = no_log t n (done t n w (Posted s c)) ds none are.1
+
+their_logs : (r : Record) (ns : List ℕ) → AreLogsOf (log_at r) ns (map (log_at r) ns)
+their_logs r [] = tt
+their_logs r (n ∷ ns) = (record { log = refl; own = own_lines n (deeds_at r n) }, their_logs r ns)
+
+sorted_logs : (t : Network) (r : Record) → IsRecord t r → (ns : List ℕ) →
+    AllByRecursion IsSorted (map (log_at r) ns)
+sorted_logs t r is [] = tt
+sorted_logs t r is (n ∷ ns) =
+    (sorted_lines (λ d. not (is_posted d)) (at n) 0 (deeds_at r n) (is.rises n), sorted_logs t r is ns)
+
+-- What is merged of the posts and the logs of all nodes is a merge of the record.
+pub has_merge : EveryMergingMerges → (t : Network) (r : Record) → IsTopology t → IsRecord t r →
+    (m : List Entry) × IsMerge (log_at r) (posts_in r) m
+has_merge merging t r valid is =
+    let ns = numbers_of t.nodes in (
+      merged_of (posts_in r ∷ map (log_at r) ns),
+      merging (log_at r) (posts_in r) ns (map (log_at r) ns) (record {
+        distinct = distinct_nodes t valid;
+        each_log = their_logs r ns;
+        others = λ n none. no_log t (at n) (start t) (deeds_at r n) (sym (among t.nodes (at n)) ∙ none)
+            (is.histories.doable n);
+        posted = post_lines (at 0) (deeds_at r 0);
+        sorted = (sorted_lines is_posted (at 0) 0 (deeds_at r 0) (is.rises 0), sorted_logs t r is ns);
+      }),
+    )

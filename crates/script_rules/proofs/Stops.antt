@@ -1,0 +1,89 @@
+-- A run is stopped at a node whose log is full.
+use Rattle.std.proofs.Common.{◌≡◌, ℕ, zero, suc, Bool, true, false, cond, List, [], ◌∷◌, length, refl, ap, sym, subst, ◌∙◌, arith}
+use Rattle.std.specs.Prelude.{◌==◌, Option, None, Some, is_some}
+use Rattle.ason_base.specs.declared.commands.Disturb.{Disturb}
+use Rattle.ason_base.specs.declared.ids.NodeId.{NodeId}
+use Rattle.ason_base.specs.Network.{Network}
+use Rattle.round_rules.specs.Records.{Record, log_at}
+use Rattle.fleet_rounds.specs.Commands.{noised, posted}
+use Rattle.plan_reader.specs.declared.lines.Line.{Line}
+use Rattle.plan_reader.specs.declared.lines.Line.TheVariants as said
+use Rattle.plan_reader.specs.declared.lines.Line.TheVariants.{Noise, Post, Settle, Wait, Show}
+use Rattle.script_rules.specs.Laws.{StopsAreFull}
+use Rattle.script_rules.specs.Stages.{ComesTo, IsFull, LineMakes, Settles, Stage, Waits, is_stopped, last_of, with_line, with_noise, with_post}
+use Rattle.script_rules.proofs.Follows.{last_append}
+
+comes_full : (t : Network) (lines : List Disturb) (workers : ℕ) (before after : Record) (o : Option NodeId) →
+    ComesTo t lines workers before after o → IsFull after o
+comes_full t lines workers before after None comes = tt
+comes_full t lines workers before after (Some n) comes = comes.stopped.full
+
+settles_full : (t : Network) (workers rounds : ℕ) (s : Stage) (more : List Stage) → IsFull s.made s.stopped →
+    Settles t workers rounds s more → IsFull (last_of s more).made (last_of s more).stopped
+settles_full t workers zero s [] full x = full
+settles_full t workers zero s (a ∷ more) full x = absurd x
+settles_full t workers (suc rounds) s [] full x = full
+settles_full t workers (suc rounds) s (a ∷ more) full x =
+    settles_full t workers rounds a more (comes_full t s.lines workers s.made a.made a.stopped x.1.comes) x.2
+
+waits_full : (t : Network) (workers rounds : ℕ) (s : Stage) (more : List Stage) → IsFull s.made s.stopped →
+    Waits t workers rounds s more → IsFull (last_of s more).made (last_of s more).stopped
+waits_full t workers zero s [] full x = full
+waits_full t workers zero s (a ∷ more) full x = absurd x
+waits_full t workers (suc rounds) s [] full x = full
+waits_full t workers (suc rounds) s (a ∷ more) full x =
+    waits_full t workers rounds a more (comes_full t s.lines workers s.made a.made a.stopped x.1.comes) x.2
+
+-- one stage more, where it is full or stopped by nothing
+one_full : (s a : Stage) → (is_stopped s ≡ false → IsFull a.made a.stopped) → IsFull s.made s.stopped →
+    IsFull (last_of s (cond (is_stopped s) [] (a ∷ []))).made (last_of s (cond (is_stopped s) [] (a ∷ []))).stopped
+one_full s a going full = go (is_stopped s) refl
+  where
+    go : (b : Bool) → is_stopped s ≡ b →
+        IsFull (last_of s (cond b [] (a ∷ []))).made (last_of s (cond b [] (a ∷ []))).stopped
+    go true e = full
+    go false e = going e
+
+none_stopped : (o : Option NodeId) → is_some o ≡ false → o ≡ None
+none_stopped None e = refl
+none_stopped (Some n) e = absurd (cc (e))
+
+-- what isn't stopped is full of nothing
+going_full : (s : Stage) (r : Record) → is_stopped s ≡ false → IsFull r s.stopped
+going_full s r e = subst (IsFull r) (sym (none_stopped s.stopped e)) tt
+
+noise_full : (u d : NodeId) (bytes : List ℕ) (s : Stage) → is_stopped s ≡ false →
+    IsFull (with_noise u d bytes s).made (with_noise u d bytes s).stopped
+noise_full u d bytes s e = go (length (log_at s.made d.0) == 50000) refl
+  where
+    after : Bool → Stage
+    after full = cond full (record s { stopped = Some d }) (record s { made = noised u d bytes s.made })
+
+    go : (full : Bool) → (length (log_at s.made d.0) == 50000) ≡ full → IsFull (after full).made (after full).stopped
+    go true is = grind (arith, is)
+    go false is = going_full s (noised u d bytes s.made) e
+
+line_full : (t : Network) (workers : ℕ) (line : Line) (s : Stage) (more : List Stage) → IsFull s.made s.stopped →
+    LineMakes t workers line s more → IsFull (last_of s more).made (last_of s more).stopped
+line_full t workers (Post c) s more full x =
+    subst (λ ss. IsFull (last_of s ss).made (last_of s ss).stopped) (sym x)
+    (one_full s (with_post t c s) (going_full s (posted t c s.made)) full)
+line_full t workers (said.Disturb d) s more full x =
+    subst (λ ss. IsFull (last_of s ss).made (last_of s ss).stopped) (sym x)
+    (one_full s (with_line t d s) (going_full s s.made) full)
+line_full t workers (Noise u d bytes) s more full x =
+    subst (λ ss. IsFull (last_of s ss).made (last_of s ss).stopped) (sym x)
+    (one_full s (with_noise u d bytes s) (noise_full u d bytes s) full)
+line_full t workers (Settle rounds) s more full x = settles_full t workers rounds s more full x
+line_full t workers (Wait rounds) s more full x = waits_full t workers rounds s more full x
+line_full t workers Show s more full x =
+    subst (λ ss. IsFull (last_of s ss).made (last_of s ss).stopped) (sym x) full
+
+pub stops_full : StopsAreFull
+stops_full p how [] s more text full prints =
+    subst (λ ss. IsFull (last_of s ss).made (last_of s ss).stopped) (sym prints.0) full
+stops_full p how (line ∷ lines) s more text full prints =
+    subst (λ (z : Stage). IsFull z.made z.stopped)
+    (sym (ap (last_of s) prints.7 ∙ last_append s prints.0 prints.1))
+    (stops_full p how lines (last_of s prints.0) prints.1 prints.3
+    (line_full p.topology how.workers line s prints.0 full prints.4) prints.6)

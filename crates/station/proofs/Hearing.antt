@@ -1,0 +1,110 @@
+-- Bytes that spell nothing.
+use Rattle.std.proofs.Common.{◌≡◌, ◌<◌, ◌+◌, ℕ, List, [], ◌∷◌, ◌++◌, length, refl, sym, ap, ◌∙◌, subst, arith}
+use Rattle.std.specs.Prelude.{IsSome, IsTrue, None, Option, Some, position}
+use Rattle.std.specs.List.{AllByRecursion, AllZip, Contains}
+use Rattle.std.proofs.lemmas.List.{length-append}
+use Rattle.std.proofs.lemmas.List.Elements.{All-contains, All-from_recursion}
+use Rattle.std.proofs.lemmas.List.Elements.{Contains-get_or}
+use Rattle.std.proofs.lemmas.List.Quantifiers.{position-Some}
+use Rattle.ason_base.specs.declared.commands.Event.TheVariants.{Noise}
+use Rattle.ason_base.specs.declared.ids.NodeId.{NodeId}
+use Rattle.ason_base.proofs.Bridges.{same_node}
+use Rattle.flood.specs.Frames.{SpellsNothing}
+use Rattle.mesh_nodes.specs.LocalNodes.{is_neighbour}
+use Rattle.mesh_rules.specs.LocalNodes.{LocalNode}
+use Rattle.control_channels.specs.declared.frames.Frame.{Frame}
+use Rattle.control_channels.specs.declared.inputs.CoreInput.TheVariants as input
+use Rattle.control_channels.specs.Controllers.{ControllerState, IsStep}
+use Rattle.station_rings.specs.LinkStates.{LinkState}
+use Rattle.station_doings.specs.Entered.{HasEntered, me_of}
+use Rattle.station_doings.specs.Moves.{IsSentOver}
+use Rattle.round_rules.specs.Doings.{Did}
+use Rattle.round_rules.specs.Functions.{clock_of}
+use Rattle.world_merge.specs.Deeds.{Heard}
+use Rattle.station_doings.specs.States.{IsStationOf, StationState}
+use Rattle.station_doings.proofs.Parting.{noise-of}
+use Rattle.station.specs.Fits.{LinkKeeps}
+use Rattle.station.specs.Noise.{HasHeard}
+use Rattle.station.specs.Sending.{is_to}
+use Rattle.station.proofs.Sending.{sent-start}
+
+-- a link that leads to this neighbour
+pub record LeadsTo (u : NodeId) (links : List LinkState) : Type 0 where
+  pub link : LinkState
+  pub there : Contains links link
+  pub peer : link.peer ≡ u
+
+leads_at : (u : NodeId) (links : List LinkState) (o : Option ℕ) → position (is_to u) links ≡ o → IsSome o →
+    LeadsTo u links
+leads_at u links None at some = absurd (cc (some))
+leads_at u [] (Some i) at some = absurd (cc (at))
+leads_at u (l ∷ links) (Some i) at some =
+    let is = position-Some (is_to u) (l ∷ links) i l at in
+    record { link = _; there = Contains-get_or (l ∷ links) i l is.0; peer = same_node _ u is.1 }
+
+pub leads-to : (u : NodeId) (links : List LinkState) → IsSome (position (is_to u) links) → LeadsTo u links
+leads-to u links some = leads_at u links (position (is_to u) links) refl some
+
+-- it is a neighbour of the node
+pub near-to : (p : LocalNode) (steps clock : ℕ) (u : NodeId) (links : List LinkState) →
+    AllByRecursion (LinkKeeps p steps clock) links → IsSome (position (is_to u) links) → IsTrue (is_neighbour p u)
+near-to p steps clock u links all some =
+    let l = leads-to u links some in
+    subst (λ (n : NodeId). IsTrue (is_neighbour p n)) l.peer (All-contains (LinkKeeps p steps clock) links l.link
+    (All-from_recursion (LinkKeeps p steps clock) links all) l.there).near
+
+-- no frame is sent
+pub none-sent : (c d : ControllerState) (u : NodeId) (bytes : List ℕ) (frames : List Frame) → SpellsNothing bytes →
+    IsStep c d (input.Frame u bytes) frames → frames ≡ []
+none-sent c d u bytes frames nothing is = (is.reaction.1 nothing).made.frames
+
+-- a line is written, and nothing else changes
+abbrev pub noise-entered : (u me : NodeId) (bytes taken written : List ℕ) (old new : StationState)
+    (frames : List Frame) → taken ≡ bytes → written ≡ bytes → me ≡ me_of old → SpellsNothing bytes → old.controller.steps < 50000 →
+    IsStep old.controller new.controller (input.Frame u taken) frames →
+    new ≡ record old {
+      controller = new.controller;
+      clock = old.clock + 1;
+      log = old.log ++ record { stamp = old.clock + 1; node = Some me; event = Noise me u written } ∷ [];
+    } → HasEntered (input.Frame u bytes) (Noise (me_of old) u bytes) (old.clock + 1) old new
+noise-entered u me bytes taken written old new frames take write my nothing few step same =
+    let is : IsStep old.controller new.controller (input.Frame u bytes) frames =
+    subst (λ xs. IsStep old.controller new.controller (input.Frame u xs) frames) take step in
+    record {
+      frames = [];
+      step =
+          subst (IsStep old.controller new.controller (input.Frame u bytes))
+          (none-sent old.controller new.controller u bytes frames nothing is) is;
+      few = few;
+      above = omega arith;
+      clock = ap (λ (s : StationState). s.clock) same;
+      log =
+          ap (λ (s : StationState). s.log) same
+          ∙ (λ i. old.log
+          ++ record { stamp = old.clock + 1; node = Some (my i); event = Noise (my i) u (write i) } ∷ []);
+      links =
+          subst (AllZip (IsSentOver (old.clock + 1) []) old.links) (sym (ap (λ (s : StationState). s.links) same))
+          (sent-start (old.clock + 1) old.links);
+      desk = ap (λ (s : StationState). s.desk) same;
+      spare = ap (λ (s : StationState). s.spare) same;
+      held = ap (λ (s : StationState). s.held) same;
+      lines = ap (λ (s : StationState). s.lines) same;
+    }
+
+-- the station has heard them
+pub heard : (u : NodeId) (bytes : List ℕ) (old new : StationState) → SpellsNothing bytes →
+    IsSome (position (is_to u) old.links) → new.links ≡ old.links →
+    HasEntered (input.Frame u bytes) (Noise (me_of old) u bytes) (old.clock + 1) old new → HasHeard u bytes old new
+heard u bytes old new nothing some links r = record {
+  stands = λ t n ds is.
+      subst (λ v. IsStationOf t n (ds ++ Did (Heard (clock_of ds + 1) v bytes) ∷ []) new) l.peer
+      (noise-of t n ds l.link bytes old new is l.there nothing
+      (subst (λ v. HasEntered (input.Frame v bytes) (Noise (me_of old) v bytes) (old.clock + 1) old new) (sym l.peer)
+      r));
+  links = links;
+  lines = r.lines;
+  grows = ap length r.log ∙ length-append old.log _;
+}
+  where
+    l : LeadsTo u old.links
+    l = leads-to u old.links some

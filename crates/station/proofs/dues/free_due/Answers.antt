@@ -1,0 +1,44 @@
+use Rattle.std.proofs.Common.{sym, ap, ◌∙◌, subst}
+use Rattle.std.specs.Prelude.{Err, Ok}
+use Rattle.std.proofs.lemmas.Result.{err_from_is_err_and}
+use Rattle.station_doings.specs.Phases.{due_phase}
+use Rattle.station.specs.Dues.{is_first_due}
+use Rattle.station.specs.Fits.{state_of}
+use Rattle.station.specs.Leads.{Leads}
+use Rattle.station.proofs.Stepping.{due-ends, sending-none, sending-then}
+use Rattle.station.proofs.dues.free_due.Goals as goal
+
+pub dues-init : goal.dues-init
+dues-init g c = record {
+  fit = c.requires.fit;
+  on = λ r end leads. leads;
+  sends = sending-none (state_of c.args.parts.now);
+}
+
+pub dues-preserved : goal.dues-preserved
+dues-preserved g c = record {
+  fit = c.free_first.ensures.fit;
+  on = λ r end leads. c.dues.invariant.on r end (c.in_ok-free_first.ensures.on r end leads);
+  sends =
+      sending-then (state_of c.args.parts.now) (state_of c.dues.parts) (state_of c.free_first.new.parts)
+      c.dues.invariant.sends c.free_first.ensures.sends;
+}
+
+pub returns-clause-on : goal.returns-clause-on
+returns-clause-on g c =
+    c.dues.invariant.on (Ok tt) (state_of c.dues.parts)
+    (due-ends (state_of c.dues.parts)
+    (ap is_first_due (sym c.deref.ensures.value) ∙ sym c.is_first_due.ensures ∙ c.dues-test.false))
+
+pub returns-in_err-free_first-clause-on : goal.returns-in_err-free_first-clause-on
+returns-in_err-free_first-clause-on g c =
+    let s = state_of c.args.parts.now in
+    let m = state_of c.free_first.new.parts in
+    let p = err_from_is_err_and c.from_residual.result c.from_residual.ensures.1 in
+    subst (λ r. Leads r due_phase s m) (sym (p.1 ∙ ap Err p.2))
+    (c.dues.invariant.on (Err _) m c.in_err-free_first.ensures.on)
+
+pub returns-in_err-free_first-clause-sends : goal.returns-in_err-free_first-clause-sends
+returns-in_err-free_first-clause-sends g c =
+    sending-then (state_of c.args.parts.now) (state_of c.dues.parts) (state_of c.free_first.new.parts)
+    c.dues.invariant.sends c.free_first.ensures.sends

@@ -1,0 +1,43 @@
+use Rattle.std.proofs.Common.{sym, ap, ◌∙◌, subst, arith}
+use Rattle.std.specs.Prelude.{Err, Ok}
+use Rattle.std.proofs.lemmas.Result.{err_from_is_err_and}
+use Rattle.station_doings.specs.Phases.{desk_phase}
+use Rattle.station.specs.Fits.{state_of}
+use Rattle.station.specs.Leads.{Leads}
+use Rattle.station.proofs.Stepping.{desk-ends, none-of, sending-none, sending-then}
+use Rattle.station.proofs.items.handle_desk.Goals as goal
+
+pub items-init : goal.items-init
+items-init g c = record {
+  fit = c.requires.fit;
+  on = λ r end leads. leads;
+  sends = sending-none (state_of c.args.parts.now);
+}
+
+pub items-preserved : goal.items-preserved
+items-preserved g c = record {
+  fit = c.handle_first.ensures.fit;
+  on = λ r end leads. c.items.invariant.on r end (c.in_ok-handle_first.ensures.on r end leads);
+  sends =
+      sending-then (state_of c.args.parts.now) (state_of c.items.parts) (state_of c.handle_first.new.parts)
+      c.items.invariant.sends c.handle_first.ensures.sends;
+}
+
+pub returns-clause-on : goal.returns-clause-on
+returns-clause-on g c =
+    c.items.invariant.on (Ok tt) (state_of c.items.parts)
+    (desk-ends (state_of c.items.parts)
+    (none-of c.items.parts.desk.items (omega (arith, c.len.ensures, c.items-test.false))))
+
+pub returns-in_err-handle_first-clause-on : goal.returns-in_err-handle_first-clause-on
+returns-in_err-handle_first-clause-on g c =
+    let s = state_of c.args.parts.now in
+    let m = state_of c.handle_first.new.parts in
+    let p = err_from_is_err_and c.from_residual.result c.from_residual.ensures.1 in
+    subst (λ r. Leads r desk_phase s m) (sym (p.1 ∙ ap Err p.2))
+    (c.items.invariant.on (Err _) m c.in_err-handle_first.ensures.on)
+
+pub returns-in_err-handle_first-clause-sends : goal.returns-in_err-handle_first-clause-sends
+returns-in_err-handle_first-clause-sends g c =
+    sending-then (state_of c.args.parts.now) (state_of c.items.parts) (state_of c.handle_first.new.parts)
+    c.items.invariant.sends c.handle_first.ensures.sends

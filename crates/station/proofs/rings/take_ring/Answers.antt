@@ -1,0 +1,129 @@
+use Rattle.std.proofs.Common.{sym, refl, ap, ◌∙◌, subst, arith}
+use Rattle.std.specs.Prelude.{Err, slice_get}
+use Rattle.std.proofs.lemmas.Result.{err_from_is_err_and}
+use Rattle.station_doings.proofs.Places.{moved-peers}
+use Rattle.station.specs.Fits.{state_of}
+use Rattle.station.specs.Leads.{GoesPast}
+use Rattle.station.proofs.Fetching.{drained-last, fetched-goes, fetched-moves, fetched-parts, moved-within}
+use Rattle.station.proofs.Fetching.{place-within, ring-done, ring-starts, with_links}
+use Rattle.station.proofs.Ringing.{drained-none, moved-fetch, moved-take}
+use Rattle.station.proofs.Stepping.{sending-none}
+use Rattle.station.proofs.Working.{moving-then, sending-moves}
+use Rattle.station.proofs.rings.take_ring.Goals as goal
+
+pub loop-frame-init : goal.loop-frame-init
+loop-frame-init g c = record {
+  within = omega arith;
+  fit = c.requires.fit;
+  on = λ first r end leads. leads;
+  moves = sending-moves _ _ (sending-none (state_of c.args.parts.now));
+  taken = moved-within c.args.place c.args.parts.now.links.items c.requires.place;
+  from = c.peer_at-from.ensures;
+}
+
+pub head_at-requires : goal.head_at-requires
+head_at-requires g c =
+    let t = c.loop-frame.invariant.taken in
+    place-within c.args.place c.loop-frame.parts.links.items t.new t.is
+
+pub returns-in-None-clause-drained : goal.returns-in-None-clause-drained
+returns-in-None-clause-drained g c =
+    drained-none c.args.place _ c.args.parts.now.links.items c.head_at.new.links.items
+    (moved-fetch c.args.place _ c.args.parts.now.links.items c.loop-frame.parts.links.items c.head_at.new.links.items
+    c.loop-frame.invariant.taken c.head_at.ensures.fetched) c.in-None.ensures.head
+
+pub returns-in-None-clause-on : goal.returns-in-None-clause-on
+unfolding returns-in-None-clause-drained
+returns-in-None-clause-on g c =
+    let s = state_of c.loop-frame.parts in
+    let m = with_links s c.head_at.new.links.items in
+    ring-done c.args.place (state_of c.args.parts.now) m (returns-in-None-clause-drained g c)
+    (λ first r end leads.
+    c.loop-frame.invariant.on first r end
+    (fetched-goes s c.args.place c.head_at.new.links.items c.head_at.ensures.fetched first r end leads))
+
+pub returns-in-None-clause-moves : goal.returns-in-None-clause-moves
+returns-in-None-clause-moves g c =
+    moving-then (state_of c.args.parts.now) (state_of c.loop-frame.parts) _ c.loop-frame.invariant.moves
+    (fetched-moves (state_of c.loop-frame.parts) c.args.place c.head_at.new.links.items c.head_at.ensures.fetched)
+
+pub returns-in-None-clause-fit : goal.returns-in-None-clause-fit
+returns-in-None-clause-fit g c =
+    fetched-parts c.loop-frame.parts _ c.args.place c.head_at.ensures.fetched refl refl c.loop-frame.invariant.fit
+
+pub take_frame-requires-clause-fit : goal.take_frame-requires-clause-fit
+take_frame-requires-clause-fit g c κs within =
+    fetched-parts c.loop-frame.parts _ c.args.place c.head_at.ensures.fetched refl refl c.loop-frame.invariant.fit
+
+pub take_frame-requires-clause-ahead : goal.take_frame-requires-clause-ahead
+take_frame-requires-clause-ahead g c κs within =
+    let s = state_of c.loop-frame.parts in
+    let m = fetched-moves s c.args.place c.head_at.new.links.items c.head_at.ensures.fetched in
+    record {
+      head = c.in-Some.ensures.head;
+      from =
+          ap (λ ns. slice_get ns c.args.place) (moved-peers s.links c.head_at.new.links.items m.links)
+          ∙ c.loop-frame.invariant.from;
+    }
+
+pub returns-in_err-take_frame-in-Some-clause-on : goal.returns-in_err-take_frame-in-Some-clause-on
+returns-in_err-take_frame-in-Some-clause-on g c =
+    let s = state_of c.args.parts.now in
+    let m = state_of c.take_frame.new.parts in
+    let p = err_from_is_err_and c.from_residual.result c.from_residual.ensures.1 in
+    let t = c.loop-frame.invariant.taken in
+    subst (λ r. GoesPast r c.args.place s m) (sym (p.1 ∙ ap Err p.2))
+    (ring-starts c.args.place t.old (Err _) s m t.was
+    (c.loop-frame.invariant.on t.old (Err _) m
+    (fetched-goes (state_of c.loop-frame.parts) c.args.place c.head_at.new.links.items c.head_at.ensures.fetched t.old
+    (Err _) m (c.in_err-take_frame-in-Some.ensures.on t.old))))
+
+pub returns-in_err-take_frame-in-Some-clause-moves :
+    goal.returns-in_err-take_frame-in-Some-clause-moves
+returns-in_err-take_frame-in-Some-clause-moves g c =
+    let s = state_of c.loop-frame.parts in
+    let mid = with_links s c.head_at.new.links.items in
+    moving-then (state_of c.args.parts.now) s (state_of c.take_frame.new.parts) c.loop-frame.invariant.moves
+    (moving-then s mid (state_of c.take_frame.new.parts)
+    (fetched-moves s c.args.place c.head_at.new.links.items c.head_at.ensures.fetched) c.take_frame.ensures.moves)
+
+pub loop-frame-preserved : goal.loop-frame-preserved
+loop-frame-preserved g c =
+    let first = c.args.parts.now.links.items in
+    let s = state_of c.loop-frame.parts in
+    let links = c.head_at.new.links.items in
+    let mid = with_links s links in
+    let m = state_of c.take_frame.new.parts in
+    let fetched = fetched-moves s c.args.place links c.head_at.ensures.fetched in
+    record {
+      within = omega arith;
+      fit = c.take_frame.ensures.fit;
+      on = λ before r end leads.
+          c.loop-frame.invariant.on before r end
+          (fetched-goes s c.args.place links c.head_at.ensures.fetched before r end
+          (c.in_ok-take_frame-in-Some.ensures.on before r end leads));
+      moves =
+          moving-then (state_of c.args.parts.now) s m c.loop-frame.invariant.moves
+          (moving-then s mid m fetched c.take_frame.ensures.moves);
+      taken =
+          moved-take c.args.place c.loop-frame._frame first links m.links
+          (moved-fetch c.args.place c.loop-frame._frame first s.links links c.loop-frame.invariant.taken
+          c.head_at.ensures.fetched) c.in_ok-take_frame-in-Some.ensures.taken;
+      from =
+          ap (λ ns. slice_get ns c.args.place)
+          (moved-peers links m.links c.take_frame.ensures.moves.links
+          ∙ moved-peers s.links links fetched.links)
+          ∙ c.loop-frame.invariant.from;
+    }
+
+pub returns-clause-drained : goal.returns-clause-drained
+returns-clause-drained g c =
+    drained-last c.args.place c.known_at.result _ c.max-count.result c.loop-frame._frame c.args.parts.now.links.items
+    c.loop-frame.parts.links.items c.loop-frame.invariant.taken c.known_at.ensures c.max-count.ensures
+    (omega (arith, c.loop-frame-test.false))
+
+pub returns-clause-on : goal.returns-clause-on
+unfolding returns-clause-drained
+returns-clause-on g c =
+    ring-done c.args.place (state_of c.args.parts.now) (state_of c.loop-frame.parts) (returns-clause-drained g c)
+    c.loop-frame.invariant.on

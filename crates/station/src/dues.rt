@@ -1,0 +1,68 @@
+//! The frames that are held and are due.
+
+ghost use Rattle.std.specs.Prelude.{◌≡◌, ◌<◌, OnOk, length, true};
+ghost use Rattle.station_doings.specs.Phases.{due_phase};
+ghost use Rattle.station.specs.Fits.{PartsFit, state_of};
+ghost use Rattle.station.specs.Leads.{GoesOn, IsSending, Leads};
+ghost use Rattle.station.specs.Dues.{is_first_due};
+
+use crate::halts::Halt;
+use crate::parts::{Parts, enter, is_able};
+use ason_base::Event;
+use ason_io::Gate;
+use controller::CoreInput;
+use station_doings::HeldParcel;
+
+/// After so many ticks a frame that is held is due.
+const TICKS_HELD: u64 = 2;
+
+// Whether the first parcel is due.
+fn is_first_due(held: &[HeldParcel]) -> bool
+    ensures { result ≡ is_first_due held.now }
+{
+    match held {
+        [] => false,
+        [first, ..] => first.ticks >= TICKS_HELD,
+    }
+}
+
+// The first parcel is let go and delivered. It is lost where memory is wanting.
+fn free_first<G: Gate>(parts: &mut Parts, gate: &G) -> Result<(), Halt>
+    requires fit { PartsFit parts.old }
+    requires due { is_first_due parts.old.held.items ≡ true }
+    ensures on { GoesOn result due_phase (state_of parts.old) (state_of parts.new) }
+    ensures fewer { OnOk result
+        (length parts.new.held.items < length parts.old.held.items) }
+    ensures sends { IsSending (state_of parts.old) (state_of parts.new) }
+    ensures fit { PartsFit parts.new }
+{
+    let stamp = parts.clock.max(parts.held[0].parcel.stamp);
+    if !is_able(parts, stamp) {
+        return Err(Halt::AtLimit);
+    }
+    let HeldParcel { from, parcel, .. } = parts.held.remove(0);
+    let event = Event::Deliver {
+        to: parts.me,
+        from,
+        number: parcel.number,
+    };
+    let input = CoreInput::Frame {
+        from,
+        bytes: parcel.frame,
+    };
+    enter(parts, gate, &input, event, stamp + 1)?;
+    Ok(())
+}
+
+/// The parcels that are due are let go and delivered, in the order of their taking.
+pub(crate) fn free_due<G: Gate>(parts: &mut Parts, gate: &G) -> Result<(), Halt>
+    requires fit { PartsFit parts.old }
+    ensures on { Leads result due_phase (state_of parts.old) (state_of parts.new) }
+    ensures sends { IsSending (state_of parts.old) (state_of parts.new) }
+    ensures fit { PartsFit parts.new }
+{
+    'dues: while is_first_due(&parts.held) {
+        free_first(parts, gate)?;
+    }
+    Ok(())
+}

@@ -1,0 +1,63 @@
+//! The items of the desk.
+
+ghost use Rattle.std.specs.Prelude.{◌≡◌, ◌<◌, ◌∷◌, OnOk, length};
+ghost use Rattle.ason_base.specs.declared.commands.DeskItem.{DeskItem};
+ghost use Rattle.control_channels.specs.declared.inputs.CoreInput.{CoreInput};
+ghost use Rattle.station_doings.specs.Phases.{desk_phase};
+ghost use Rattle.station.specs.Fits.{PartsFit, state_of};
+ghost use Rattle.station.specs.Leads.{GoesOn, IsSending, Leads};
+
+use crate::desks::Desk;
+use crate::halts::Halt;
+use crate::parts::{Parts, enter, is_able};
+use ason_base::Event;
+use ason_io::Gate;
+use controller::CoreInput;
+
+// Puts the item of this input back to its place.
+fn restore(desk: &mut Desk, input: CoreInput)
+    requires { 0 < desk.old.spare }
+    ensures { (i : DeskItem) → input ≡ CoreInput.Desk i → desk.new.items ≡ i ∷ desk.old.items }
+{
+    if let CoreInput::Desk(item) = input {
+        desk.put_back(item);
+    }
+}
+
+// The controller handles the first item, which stays on the desk where memory is wanting.
+fn handle_first<G: Gate>(parts: &mut Parts, gate: &G) -> Result<(), Halt>
+    requires fit { PartsFit parts.old }
+    requires some { 0 < length parts.old.desk.items }
+    ensures on { GoesOn result desk_phase (state_of parts.old) (state_of parts.new) }
+    ensures fewer { OnOk result
+        (length parts.new.desk.items < length parts.old.desk.items) }
+    ensures sends { IsSending (state_of parts.old) (state_of parts.new) }
+    ensures fit { PartsFit parts.new }
+{
+    if !is_able(parts, parts.clock) {
+        return Err(Halt::AtLimit);
+    }
+    let event = Event::Desk { node: parts.me };
+    let stamp = parts.clock + 1;
+    let input = CoreInput::Desk(parts.desk.pop());
+    match enter(parts, gate, &input, event, stamp) {
+        Ok(()) => Ok(()),
+        Err(_) => {
+            restore(&mut parts.desk, input);
+            Err(Halt::OutOfMemory)
+        }
+    }
+}
+
+/// All items of the desk are handled.
+pub(crate) fn handle_desk<G: Gate>(parts: &mut Parts, gate: &G) -> Result<(), Halt>
+    requires fit { PartsFit parts.old }
+    ensures on { Leads result desk_phase (state_of parts.old) (state_of parts.new) }
+    ensures sends { IsSending (state_of parts.old) (state_of parts.new) }
+    ensures fit { PartsFit parts.new }
+{
+    'items: while parts.desk.len() > 0 {
+        handle_first(parts, gate)?;
+    }
+    Ok(())
+}

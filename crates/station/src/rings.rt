@@ -1,0 +1,197 @@
+//! The frames of the rings.
+
+ghost use Rattle.std.specs.Prelude.{◌≡◌, ◌<◌, ◌≤◌, ◌+◌, ◌++◌, ◌∷◌, [], None, OnOk, Ok, Some, length, vec_capacity, vec_len};
+ghost use Rattle.std.specs.List.{AllZip};
+ghost use Rattle.ason_base.specs.declared.commands.DisturbKind.{DisturbKind};
+ghost use Rattle.round_rules.specs.Lines.{says};
+ghost use Rattle.station_doings.specs.Phases.{rings_phase};
+ghost use Rattle.station_doings.specs.Moves.{IsDrained};
+ghost use Rattle.station.specs.Fits.{PartsFit, state_of};
+ghost use Rattle.station.specs.Leads.{GoesOnAt, GoesPast, IsMoving, Leads};
+ghost use Rattle.station.specs.Rings.{HasTakenAt, IsAhead, IsDrainedAt, TakesIn};
+
+use crate::halts::Halt;
+use crate::lines::says;
+use crate::links::{Ahead, head_at, known_at, peer_at, take_at};
+use crate::parts::{Parts, enter, is_able};
+use ason_base::{DisturbKind, Event};
+use ason_io::Gate;
+use controller::CoreInput;
+use station_doings::HeldParcel;
+use station_rings::MOST_FRAMES;
+
+// The frame is taken, and not delivered.
+fn lose(parts: &mut Parts, ahead: Ahead)
+    requires fit { PartsFit parts.old }
+    requires ahead { IsAhead ahead parts.old.links.items }
+    requires says { says parts.old.lines.items ahead.from parts.old.me ahead.head.number ≡
+        Some DisturbKind.Lose }
+    ensures on { GoesOnAt (Ok tt) ahead.place (state_of parts.old) (state_of parts.new) }
+    ensures taken { HasTakenAt ahead.place parts.old.links.items parts.new.links.items }
+    ensures moves { IsMoving (state_of parts.old) (state_of parts.new) }
+    ensures fit { PartsFit parts.new }
+{
+    let _lost = take_at(&mut parts.links, ahead.place);
+}
+
+// Puts a parcel at the end, where there is room for it.
+fn keep(held: &mut Vec<HeldParcel>, parcel: HeldParcel)
+    requires { vec_len held.old + 1 ≤ vec_capacity held.old }
+    ensures { held.new.items ≡ held.old.items ++ parcel ∷ [] }
+{
+    match held.push(parcel) {
+        Ok(()) => {}
+        Err(_) => unreachable!(),
+    }
+}
+
+// The frame is taken, and held back.
+fn hold(parts: &mut Parts, ahead: Ahead) -> Result<(), Halt>
+    requires fit { PartsFit parts.old }
+    requires ahead { IsAhead ahead parts.old.links.items }
+    requires says { says parts.old.lines.items ahead.from parts.old.me ahead.head.number ≡
+        Some DisturbKind.Hold }
+    ensures on { GoesOnAt result ahead.place (state_of parts.old) (state_of parts.new) }
+    ensures taken { OnOk result
+        (HasTakenAt ahead.place parts.old.links.items parts.new.links.items) }
+    ensures moves { IsMoving (state_of parts.old) (state_of parts.new) }
+    ensures fit { PartsFit parts.new }
+{
+    if parts.held.reserve(1).is_err() {
+        return Err(Halt::OutOfMemory);
+    }
+    let parcel = take_at(&mut parts.links, ahead.place);
+    let from = ahead.from;
+    keep(
+        &mut parts.held,
+        HeldParcel {
+            from,
+            parcel,
+            ticks: 0,
+        },
+    );
+    Ok(())
+}
+
+// The frame is taken and delivered, as this input. It is lost where memory is wanting.
+fn take_in<G: Gate>(parts: &mut Parts, gate: &G, ahead: Ahead) -> Result<CoreInput, Halt>
+    requires fit { PartsFit parts.old }
+    requires ahead { IsAhead ahead parts.old.links.items }
+    ensures takes { TakesIn result ahead (state_of parts.old) (state_of parts.new) }
+    ensures fit { PartsFit parts.new }
+{
+    let stamp = parts.clock.max(ahead.head.stamp);
+    if !is_able(parts, stamp) {
+        return Err(Halt::AtLimit);
+    }
+    let parcel = take_at(&mut parts.links, ahead.place);
+    let event = Event::Deliver {
+        to: parts.me,
+        from: ahead.from,
+        number: parcel.number,
+    };
+    let input = CoreInput::Frame {
+        from: ahead.from,
+        bytes: parcel.frame,
+    };
+    enter(parts, gate, &input, event, stamp + 1)?;
+    Ok(input)
+}
+
+// The frame is taken and delivered.
+fn deliver<G: Gate>(parts: &mut Parts, gate: &G, ahead: Ahead) -> Result<(), Halt>
+    requires fit { PartsFit parts.old }
+    requires ahead { IsAhead ahead parts.old.links.items }
+    requires says { says parts.old.lines.items ahead.from parts.old.me ahead.head.number ≡ None }
+    ensures on { GoesOnAt result ahead.place (state_of parts.old) (state_of parts.new) }
+    ensures taken { OnOk result
+        (HasTakenAt ahead.place parts.old.links.items parts.new.links.items) }
+    ensures moves { IsMoving (state_of parts.old) (state_of parts.new) }
+    ensures fit { PartsFit parts.new }
+{
+    let _input = take_in(parts, gate, ahead)?;
+    Ok(())
+}
+
+// The frame is taken, and delivered twice.
+fn repeat<G: Gate>(parts: &mut Parts, gate: &G, ahead: Ahead) -> Result<(), Halt>
+    requires fit { PartsFit parts.old }
+    requires ahead { IsAhead ahead parts.old.links.items }
+    requires says { says parts.old.lines.items ahead.from parts.old.me ahead.head.number ≡
+        Some DisturbKind.Repeat }
+    ensures on { GoesOnAt result ahead.place (state_of parts.old) (state_of parts.new) }
+    ensures taken { OnOk result
+        (HasTakenAt ahead.place parts.old.links.items parts.new.links.items) }
+    ensures moves { IsMoving (state_of parts.old) (state_of parts.new) }
+    ensures fit { PartsFit parts.new }
+{
+    let input = take_in(parts, gate, ahead)?;
+    let stamp = parts.clock.max(ahead.head.stamp);
+    if !is_able(parts, stamp) {
+        return Err(Halt::AtLimit);
+    }
+    let event = Event::Deliver {
+        to: parts.me,
+        from: ahead.from,
+        number: ahead.head.number,
+    };
+    enter(parts, gate, &input, event, stamp + 1)?;
+    Ok(())
+}
+
+// What the last line that names the frame says is done with it.
+fn take_frame<G: Gate>(parts: &mut Parts, gate: &G, ahead: Ahead) -> Result<(), Halt>
+    requires fit { PartsFit parts.old }
+    requires ahead { IsAhead ahead parts.old.links.items }
+    ensures on { GoesOnAt result ahead.place (state_of parts.old) (state_of parts.new) }
+    ensures taken { OnOk result
+        (HasTakenAt ahead.place parts.old.links.items parts.new.links.items) }
+    ensures moves { IsMoving (state_of parts.old) (state_of parts.new) }
+    ensures fit { PartsFit parts.new }
+{
+    match says(&parts.lines, ahead.from, parts.me, ahead.head.number) {
+        None => deliver(parts, gate, ahead),
+        Some(DisturbKind::Repeat) => repeat(parts, gate, ahead),
+        Some(DisturbKind::Hold) => hold(parts, ahead),
+        Some(DisturbKind::Lose) => {
+            lose(parts, ahead);
+            Ok(())
+        }
+    }
+}
+
+// The frames of the ring at this place are taken until none is found there: 256, and never fewer than were known.
+fn take_ring<G: Gate>(parts: &mut Parts, gate: &G, place: usize) -> Result<(), Halt>
+    requires fit { PartsFit parts.old }
+    requires place { place < length parts.old.links.items }
+    ensures on { GoesPast result place (state_of parts.old) (state_of parts.new) }
+    ensures drained { OnOk result
+        (IsDrainedAt place parts.old.links.items parts.new.links.items) }
+    ensures moves { IsMoving (state_of parts.old) (state_of parts.new) }
+    ensures fit { PartsFit parts.new }
+{
+    let from = peer_at(&parts.links, place);
+    let count = known_at(&parts.links, place).max(MOST_FRAMES);
+    for _frame in 0..count {
+        match head_at(&mut parts.links, place) {
+            None => return Ok(()),
+            Some(head) => take_frame(parts, gate, Ahead { place, from, head })?,
+        }
+    }
+    Ok(())
+}
+
+/// The frames of all rings are taken, by neighbour.
+pub(crate) fn take_rings<G: Gate>(parts: &mut Parts, gate: &G) -> Result<(), Halt>
+    requires fit { PartsFit parts.old }
+    ensures on { Leads result (rings_phase 0) (state_of parts.old) (state_of parts.new) }
+    ensures drained { OnOk result (AllZip IsDrained parts.old.links.items parts.new.links.items) }
+    ensures moves { IsMoving (state_of parts.old) (state_of parts.new) }
+    ensures fit { PartsFit parts.new }
+{
+    let count = parts.links.len();
+    for place in 0..count {
+        take_ring(parts, gate, place)?;
+    }
+    Ok(())
+}

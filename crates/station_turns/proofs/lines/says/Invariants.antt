@@ -1,6 +1,0 @@
-use Rattle.std.proofs.Common.{◌≡◌, take}
-use Rattle.round_rules.specs.Lines.{says}
-use Rattle.station_turns.proofs.lines.says.Given as goal
-
-abbrev pub invariant-loop-line : goal.invariant-loop-line
-invariant-loop-line l = l.said ≡ says (take l.line-index l.lines) l.from l.to l.number
