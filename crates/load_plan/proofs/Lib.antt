@@ -1,0 +1,5 @@
+mod NameTexts
+mod OneMore
+mod OtherEnds
+mod Postable
+mod Topologies
