@@ -14,4 +14,4 @@ pub use best::best_text;
 pub use fault_text::refused_text;
 pub use routes::route_text;
 pub use survey::survey_text;
-pub use table::{write_stopped, write_table, write_unsettled};
+pub use table::{call_name, node_name, write_stopped, write_table, write_unsettled};

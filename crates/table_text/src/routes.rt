@@ -130,7 +130,8 @@ pub(crate) fn push_route(
     Ok(())
 }
 
-fn push_links(text: &mut String, steps: &[Step]) -> Result<(), OutOfMemory>
+/// Appends the steps' links, with commas between them.
+pub fn push_links(text: &mut String, steps: &[Step]) -> Result<(), OutOfMemory>
     ensures { OnOk result (Appends text.old text.new (links_text steps.now)) }
 {
     match steps {

@@ -85,7 +85,8 @@ fn push_group_after(text: &mut String, word: &str, group: Group) -> Result<(), O
     push_group(text, group)
 }
 
-fn push_group(text: &mut String, group: Group) -> Result<(), OutOfMemory>
+/// Appends a group, as `srlg N` or `link N`.
+pub fn push_group(text: &mut String, group: Group) -> Result<(), OutOfMemory>
     ensures { OnOk result (Appends text.old text.new (group_text group)) }
 {
     match group {

@@ -267,7 +267,7 @@ fn push_code(text: &mut String, code: ErrCode) -> Result<(), OutOfMemory>
 }
 
 /// The node's name; empty where the plan has no such node.
-pub(crate) fn node_name(plan: &Plan, node: NodeId) -> &str
+pub fn node_name(plan: &Plan, node: NodeId) -> &str
     ensures { result.now ≡ node_name plan.now node }
 {
     match node_place(plan, node) {
@@ -283,7 +283,7 @@ fn node_place(plan: &Plan, node: NodeId) -> Option<usize>
 }
 
 /// The call's name; empty where the plan has no such call.
-pub(crate) fn call_name(plan: &Plan, call: CallNo) -> &str
+pub fn call_name(plan: &Plan, call: CallNo) -> &str
     ensures { result.now ≡ call_name plan.now call }
 {
     name_at(plan.call_names.items(), usize::from(call.0))

@@ -1,0 +1,14 @@
+mod BytesTold
+mod Decimals
+mod Digits
+mod EntriesTold
+mod LinesTold
+mod MergesCome
+mod NamesTold
+mod OneReading
+mod Parts
+mod ReadOn
+mod Streaming
+mod TablesTold
+mod TextsParted
+mod TracesTold

@@ -1,0 +1,91 @@
+-- Lines that are written while their entries come.
+use Rattle.std.proofs.Common.{◌≡◌, ◌∙◌, ℕ, List, [], ◌∷◌, ◌++◌, Option, Some, length, map, take, refl, ap, sym, subst, append_assoc}
+use Rattle.std.specs.Io.KnownBytes.{Appends}
+use Rattle.std.specs.Iterator.{Drains, Yields}
+use Rattle.std.proofs.KnownBytes.{Appends-trans}
+use Rattle.std.proofs.lemmas.List.{append-nil, length-map}
+use Rattle.ason_base.specs.declared.calls.TableRows.{TableRows}
+use Rattle.ason_base.specs.declared.commands.EntryRef.{EntryRef}
+use Rattle.log_merge.specs.Lines.{line_of}
+use Rattle.plan_reader.specs.declared.plan.Plan.{Plan}
+use Rattle.trace_text.specs.EntryLines.{entry_line}
+use Rattle.trace_text.specs.TraceText.{end_text, head_text}
+use Rattle.trace_text.specs.Written.{AppendsPart, StoppedAtEnd, StoppedAtEntry, WroteEntries, WroteTrace, lines_of}
+
+-- a line more
+pub lines_more : (p : Plan) (es : List EntryRef) (e : EntryRef) →
+    lines_of p (es ++ e ∷ []) ≡ lines_of p es ++ entry_line p (line_of e)
+lines_more p [] e = append-nil (entry_line p (line_of e))
+lines_more p (x ∷ es) e =
+    ap (λ (l : List ℕ). entry_line p (line_of x) ++ l) (lines_more p es e)
+    ∙ sym (append_assoc (entry_line p (line_of x)) (lines_of p es) (entry_line p (line_of e)))
+
+yields_more : {S A : Type 0} (gives : S → Option A → S → Type 0) (s : S) (xs : List A) (t u : S) (x : A) →
+    Yields gives s xs t → gives t (Some x) u → Yields gives s (xs ++ x ∷ []) u
+yields_more gives s [] t u x e step = (u, subst (λ z. gives z (Some x) u) (sym e) step, refl)
+yields_more gives s (y ∷ ys) t u x (j, first, others) step =
+    (j, first, yields_more gives j ys t u x others step)
+
+-- the lines of those before were written, and the last one's in part
+pub stopped : {I : Type 0} (gives : I → Option EntryRef → I → Type 0) (items begun middle state : I) (p : Plan)
+    (before : List EntryRef) (last : EntryRef) (a b c : Option (List ℕ)) → begun ≡ items →
+    Yields gives begun before middle →
+    gives middle (Some last) state → Appends a b (lines_of p before) → AppendsPart b c (entry_line p (line_of last)) →
+    StoppedAtEntry gives items p [] a c
+stopped gives items begun middle state p before last a b c is came step lines (n, part, written) = record {
+  before = before;
+  last = last;
+  state = state;
+  came = subst (λ z. Yields gives z (before ++ last ∷ []) state) is
+      (yields_more gives begun before middle state last came step);
+  count = n;
+  part = part;
+  written = Appends-trans a b c (lines_of p before) (take n (entry_line p (line_of last))) lines written;
+}
+
+-- behind the head the same stands
+pub stopped_behind : {I : Type 0} (gives : I → Option EntryRef → I → Type 0) (items : I) (p : Plan) (front : List ℕ)
+    (a b c : Option (List ℕ)) → Appends a b front → StoppedAtEntry gives items p [] b c →
+    StoppedAtEntry gives items p front a c
+stopped_behind gives items p front a b c head s =
+    let part = take s.count (entry_line p (line_of s.last)) in
+    record {
+      before = s.before;
+      last = s.last;
+      state = s.state;
+      came = s.came;
+      count = s.count;
+      part = s.part;
+      written = subst (Appends a c) (sym (append_assoc front (lines_of p s.before) part))
+          (Appends-trans a b c front (lines_of p s.before ++ part) head s.written);
+    }
+
+-- all lines were written, and the end in part
+pub stopped_at_end : {I : Type 0} (gives : I → Option EntryRef → I → Type 0) (items : I) (p : Plan) (front : List ℕ)
+    (rows : TableRows) (a b c d : Option (List ℕ)) → Appends a b front → WroteEntries gives items p b c →
+    AppendsPart c d (end_text p rows) → StoppedAtEnd gives items p front rows a d
+stopped_at_end gives items p front rows a b c d head es (n, part, written) = record {
+  entries = es.entries;
+  came = es.came;
+  count = n;
+  part = part;
+  written = Appends-trans a c d (front ++ lines_of p es.entries) (take n (end_text p rows))
+      (Appends-trans a b c front (lines_of p es.entries) head es.written) written;
+}
+
+-- the head, all lines and the end were written
+pub wrote_trace : {I : Type 0} (gives : I → Option EntryRef → I → Type 0) (items : I) (p : Plan) (plan_bytes : List ℕ)
+    (count : ℕ) (rows : TableRows) (a b c d : Option (List ℕ)) →
+    ((es : List EntryRef) → Drains gives items es → length es ≡ count) → Appends a b (head_text plan_bytes count) →
+    WroteEntries gives items p b c → Appends c d (end_text p rows) → WroteTrace gives items p plan_bytes rows a d
+wrote_trace gives items p plan_bytes count rows a b c d counted head es end =
+    let many : length (map line_of es.entries) ≡ count = length-map es.entries line_of ∙ counted es.entries es.came in
+    record {
+      entries = es.entries;
+      came = es.came;
+      written = Appends-trans a c d (head_text plan_bytes (length (map line_of es.entries)) ++ lines_of p es.entries)
+          (end_text p rows)
+          (Appends-trans a b c (head_text plan_bytes (length (map line_of es.entries))) (lines_of p es.entries)
+          (subst (λ n. Appends a b (head_text plan_bytes n)) (sym many) head) es.written)
+          end;
+    }

@@ -1,0 +1,13 @@
+use Rattle.trace_text.proofs.EntriesTold.{all_read}
+use Rattle.trace_text.proofs.LinesTold.{line_read}
+use Rattle.trace_text.proofs.TracesTold.{trace_read}
+use Rattle.trace_text.proofs.laws.every_trace.Goals as goal
+
+pub returns-clause-line : goal.returns-clause-line
+returns-clause-line c = line_read
+
+pub returns-clause-lines : goal.returns-clause-lines
+returns-clause-lines c = all_read
+
+pub returns-clause-trace : goal.returns-clause-trace
+returns-clause-trace c = trace_read

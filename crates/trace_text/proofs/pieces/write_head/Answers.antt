@@ -1,0 +1,64 @@
+use Rattle.std.proofs.Common.{◌≡◌, ◌∙◌, ◌++◌, length, subst}
+use Rattle.std.proofs.KnownBytes.{Appends-trans}
+use Rattle.std.specs.Io.KnownBytes.{Appends}
+use Rattle.ason_base.proofs.Results.{on_err, on_ok}
+use Rattle.trace_text.specs.TraceText.{events_line, plan_line}
+use Rattle.trace_text.specs.Written.{AppendsPart}
+use Rattle.trace_text.proofs.Parts.{err_has, part_first, part_second}
+use Rattle.trace_text.proofs.pieces.write_head.Goals as goal
+
+pub returns-in_err-write_piece-clause-part : goal.returns-in_err-write_piece-clause-part
+returns-in_err-write_piece-clause-part g c =
+    let a = g.K.Sink.written c.args.out.now in
+    let b = g.K.Sink.written c.write_piece.new.out in
+    let plan = c.args.plan_bytes.now in
+    let line = plan_line (length plan) in
+    let first : c.as_bytes.result.now ≡ line = c.as_bytes.ensures.value ∙ c.in_ok-first.ensures in
+    err_has c.from_residual-in_err-write_piece.result _
+    (part_first a b (line ++ plan) (events_line c.args.count)
+    (part_first a b line plan (subst (AppendsPart a b) first c.in_err-write_piece.ensures.part)))
+
+pub returns-in_err-write_piece-2-clause-part : goal.returns-in_err-write_piece-2-clause-part
+returns-in_err-write_piece-2-clause-part g c =
+    let a = g.K.Sink.written c.args.out.now in
+    let b = g.K.Sink.written c.write_piece.new.out in
+    let d = g.K.Sink.written c.write_piece-2.new.out in
+    let plan = c.args.plan_bytes.now in
+    let line = plan_line (length plan) in
+    let first : c.as_bytes.result.now ≡ line = c.as_bytes.ensures.value ∙ c.in_ok-first.ensures in
+    err_has c.from_residual-in_err-write_piece-2.result _
+    (part_first a d (line ++ plan) (events_line c.args.count)
+    (part_second a b d line plan (subst (Appends a b) first c.in_ok-write_piece.ensures.all)
+    c.in_err-write_piece-2.ensures.part))
+
+pub returns-clause-all : goal.returns-clause-all
+returns-clause-all g c =
+    let a = g.K.Sink.written c.args.out.now in
+    let b = g.K.Sink.written c.write_piece.new.out in
+    let d = g.K.Sink.written c.write_piece-2.new.out in
+    let e = g.K.Sink.written c.write_piece-3.new.out in
+    let plan = c.args.plan_bytes.now in
+    let line = plan_line (length plan) in
+    let first : c.as_bytes.result.now ≡ line = c.as_bytes.ensures.value ∙ c.in_ok-first.ensures in
+    let last : c.as_bytes-2.result.now ≡ events_line c.args.count = c.as_bytes-2.ensures.value ∙ c.in_ok-last.ensures in
+    let both = Appends-trans a b d line plan (subst (Appends a b) first c.in_ok-write_piece.ensures.all)
+    c.in_ok-write_piece-2.ensures.all in
+    on_ok c.write_piece-3.result _ _
+    (λ wrote. Appends-trans a d e (line ++ plan) (events_line c.args.count) both (subst (Appends d e) last wrote))
+    c.write_piece-3.ensures.all
+
+pub returns-clause-part : goal.returns-clause-part
+returns-clause-part g c =
+    let a = g.K.Sink.written c.args.out.now in
+    let b = g.K.Sink.written c.write_piece.new.out in
+    let d = g.K.Sink.written c.write_piece-2.new.out in
+    let e = g.K.Sink.written c.write_piece-3.new.out in
+    let plan = c.args.plan_bytes.now in
+    let line = plan_line (length plan) in
+    let first : c.as_bytes.result.now ≡ line = c.as_bytes.ensures.value ∙ c.in_ok-first.ensures in
+    let last : c.as_bytes-2.result.now ≡ events_line c.args.count = c.as_bytes-2.ensures.value ∙ c.in_ok-last.ensures in
+    let both = Appends-trans a b d line plan (subst (Appends a b) first c.in_ok-write_piece.ensures.all)
+    c.in_ok-write_piece-2.ensures.all in
+    on_err c.write_piece-3.result _ _
+    (λ wrote. part_second a d e (line ++ plan) (events_line c.args.count) both (subst (AppendsPart d e) last wrote))
+    c.write_piece-3.ensures.part

@@ -1,0 +1,11 @@
+pub mod CommandText
+pub mod EntryForms
+pub mod EntryLines
+pub mod LinesRead
+pub mod Merges
+pub mod RoundTrip
+pub mod TraceForms
+pub mod TraceRead
+pub mod TraceText
+pub mod Words
+pub mod Written

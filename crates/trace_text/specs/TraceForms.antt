@@ -1,0 +1,94 @@
+-- The parts of a trace around its entries, and what is wrong first.
+use Rattle.std.specs.Prelude.{ℕ, ◌+◌, ◌-◌, ◌==◌, ◌&&◌, ◌||◌, nat_le, List, [], ◌∷◌, Option, Some, None, Result, Ok, Err, bytes_eq, codes, drop, length, take, if◌then◌else◌}
+use Rattle.ason_base.specs.declared.commands.Entry.{Entry}
+use Rattle.ason_base.specs.declared.numerals.NumeralFault.{NumeralFault}
+use Rattle.ason_base.specs.declared.numerals.NumeralFault.TheVariants.{NoNumber, OutOfRange}
+use Rattle.ason_base.specs.Numerals.{number_within}
+use Rattle.plan_reader.specs.declared.plan.Plan.{Plan}
+use Rattle.trace_text.specs.EntryForms.{stamp_of}
+use Rattle.trace_text.specs.LinesRead.{LinesRead, lines_from}
+use Rattle.trace_text.specs.Words.{behind_word, parted}
+use Rattle.trace_text.specs.declared.forms.Form.{Form}
+
+-- Head
+
+-- so many bytes, and what is behind the newline after them
+abbrev pub plan_within : List ℕ → Option ℕ → Option (List ℕ × List ℕ)
+plan_within bytes None = None
+plan_within bytes (Some n) =
+    if bytes_eq (take 1 (drop n bytes)) (10 ∷ []) then Some (take n bytes, drop (n + 1) bytes) else None
+
+abbrev pub number_in : Option (List ℕ) → Option ℕ
+number_in None = None
+number_in (Some word) = stamp_of word
+
+abbrev pub plan_in : Option (List ℕ × List ℕ) → Option (List ℕ × List ℕ)
+plan_in None = None
+plan_in (Some (line, rest)) = plan_within rest (number_in (behind_word (codes "plan ") line))
+
+abbrev pub plan_behind : Option (List ℕ × List ℕ) → Option (List ℕ × List ℕ)
+plan_behind None = None
+plan_behind (Some (line, rest)) = if bytes_eq line (codes "ason-trace 1") then plan_in (parted 10 rest) else None
+
+-- the plan's bytes, and what is behind the newline after them: the two head lines, so many bytes and a newline
+abbrev pub head_of : List ℕ → Option (List ℕ × List ℕ)
+head_of bytes = plan_behind (parted 10 bytes)
+
+-- Entries
+
+-- a count above all that could be there counts as the greatest
+abbrev pub count_of : Result ℕ NumeralFault → Option ℕ
+count_of (Ok n) = Some n
+count_of (Err NoNumber) = None
+count_of (Err OutOfRange) = Some 18446744073709551615
+
+abbrev pub count_in : Option (List ℕ) → Option ℕ
+count_in None = None
+count_in (Some word) = count_of (number_within 0 18446744073709551615 word)
+
+-- End
+
+-- what is before the line `end` at the very end
+abbrev pub table_in : Option (List ℕ) → Option (List ℕ)
+table_in None = None
+table_in (Some body) =
+    if nat_le 4 (length body) && (bytes_eq (drop (length body - 4) body) (codes "end\n")
+    && (length body == 4 || bytes_eq (take 1 (drop (length body - 5) body)) (10 ∷ [])))
+    then Some (take (length body - 4) body)
+    else None
+
+-- the table, which stands between the lines `table` and `end`, and nothing after these
+abbrev pub table_of : List ℕ → Option (List ℕ)
+table_of bytes = table_in (behind_word (codes "table\n") bytes)
+
+-- What is behind the plan
+
+abbrev pub with_table : List Entry → Option (List ℕ) → Result (List Entry × List ℕ) ℕ
+with_table entries None = Err (length entries + 1)
+with_table entries (Some table) = Ok (entries, table)
+
+abbrev pub or_index : List Entry → Option ℕ → List ℕ → Result (List Entry × List ℕ) ℕ
+or_index entries (Some i) rest = Err i
+or_index entries None rest = with_table entries (table_of rest)
+
+abbrev pub of_lines : LinesRead → Result (List Entry × List ℕ) ℕ
+of_lines ls = or_index ls.entries ls.wrong ls.rest
+
+abbrev pub counted : Plan → List ℕ → Option ℕ → Result (List Entry × List ℕ) ℕ
+counted p body None = Err 0
+counted p body (Some count) = of_lines (lines_from p p.lines None count 1 body)
+
+abbrev pub events_in : Plan → Option (List ℕ × List ℕ) → Result (List Entry × List ℕ) ℕ
+events_in p None = Err 0
+events_in p (Some (line, body)) = counted p body (count_in (behind_word (codes "events ") line))
+
+-- The entries and the table behind a plan, or the first index that is wrong: 0 for the line that tells how many entries
+-- there are, the entry's number from 1, or one more than there are for what follows them.
+abbrev pub form_of : Plan → List ℕ → Result (List Entry × List ℕ) ℕ
+form_of p rest = events_in p (parted 10 rest)
+
+-- Views
+
+abbrev pub form_now : Result Form ℕ → Result (List Entry × List ℕ) ℕ
+form_now (Ok form) = Ok (form.entries.items, form.table.now)
+form_now (Err i) = Err i

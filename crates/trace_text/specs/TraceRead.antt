@@ -1,0 +1,56 @@
+-- What the bytes of a trace are read as.
+use Rattle.std.specs.Prelude.{◌≡◌, ◌⊎◌, ℕ, List, Some, None, Result, Ok, Err}
+use Rattle.plan_reader.specs.declared.faults.PlanError.{PlanError}
+use Rattle.plan_reader.specs.declared.faults.PlanError.TheVariants as plan_errors
+use Rattle.plan_reader.specs.declared.faults.PlanFault.{PlanFault}
+use Rattle.plan_reader.specs.declared.plan.Plan.{Plan}
+use Rattle.plan_reader.specs.Plans.{PlanOf}
+use Rattle.trace_text.specs.TraceForms.{form_of, head_of}
+use Rattle.trace_text.specs.declared.read.Trace.{Trace}
+use Rattle.trace_text.specs.declared.read.TraceFault.{TraceFault}
+use Rattle.trace_text.specs.declared.read.TraceFault.TheVariants.{NotRun, Plan as RefusedPlan, OutOfMemory}
+
+-- The bytes are of the form of a trace of this plan with these entries and this table.
+pub record IsTraceOf (bytes : List ℕ) (trace : Trace) : Type 0 where
+  pub rest : List ℕ
+  pub head : head_of bytes ≡ Some (trace.plan_bytes, rest)
+  pub plan : PlanOf trace.plan_bytes (Ok trace.plan)
+  pub form : form_of trace.plan rest ≡ Ok (trace.entries, trace.table)
+
+-- Behind the head of a plan without fault this index is the first that is wrong.
+pub record IsWrongBehind (bytes : List ℕ) (i : ℕ) : Type 0 where
+  pub plan_bytes : List ℕ
+  pub rest : List ℕ
+  pub plan : Plan
+  pub head : head_of bytes ≡ Some (plan_bytes, rest)
+  pub spelled : PlanOf plan_bytes (Ok plan)
+  pub form : form_of plan rest ≡ Err i
+
+-- This index is the first that is wrong: 0 where there is no head.
+abbrev pub IsFirstWrong : List ℕ → ℕ → Type 0
+IsFirstWrong bytes i = ((head_of bytes ≡ None) × (i ≡ 0)) ⊎ IsWrongBehind bytes i
+
+-- There is a head, and this is the first fault of the plan in it.
+pub record IsRefused (bytes : List ℕ) (fault : PlanFault) : Type 0 where
+  pub plan_bytes : List ℕ
+  pub rest : List ℕ
+  pub head : head_of bytes ≡ Some (plan_bytes, rest)
+  pub spelled : PlanOf plan_bytes (Err fault)
+
+-- what `read_trace` answers; want of memory may come at any time
+abbrev pub ReadsAs : List ℕ → Result Trace TraceFault → Type 0
+ReadsAs bytes (Ok trace) = IsTraceOf bytes trace
+ReadsAs bytes (Err (NotRun i)) = IsFirstWrong bytes i
+ReadsAs bytes (Err (RefusedPlan fault)) = IsRefused bytes fault
+ReadsAs bytes (Err OutOfMemory) = Unit {0}
+
+-- a plan's error as that of a trace
+abbrev pub trace_fault : PlanError → TraceFault
+trace_fault (plan_errors.Fault f) = RefusedPlan f
+trace_fault plan_errors.OutOfMemory = OutOfMemory
+
+-- bytes are read as one thing alone, want of memory aside
+abbrev pub EveryReadingIsOne : Type 0
+EveryReadingIsOne =
+    (bytes : List ℕ) (r s : Result Trace TraceFault) → ReadsAs bytes r → ReadsAs bytes s →
+    (r ≡ Err OutOfMemory) ⊎ ((s ≡ Err OutOfMemory) ⊎ (r ≡ s))

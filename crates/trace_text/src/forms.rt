@@ -1,0 +1,128 @@
+//! The parts of a trace around its entries.
+
+ghost use Rattle.std.specs.Prelude.{◌≡◌, ◌∷◌, [], IfOk, bytes_eq, drop, option_copied, take};
+ghost use Rattle.std.specs.Option.{option_map};
+ghost use Rattle.trace_text.specs.LinesRead.{lines_now};
+ghost use Rattle.trace_text.specs.TraceForms.{count_in, form_now, form_of, head_of, number_in, of_lines, plan_within, table_in, table_of};
+ghost use Rattle.trace_text.specs.Words.{both_now};
+
+use crate::entries::stamp_of;
+use crate::reading::{ReadLines, read_lines};
+use crate::words::{behind_word, parted};
+use ason_base::{Entry, NumeralFault, OutOfMemory, number_within};
+use plan_reader::Plan;
+use std::alloc::Global;
+
+fn is_newline(bytes: &[u8], place: usize) -> bool
+    ensures { result ≡ bytes_eq (take 1 (drop place bytes.now)) (10 ∷ []) }
+{
+    match bytes.get(place) {
+        None => false,
+        Some(b) => *b == b'\n',
+    }
+}
+
+fn number_in(word: Option<&[u8]>) -> Option<u64>
+    ensures { result ≡ number_in (option_copied word.entry) }
+{
+    stamp_of(word?)
+}
+
+fn plan_within(bytes: &[u8], count: Option<u64>) -> Option<(&[u8], &[u8])>
+    ensures { option_map both_now result ≡ plan_within bytes.now count }
+{
+    let count = count?;
+    if count >= bytes.len() as u64 {
+        return None;
+    }
+    let count = count as usize;
+    if !is_newline(bytes, count) {
+        return None;
+    }
+    Some((&bytes[..count], &bytes[count + 1..]))
+}
+
+/// The plan's bytes, and what is behind the newline after them; none where the head isn't there.
+pub fn head_of(bytes: &[u8]) -> Option<(&[u8], &[u8])>
+    ensures { option_map both_now result ≡ head_of bytes.now }
+{
+    let (line, rest) = parted(bytes, b'\n')?;
+    if line != b"ason-trace 1".as_slice() {
+        return None;
+    }
+    let (line, rest) = parted(rest, b'\n')?;
+    plan_within(rest, number_in(behind_word(b"plan ".as_slice(), line)))
+}
+
+// How many entries are told. A number above all that could be there counts as the greatest.
+fn count_in(word: Option<&[u8]>) -> Option<u64>
+    ensures { result ≡ count_in (option_copied word.entry) }
+{
+    match number_within(word?, 0, u64::MAX) {
+        Ok(count) => Some(count),
+        Err(NumeralFault::NoNumber) => None,
+        Err(NumeralFault::OutOfRange) => Some(u64::MAX),
+    }
+}
+
+fn table_in(body: Option<&[u8]>) -> Option<&[u8]>
+    ensures { option_map (λ b. b.now) result ≡ table_in (option_copied body.entry) }
+{
+    let body = body?;
+    if body.len() < 4 {
+        return None;
+    }
+    let end = body.len() - 4;
+    if &body[end..] == b"end\n".as_slice() && (end == 0 || is_newline(body, end - 1)) {
+        Some(&body[..end])
+    } else {
+        None
+    }
+}
+
+// The table, which stands between the lines `table` and `end`, and nothing after these.
+fn table_of(bytes: &[u8]) -> Option<&[u8]>
+    ensures { option_map (λ b. b.now) result ≡ table_of bytes.now }
+{
+    table_in(behind_word(b"table\n".as_slice(), bytes))
+}
+
+/// The entries of a trace, and the text of its table.
+#[derive(Drop)]
+pub struct Form<'a> {
+    pub entries: Vec<Entry>,
+    pub table: &'a [u8],
+}
+
+fn of_lines<'a>(read: ReadLines<'a>) -> Result<Form<'a>, u64>
+    ensures { form_now result ≡ of_lines (lines_now read.entry) }
+{
+    if let Some(i) = read.wrong {
+        return Err(i);
+    }
+    match table_of(read.rest) {
+        None => Err(read.entries.len() as u64 + 1),
+        Some(table) => Ok(Form {
+            entries: read.entries,
+            table,
+        }),
+    }
+}
+
+/// The entries and the table behind the plan's bytes, or the first index that is wrong.
+pub fn form_of<'a>(
+    alloc: Global,
+    plan: &Plan,
+    rest: &'a [u8],
+) -> Result<Result<Form<'a>, u64>, OutOfMemory>
+    ensures { IfOk result (λ f. form_now f ≡ form_of plan.now rest.now) }
+{
+    let Some((line, body)) = parted(rest, b'\n') else {
+        return Ok(Err(0));
+    };
+    let Some(count) = count_in(behind_word(b"events ".as_slice(), line)) else {
+        return Ok(Err(0));
+    };
+    let read = read_lines(alloc, plan, count, body)?;
+    Ok(of_lines(read))
+}

@@ -1,0 +1,90 @@
+//! Reads the trace of a run by its form.
+
+ghost use Rattle.std.specs.Prelude.{◌≡◌, [], IfOk};
+ghost use Rattle.ason_base.specs.Network.{IsTopology};
+ghost use Rattle.plan_reader.specs.Plans.{ArePostable, HasNames};
+ghost use Rattle.trace_text.specs.TraceRead.{ReadsAs, trace_fault};
+ghost use Rattle.trace_text.specs.declared.read.TraceFault.{TraceFault};
+
+use crate::forms::{form_of, head_of};
+use ason_base::{Bytes, Entry, Items, OutOfMemory};
+use plan_reader::{Plan, PlanError, PlanFault, read_plan};
+use std::alloc::Global;
+
+/// A list of entries.
+pub type Entries = Items<Entry>;
+
+/// A trace: the bytes of its plan, the plan, the entries, and the text between the lines `table` and `end`.
+#[derive(Drop)]
+pub struct Trace {
+    pub plan_bytes: Bytes,
+    pub plan: Plan,
+    pub entries: Entries,
+    pub table: Bytes,
+}
+
+/// Why bytes aren't a trace.
+#[derive(Drop)]
+pub enum TraceFault {
+    /// The first index that is wrong: 0 for the head and the line that tells how many entries there are, the number of
+    /// an entry from 1, or one more than there are entries for what follows them.
+    NotRun(u64),
+    /// The first fault of the plan.
+    Plan(PlanFault),
+    OutOfMemory,
+}
+
+impl From<OutOfMemory> for TraceFault {
+    ghost from_gives = { λ _ error. error ≡ TraceFault.OutOfMemory };
+
+    fn from(_: OutOfMemory) -> TraceFault {
+        TraceFault::OutOfMemory
+    }
+}
+
+impl From<PlanError> for TraceFault {
+    ghost use Rattle.trace_text.specs.TraceRead.{trace_fault};
+
+    ghost from_gives = { λ error fault. fault ≡ trace_fault error };
+
+    fn from(error: PlanError) -> TraceFault {
+        match error {
+            PlanError::Fault(fault) => TraceFault::Plan(fault),
+            PlanError::OutOfMemory => TraceFault::OutOfMemory,
+        }
+    }
+}
+
+fn copy_bytes(alloc: Global, bytes: &[u8]) -> Result<Bytes, OutOfMemory>
+    ensures { IfOk result (λ b. b ≡ bytes.now) }
+{
+    let copy = Vec::from_slice(alloc, bytes)?;
+    Ok(Bytes::from_vec(copy))
+}
+
+/// Reads a trace by its form alone: every event counts as one that can happen, and every table as right. A fault of
+/// the plan comes before whatever is wrong behind the plan. The plan's network is a topology, its lines can be posted one
+/// after the other, and each node and each call has its name.
+pub fn read_trace(alloc: Global, bytes: &[u8]) -> Result<Trace, TraceFault>
+    ensures reads { ReadsAs bytes.now result }
+    ensures valid { IfOk result (λ t. IsTopology t.plan.topology) }
+    ensures postable { IfOk result (λ t. ArePostable t.plan.topology [] t.plan.lines) }
+    ensures named { IfOk result (λ t. HasNames t.plan) }
+{
+    let Some((plan_bytes, rest)) = head_of(bytes) else {
+        return Err(TraceFault::NotRun(0));
+    };
+    let plan = read_plan(alloc, plan_bytes)?;
+    let form = match form_of(alloc, &plan, rest)? {
+        Ok(form) => form,
+        Err(i) => return Err(TraceFault::NotRun(i)),
+    };
+    let plan_bytes = copy_bytes(alloc, plan_bytes)?;
+    let table = copy_bytes(alloc, form.table)?;
+    Ok(Trace {
+        plan_bytes,
+        plan,
+        entries: Entries::from_vec(form.entries),
+        table,
+    })
+}
