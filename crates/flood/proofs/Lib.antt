@@ -19,3 +19,4 @@ pub mod LinkNumbers
 pub mod FrameBodies
 pub mod ReadAgain
 pub mod FewEnds
+pub mod CutFrames

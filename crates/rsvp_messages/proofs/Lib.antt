@@ -12,3 +12,4 @@ pub mod Spelled
 pub mod Packed
 pub mod Rewritable
 pub mod Permuted
+pub mod ChangedBytes

@@ -6,4 +6,5 @@ pub mod Packets
 pub mod Lines
 pub mod Written
 pub mod Writable
+pub mod Damage
 pub mod Seen

@@ -3,6 +3,7 @@
 ghost use Rattle.std.specs.Prelude.{◌≡◌, ◌<◌, ◌^◌, ℕ, List};
 ghost use Rattle.ason_base.specs.declared.ids.NodeId.{NodeId};
 ghost use Rattle.ason_base.specs.declared.messages.Packet.{Packet};
+ghost use Rattle.rsvp_messages.specs.Damage.{BitChangesAreRefused, ByteChangesAreRefused};
 ghost use Rattle.rsvp_messages.specs.Objects.{Object, of_class};
 ghost use Rattle.rsvp_messages.specs.Packets.{ObjectsComeInAnyOrder, Spells, SpellsPacket};
 ghost use Rattle.rsvp_messages.specs.Writable.{Fits, IsWritable, ReadIsWritable};
@@ -56,4 +57,11 @@ pub fn order_of_objects_is_free()
 /// label.
 pub fn what_is_read_can_be_written()
     ensures { ReadIsWritable }
+{}
+
+/// A message that was sent with a checksum (RFC 2205, section 3.1.1) spells nothing any more once a byte outside the
+/// checksum's field is another one, so once one bit there is.
+pub fn every_change()
+    ensures byte { ByteChangesAreRefused }
+    ensures bit { BitChangesAreRefused }
 {}

@@ -1,17 +1,8 @@
--- Frames that are cut short, and messages in which one byte was changed.
-use Rattle.std.specs.Prelude.{◌≡◌, ◌≢◌, ◌<◌, ◌+◌, ◌^◌, ◌⊎◌, ℕ, List, [], ◌∷◌, ◌++◌, length}
+-- Messages in which one byte was changed.
+use Rattle.std.specs.Prelude.{◌≡◌, ◌≢◌, ◌<◌, ◌+◌, ◌^◌, ◌⊎◌, ℕ, List, ◌∷◌, ◌++◌, length}
 use Rattle.ason_base.specs.declared.messages.Packet.{Packet}
 use Rattle.wire_buf.specs.Objects.{number_at}
 use Rattle.rsvp_messages.specs.Packets.{Spells}
-use Rattle.flood.specs.declared.frames.Content.{Content}
-use Rattle.flood.specs.Frames.{IsFrame, SpellsNothing}
-
--- a frame that spells something, without its last bytes, spells nothing; so none can be lengthened either
-abbrev pub PrefixesSpellNothing : Type 0
-PrefixesSpellNothing =
-    (front back : List ℕ) (c : Content) → back ≢ [] → IsFrame (front ++ back) c → SpellsNothing front
-
--- Changes
 
 -- one byte is another one, which isn't in the field of the checksum
 pub record IsChanged (was now : List ℕ) : Type 0 where

@@ -12,7 +12,7 @@ use Rattle.flood.specs.declared.messages.FloodMsg.{FloodMsg}
 use Rattle.flood.specs.declared.messages.FloodMsg.TheVariants.{Row, Ack}
 use Rattle.flood.specs.Frames.{IsFrame}
 use Rattle.flood.specs.Messages.{SpellsFlood}
-use Rattle.frame_damage.specs.Damage.{PrefixesSpellNothing}
+use Rattle.flood.specs.Cuts.{PrefixesSpellNothing}
 
 longer : (front back : List ℕ) → back ≢ [] → length front < length (front ++ back)
 longer [] [] some = absurd (some refl)

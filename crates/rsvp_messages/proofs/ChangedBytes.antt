@@ -6,7 +6,7 @@ use Rattle.wire_buf.specs.Checksum.{checksum_of, ones_of, words}
 use Rattle.wire_buf.specs.Objects.{number_at}
 use Rattle.rsvp_messages.specs.Headers.{HasHeader, without_checksum}
 use Rattle.rsvp_messages.specs.Packets.{type_of}
-use Rattle.frame_damage.specs.Damage.{BitChangesAreRefused, ByteChangesAreRefused, DifferInBit}
+use Rattle.rsvp_messages.specs.Damage.{BitChangesAreRefused, ByteChangesAreRefused, DifferInBit}
 
 abbrev total : List ℕ → ℕ
 total bytes = sum (words bytes)

@@ -1,5 +1,5 @@
-use Rattle.frame_damage.proofs.ChangedBytes.{bit-refused, byte-refused}
-use Rattle.frame_damage.proofs.laws.every_change.Goals as goal
+use Rattle.rsvp_messages.proofs.ChangedBytes.{bit-refused, byte-refused}
+use Rattle.rsvp_messages.proofs.laws.every_change.Goals as goal
 
 pub returns-clause-byte : goal.returns-clause-byte
 returns-clause-byte c = byte-refused

@@ -1,2 +1,0 @@
-pub mod ChangedBytes
-pub mod CutFrames
