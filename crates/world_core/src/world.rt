@@ -88,8 +88,8 @@ impl World {
         }
     }
 
-    // The frame with this number on the channel from one node to the other.
-    fn frame(
+    /// The frame with this number, from 1, on the channel from one node to the other; none where no such frame was sent.
+    pub fn frame(
         &self,
         alloc: Global,
         from: NodeId,
