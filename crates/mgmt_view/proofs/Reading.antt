@@ -1,0 +1,29 @@
+-- What a viewer reads.
+use Rattle.std.proofs.Common.{◌≡◌, ◌≤◌, ◌∙◌, true, List, length, subst, sym, inr}
+use Rattle.std.specs.Prelude.{Some}
+use Rattle.mgmt_view.specs.Tables.{EndsWith, StartsWith}
+use Rattle.mgmt_view.specs.Viewing.{HasRead, ViewerState}
+use Rattle.mgmt_view.specs.declared.node_table.NodeTable.{NodeTable}
+use Rattle.mgmt_view.proofs.Growing.{same-length}
+
+-- two tables that stand last are one
+one-last : (all : List NodeTable) (t u : NodeTable) → EndsWith all t → EndsWith all u → t ≡ u
+one-last all t u one two = let same : Some t ≡ Some u = sym one ∙ two in cc (same)
+
+-- the last of the published tables is read and kept
+pub read-next : (old new : ViewerState) (t : NodeTable) → new.kept ≡ t → old.count ≤ new.count →
+    new.told ≡ old.told → StartsWith new.seen old.seen → EndsWith new.seen t → new.count ≡ length new.seen →
+    StartsWith new.seen old.told →
+    (old.is_new ≡ true → EndsWith old.told old.kept) → (old.is_new ≡ true → old.count ≡ length old.told) →
+    (old.is_new ≡ true → new.count ≡ old.count) → HasRead old new t
+read-next old new t kept rises told seen last count known learnt counted same = record {
+  kept = kept;
+  rises = rises;
+  told = told;
+  seen = seen;
+  table = inr (record { last = last; count = count; told = subst (λ all. StartsWith new.seen all) (sym told) known });
+  exact = λ fresh.
+      let one : new.seen ≡ old.told =
+      same-length new.seen old.told known (sym count ∙ (same fresh ∙ counted fresh)) in
+      one-last old.told t old.kept (subst (λ all. EndsWith all t) one last) (learnt fresh);
+}

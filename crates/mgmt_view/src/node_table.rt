@@ -1,0 +1,25 @@
+//! What a station publishes of its node.
+
+ghost use Rattle.std.specs.Prelude.{◌≡◌, IfOk};
+
+use ason_base::{Copied, LegRows, OutOfMemory};
+use std::alloc::Global;
+
+/// The legs of a node as the table shows them, after the first so many entries of its log.
+#[derive(Drop)]
+pub struct NodeTable {
+    pub entries: u64,
+    pub legs: LegRows,
+}
+
+impl Copied for NodeTable {
+    fn copy(&self, alloc: Global) -> Result<NodeTable, OutOfMemory>
+        ensures { IfOk result (λ t. t ≡ self.now) }
+    {
+        let legs = self.legs.copy(alloc)?;
+        Ok(NodeTable {
+            entries: self.entries,
+            legs,
+        })
+    }
+}
