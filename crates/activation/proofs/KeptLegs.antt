@@ -20,7 +20,7 @@ use Rattle.mesh_rules.specs.Legs.{find_leg, following, is_armed, is_asked, is_la
 use Rattle.mesh_rules.specs.Messages.{arrival}
 use Rattle.mesh_rules.specs.PathErrs.{PathFailure, on_path_err, path_err_with, removed}
 use Rattle.mesh_rules.specs.Paths.{PathRequest, is_active, path_with}
-use Rattle.mesh_rules.specs.Resvs.{answered, is_expected, on_resv, resv_with}
+use Rattle.mesh_rules.specs.Resvs.{answered, on_resv, resv_with}
 use Rattle.mesh_rules.specs.State.{new_node}
 use Rattle.mesh_nodes.specs.LocalNodes.{LocalNodeFits}
 use Rattle.mesh_nodes.proofs.Cases.{both_left, if_cases}

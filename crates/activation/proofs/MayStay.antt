@@ -1,5 +1,5 @@
 -- The legs that an activation changes stand, and keep their labels; so do those that it is taken back from.
-use Rattle.std.proofs.Common.{◌≡◌, ℕ, Bool, true, false, cond, not, [], ◌∷◌, refl, List, drop}
+use Rattle.std.proofs.Common.{◌≡◌, ℕ, true, false, not, [], ◌∷◌, refl, List, drop}
 use Rattle.std.specs.Prelude.{◌&&◌, Option, Some, None}
 use Rattle.ason_base.specs.declared.calls.Phase.{Phase}
 use Rattle.ason_base.specs.declared.calls.Phase.TheVariants as phase

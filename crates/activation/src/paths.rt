@@ -5,6 +5,7 @@ ghost use Rattle.ason_base.specs.declared.messages.Msg.TheVariants.{Path};
 ghost use Rattle.mesh_rules.specs.Activations.{armed_on};
 ghost use Rattle.mesh_rules.specs.Legs.{find_leg, following, is_beyond_asked};
 ghost use Rattle.mesh_rules.specs.Paths.{is_active};
+ghost use Rattle.leg_table.specs.Fits.{OwnLegsFit};
 ghost use Rattle.leg_table.specs.LegClaims.{ClaimsFit};
 ghost use Rattle.activation.specs.Answers.{activate_answer, activated_here, activating_here, busy_here};
 
@@ -50,7 +51,7 @@ pub(crate) fn path_on(
     role: &PathRole,
 ) -> Result<Msg, OutOfMemory>
     ensures { IfOk result (λ m. m ≡ Path leg.now.lsp leg.now.egress link (drop 1 route.now)
-        leg.now.sent None role.now) }
+        leg.now.sent leg.now.back_in role.now) }
 {
     Ok(Msg::Path {
         lsp: leg.lsp,
@@ -58,7 +59,7 @@ pub(crate) fn path_on(
         link,
         route: route.copy_from(alloc, 1)?,
         set: leg.sent.copy(),
-        upstream: None,
+        upstream: leg.back_in,
         role: role.copy(alloc)?,
     })
 }
@@ -83,6 +84,7 @@ fn activate_leg(
     path: &PathAgain<'_>,
     leg: &Leg,
 ) -> Result<Change, OutOfMemory>
+    requires legs { OwnLegsFit tables.now }
     requires claims { ClaimsFit tables.now.legs owner.now }
     requires there { find_leg leg.now.lsp tables.now.legs ≡ Some leg.now }
     requires beyond { IsTrue (is_beyond_asked leg.now.phase) }
@@ -112,7 +114,8 @@ fn on_path(
     owner: &Owner,
     path: &PathAgain<'_>,
 ) -> Result<Change, OutOfMemory>
-    requires { ClaimsFit tables.now.legs owner.now }
+    requires legs { OwnLegsFit tables.now }
+    requires claims { ClaimsFit tables.now.legs owner.now }
     ensures { IfOk result (λ c. c ≡ activating_here tables.now path.now.arrival
         (drop 1 path.now.route.now) path.now.role.now) }
 {
@@ -138,7 +141,8 @@ pub fn activate_change(
     from: NodeId,
     msg: &Msg,
 ) -> Result<Change, OutOfMemory>
-    requires { ClaimsFit tables.now.legs owner.now }
+    requires legs { OwnLegsFit tables.now }
+    requires claims { ClaimsFit tables.now.legs owner.now }
     ensures { IfOk result (λ c. c ≡ activate_answer tables.now from msg.now) }
 {
     match msg {

@@ -51,7 +51,7 @@ fn send_path(
         link: next.fibre.link,
         route: leg.route.copy(alloc)?,
         set: leg.sent.copy(),
-        upstream: None,
+        upstream: leg.back_in,
         role,
     };
     change.send(next.node, path)

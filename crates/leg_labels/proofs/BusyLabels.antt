@@ -1,4 +1,4 @@
--- Another LSP's claim of a label is in use exactly where a leg of another LSP on the label is Armed or Live.
+-- Another LSP's claim of a label is in use exactly where a leg of another LSP that takes it is Armed or Live.
 use Rattle.std.proofs.Common.{◌≡◌, ℕ, Bool, true, false, cond, not, nat_eq, List, refl, sym, ap, subst, ◌∙◌, arith}
 use Rattle.std.specs.Prelude.{◌&&◌, Option, Some, None, is_some}
 use Rattle.std.specs.List.{list_any}
@@ -22,12 +22,12 @@ use Rattle.mesh_nodes.proofs.Cases.{both_left, both_right}
 use Rattle.mesh_nodes.proofs.LegList.{all-found, found-lsp, same_lsp-eq}
 use Rattle.mesh_nodes.proofs.Links.{any-found}
 use Rattle.leg_table.specs.declared.labels.TakenLabel.{TakenLabel}
-use Rattle.leg_table.specs.LegClaims.{ClaimsFit, IsClaimOfLeg, claim_kind, kind_here, taken, taken_over}
+use Rattle.leg_table.specs.LegClaims.{ClaimsFit, IsClaimOfLeg, claim_kind, kind_here, taken, taken_over, takes_in}
 use Rattle.leg_labels.proofs.ClaimLists.{kind-of}
 use Rattle.leg_table.proofs.LeftLabels.{all-to}
-use Rattle.leg_table.proofs.TakenLabels.{takes-taken}
+use Rattle.leg_table.proofs.TakenLabels.{OneWay, in-takes, takes-taken}
 use Rattle.leg_labels.proofs.ClaimedLabels.{iff, of_each}
-use Rattle.leg_labels.proofs.UsableLabels.{any-told}
+use Rattle.leg_labels.proofs.UsableLabels.{any-told, unless}
 
 -- the claim of a leg is in use exactly where the leg is, if a working leg is Live
 in_use-kind : (r : Role) (p : Phase) → (is_work r ≡ true → p ≡ phase.Live) →
@@ -49,11 +49,11 @@ module _ (legs : List Leg) (o : List FibreClaims) (fit : ClaimsFit legs o) (f : 
   busy_leg g = takes f x g && (is_in_use g.phase && not (same_lsp g.lsp l))
 
   -- the kind of the claim of a leg that takes the label
-  kind-is : (g : Leg) (y : ℕ) (k : ClaimKind) → takes f y g ≡ true → kind_here f y (Some g) ≡ Some k →
+  kind-is : (g : Leg) (y : ℕ) (k : ClaimKind) → takes_in f y g ≡ true → kind_here f y (Some g) ≡ Some k →
       claim_kind g.role g.phase ≡ k
   kind-is g y k t e = let some : Some (claim_kind g.role g.phase) ≡ Some k = rw t at e in cc some
 
-  used : (m : Lsp) (g : Leg) (y : ℕ) → find_leg m legs ≡ Some g → takes f y g ≡ true →
+  used : (m : Lsp) (g : Leg) (y : ℕ) → find_leg m legs ≡ Some g → takes_in f y g ≡ true →
       claims.is_in_use (claim_kind g.role g.phase) ≡ is_in_use g.phase
   used m g y found t =
       in_use-kind g.role g.phase (fit.live m g found (ap is_some (takes-taken f y g t)))
@@ -71,7 +71,7 @@ module _ (legs : List Leg) (o : List FibreClaims) (fit : ClaimsFit legs o) (f : 
           is_busy legs l f x ≡ true
       go None found e = absurd (cc e)
       go (Some g) found e =
-          let t : takes f c.label g ≡ true = kind-of f c.label g c.kind e in
+          let t : takes_in f c.label g ≡ true = kind-of f c.label g c.kind e in
           let in_use : is_in_use g.phase ≡ true =
           sym (used c.lsp g c.label found t) ∙ ap claims.is_in_use (kind-is g c.label c.kind t e)
           ∙ both_left (claims.is_in_use c.kind) _ rest in
@@ -80,16 +80,16 @@ module _ (legs : List Leg) (o : List FibreClaims) (fit : ClaimsFit legs o) (f : 
           (both_right (claims.is_in_use c.kind) _ rest) in
           any-found busy_leg (λ h. same_lsp h.lsp c.lsp) legs g found
           (all_three (takes f x g) (is_in_use g.phase) (not (same_lsp g.lsp l))
-          (subst (λ y. takes f y g ≡ true) label t) in_use other)
+          (in-takes f x g (subst (λ y. takes_in f y g ≡ true) label t)) in_use other)
 
-  leg-busy : (m : Lsp) (g : Leg) → find_leg m legs ≡ Some g → busy_leg g ≡ true →
+  leg-busy : OneWay legs → (m : Lsp) (g : Leg) → find_leg m legs ≡ Some g → busy_leg g ≡ true →
       list_any (claims.is_busy x l) (claims_of f o) ≡ true
-  leg-busy m g found busy =
+  leg-busy one m g found busy =
       any-told (IsClaimOfLeg legs f) (is_of_lsp x m) (claims.is_busy x l) (claims_of f o) told (fit.each f)
       (fit.all f x m g found t)
     where
-      t : takes f x g ≡ true
-      t = both_left (takes f x g) _ busy
+      t : takes_in f x g ≡ true
+      t = sym (one m g found f x) ∙ both_left (takes f x g) _ busy
 
       rest : (is_in_use g.phase && not (same_lsp g.lsp l)) ≡ true
       rest = both_right (takes f x g) _ busy
@@ -110,14 +110,22 @@ module _ (legs : List Leg) (o : List FibreClaims) (fit : ClaimsFit legs o) (f : 
           (both_right (is_in_use g.phase) _ rest) in
           all_three (nat_eq c.label x) (claims.is_in_use c.kind) (not (same_lsp c.lsp l)) here in_use other
 
-  pub busy-exact : LegsRise legs → list_any (claims.is_busy x l) (claims_of f o) ≡ is_busy legs l f x
-  busy-exact rise =
-      iff _ _
-      (λ h. of_each (claims.is_busy x l) (is_busy legs l f x ≡ true) (claims_of f o)
+  claims-busy : list_any (claims.is_busy x l) (claims_of f o) ≡ true → is_busy legs l f x ≡ true
+  claims-busy h =
+      of_each (claims.is_busy x l) (is_busy legs l f x ≡ true) (claims_of f o)
       (all-to (IsClaimOfLeg legs f) (λ c. claims.is_busy x l c ≡ true → is_busy legs l f x ≡ true) (claims_of f o)
-      claim-busy (fit.each f)) h)
+      claim-busy (fit.each f)) h
+
+  -- where no leg is in use no claim is
+  pub none-busy : is_busy legs l f x ≡ false → list_any (claims.is_busy x l) (claims_of f o) ≡ false
+  none-busy none = unless (list_any (claims.is_busy x l) (claims_of f o)) (is_busy legs l f x) claims-busy none
+
+  pub busy-exact : LegsRise legs → OneWay legs → list_any (claims.is_busy x l) (claims_of f o) ≡ is_busy legs l f x
+  busy-exact rise one =
+      iff _ _ claims-busy
       (λ h. of_each busy_leg (list_any (claims.is_busy x l) (claims_of f o) ≡ true) legs
-      (all-found (λ g. busy_leg g ≡ true → list_any (claims.is_busy x l) (claims_of f o) ≡ true) legs rise leg-busy) h)
+      (all-found (λ g. busy_leg g ≡ true → list_any (claims.is_busy x l) (claims_of f o) ≡ true) legs rise
+      (leg-busy one)) h)
 
 -- a leg is contended where the label that it takes is busy
 pub contended-busy : (legs : List Leg) (g : Leg) (t : TakenLabel) → taken g ≡ Some t →

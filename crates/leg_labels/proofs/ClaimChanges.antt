@@ -12,11 +12,11 @@ use Rattle.ason_base.specs.Lsps.{same_fibre, same_lsp}
 use Rattle.link_owner.specs.Claims.{FibreClaims, freed, is_of_lsp}
 use Rattle.link_owner.specs.Owners.{claim_added, claims_of, comes_in, has_label, label_freed, labels_of}
 use Rattle.link_owner.specs.declared.claims.Claim.{Claim}
-use Rattle.mesh_rules.specs.Legs.{find_leg, is_work, reserved, takes}
+use Rattle.mesh_rules.specs.Legs.{find_leg, is_work, reserved}
 use Rattle.mesh_nodes.proofs.Cases.{both_right}
 use Rattle.mesh_nodes.proofs.LegList.{same_lsp-eq, same_lsp-refl}
 use Rattle.leg_table.specs.declared.labels.TakenLabel.{TakenLabel}
-use Rattle.leg_table.specs.LegClaims.{ClaimsFit, IsClaimOfLeg, claim_kind, first_claim, first_kind, kind_here, taken}
+use Rattle.leg_table.specs.LegClaims.{ClaimsFit, IsClaimOfLeg, claim_kind, first_claim, first_kind, kind_here, taken, takes_in}
 use Rattle.leg_table.proofs.OwnerFibres.{claimed-comes, claims-elsewhere, claims-there, labels-kept, same_fibre-eq, same_fibre-refl}
 use Rattle.leg_table.proofs.LeftLabels.{Left, all-to, left-live, left-within}
 use Rattle.leg_table.proofs.TakenLabels.{taken-takes, takes-taken}
@@ -28,9 +28,9 @@ pub freed-fit : (l : Lsp) (legs after : List Leg) (o : List FibreClaims) (k : Le
     find_leg l legs ≡ Some k → taken k ≡ Some t → ClaimsFit after (label_freed t.fibre t.label l o)
 freed-fit l legs after o k t fit left found has = record {
   each = λ f. go f (same_fibre t.fibre f) refl;
-  all = λ f x m g there takes. stays f x m g (same_lsp l m) refl there takes;
+  all = λ f x m g there it. stays f x m g (same_lsp l m) refl there it;
   within =
-      λ f x m g there takes. rw (labels-kept t.fibre f rest o) (left-within l legs after o fit left f x m g there takes);
+      λ f x m g there it. rw (labels-kept t.fibre f rest o) (left-within l legs after o fit left f x m g there it);
   live = left-live l legs after fit.live left;
 }
   where
@@ -101,18 +101,18 @@ freed-fit l legs after o k t fit left found has = record {
         (λ c e. elsewhere f s c (same_lsp l c.lsp) refl e) (fit.each f))
 
     stays : (f : Fibre) (x : ℕ) (m : Lsp) (g : Leg) (b : Bool) → same_lsp l m ≡ b → find_leg m after ≡ Some g →
-        takes f x g ≡ true →
+        takes_in f x g ≡ true →
         has_label o2 f x m ≡ true
-    stays f x m g true s there takes =
+    stays f x m g true s there taking =
         let is : l ≡ m = same_lsp-eq l m s in
         let none : kind_here f x (find_leg m after) ≡ None =
         subst (λ k. kind_here f x (find_leg k after) ≡ None) is (left.none f x) in
-        let some : kind_here f x (find_leg m after) ≡ Some (claim_kind g.role g.phase) = rw (there, takes) refl in
+        let some : kind_here f x (find_leg m after) ≡ Some (claim_kind g.role g.phase) = rw (there, taking) refl in
         absurd (cc (none, some))
-    stays f x m g false s there takes = put (same_fibre t.fibre f) refl
+    stays f x m g false s there taking = put (same_fibre t.fibre f) refl
       where
         was : has_label o f x m ≡ true
-        was = fit.all f x m g (sym (left.others m s) ∙ there) takes
+        was = fit.all f x m g (sym (left.others m s) ∙ there) taking
 
         -- a claim of m isn't one of l
         apart : (c : Claim) → is_of_lsp x m c ≡ true → not (is_of_lsp t.label l c) ≡ true
@@ -158,8 +158,8 @@ pub claimed-fit : (g : Leg) (legs after : List Leg) (o : List FibreClaims) (t : 
     ClaimsFit after (claim_added t.fibre (first_claim g.role t.label g.lsp) o)
 claimed-fit g legs after o t fit entered has first comes below = record {
   each = λ f. go f (same_fibre t.fibre f) refl;
-  all = λ f x m h there takes. claimed f x m h (same_lsp g.lsp m) refl there takes;
-  within = λ f x m h there takes. rw (labels-kept t.fibre f more o) (within f x m h (same_lsp g.lsp m) refl there takes);
+  all = λ f x m h there it. claimed f x m h (same_lsp g.lsp m) refl there it;
+  within = λ f x m h there it. rw (labels-kept t.fibre f more o) (within f x m h (same_lsp g.lsp m) refl there it);
   live = λ m h there some work. live m h (same_lsp g.lsp m) refl there some work;
 }
   where
@@ -182,12 +182,12 @@ claimed-fit g legs after o t fit entered has first comes below = record {
         cc (there, here)
 
     within : (f : Fibre) (x : ℕ) (m : Lsp) (h : Leg) (b : Bool) → same_lsp g.lsp m ≡ b → find_leg m after ≡ Some h →
-        takes f x h ≡ true → x ≤ labels_of f o
-    within f x m h true s there takes =
+        takes_in f x h ≡ true → x ≤ labels_of f o
+    within f x m h true s there taking =
         let same : record { fibre = f; label = x } ≡ t =
-        cc (takes-taken f x h takes, ap taken (its m h s there), has) in
+        cc (takes-taken f x h taking, ap taken (its m h s there), has) in
         subst (λ (u : TakenLabel). u.label ≤ labels_of u.fibre o) (sym same) below
-    within f x m h false s there takes = fit.within f x m h (sym (entered.others m s) ∙ there) takes
+    within f x m h false s there taking = fit.within f x m h (sym (entered.others m s) ∙ there) taking
 
     live : (m : Lsp) (h : Leg) (b : Bool) → same_lsp g.lsp m ≡ b → find_leg m after ≡ Some h →
         is_some (taken h) ≡ true → is_work h.role ≡ true → h.phase ≡ phase.Live
@@ -224,12 +224,12 @@ claimed-fit g legs after o t fit entered has first comes below = record {
         (λ c e. old f c (same_lsp g.lsp c.lsp) refl e) (fit.each f))
 
     claimed : (f : Fibre) (x : ℕ) (m : Lsp) (h : Leg) (b : Bool) → same_lsp g.lsp m ≡ b → find_leg m after ≡ Some h →
-        takes f x h ≡ true →
+        takes_in f x h ≡ true →
         has_label o2 f x m ≡ true
-    claimed f x m h true s there takes =
+    claimed f x m h true s there taking =
         let is : g.lsp ≡ m = same_lsp-eq g.lsp m s in
         let leg = its m h s there in
-        let same : record { fibre = f; label = x } ≡ t = some (sym (takes-taken f x h takes) ∙ ap taken leg ∙ has) in
+        let same : record { fibre = f; label = x } ≡ t = some (sym (takes-taken f x h taking) ∙ ap taken leg ∙ has) in
         let first : has_label o2 t.fibre t.label g.lsp ≡ true =
         subst (λ cs. list_any (is_of_lsp t.label g.lsp) cs ≡ true) (sym (claims-there t.fibre more o comes))
         (any-last (is_of_lsp t.label g.lsp) before c0 (rw (same_number t.label) (same_lsp-refl g.lsp))) in
@@ -238,10 +238,10 @@ claimed-fit g legs after o t fit entered has first comes below = record {
       where
         some : {X : Type 0} {a b : X} → Some a ≡ Some b → a ≡ b
         some e = cc
-    claimed f x m h false s there takes = put (same_fibre t.fibre f) refl
+    claimed f x m h false s there taking = put (same_fibre t.fibre f) refl
       where
         was : has_label o f x m ≡ true
-        was = fit.all f x m h (sym (entered.others m s) ∙ there) takes
+        was = fit.all f x m h (sym (entered.others m s) ∙ there) taking
 
         put : (b : Bool) → same_fibre t.fibre f ≡ b → has_label o2 f x m ≡ true
         put true e =

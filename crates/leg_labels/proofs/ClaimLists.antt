@@ -6,8 +6,7 @@ use Rattle.std.proofs.lemmas.List.Folds.{list_any-append}
 use Rattle.ason_base.specs.declared.ids.Fibre.{Fibre}
 use Rattle.ason_base.specs.declared.tables.Leg.{Leg}
 use Rattle.link_owner.specs.declared.claims.ClaimKind.{ClaimKind}
-use Rattle.mesh_rules.specs.Legs.{takes}
-use Rattle.leg_table.specs.LegClaims.{claim_kind, kind_here}
+use Rattle.leg_table.specs.LegClaims.{claim_kind, kind_here, takes_in}
 
 -- Lists of claims
 
@@ -72,9 +71,9 @@ not-of false e = refl
 -- Kinds
 
 -- a leg with a kind of claim on a label takes it
-pub kind-of : (f : Fibre) (x : ℕ) (g : Leg) (k : ClaimKind) → kind_here f x (Some g) ≡ Some k → takes f x g ≡ true
-kind-of f x g k e = go (takes f x g) refl e
+pub kind-of : (f : Fibre) (x : ℕ) (g : Leg) (k : ClaimKind) → kind_here f x (Some g) ≡ Some k → takes_in f x g ≡ true
+kind-of f x g k e = go (takes_in f x g) refl e
   where
-    go : (b : Bool) → takes f x g ≡ b → cond b (Some (claim_kind g.role g.phase)) None ≡ Some k → b ≡ true
+    go : (b : Bool) → takes_in f x g ≡ b → cond b (Some (claim_kind g.role g.phase)) None ≡ Some k → b ≡ true
     go true t e = refl
     go false t e = absurd (cc e)

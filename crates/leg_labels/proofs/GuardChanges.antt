@@ -10,11 +10,11 @@ use Rattle.ason_base.specs.Lsps.{same_fibre, same_lsp}
 use Rattle.ason_base.specs.Risks.{has_risk}
 use Rattle.share_check.specs.Guards.{Guard, GuardsJust, GuardsNone, is_guarded}
 use Rattle.share_check.proofs.Places.{guards-same}
-use Rattle.mesh_rules.specs.Legs.{find_leg, is_work, takes}
+use Rattle.mesh_rules.specs.Legs.{find_leg, is_work}
 use Rattle.mesh_nodes.proofs.Cases.{both_left, both_right}
 use Rattle.mesh_nodes.proofs.LegList.{found-lsp, same_lsp-eq}
 use Rattle.leg_table.specs.declared.labels.TakenLabel.{TakenLabel}
-use Rattle.leg_table.specs.LegClaims.{GuardsBy, GuardsFit, GuardsNothing, GuardsOfLeg, guarded_risks, guards_here, taken}
+use Rattle.leg_table.specs.LegClaims.{GuardsBy, GuardsFit, GuardsNothing, GuardsOfLeg, guarded_risks, guards_here, taken, takes_in}
 use Rattle.leg_labels.proofs.ClaimLists.{number, same_number}
 use Rattle.leg_labels.proofs.ClaimChanges.{Entered}
 use Rattle.leg_table.proofs.LeftLabels.{none-guards, none-kind}
@@ -27,25 +27,25 @@ and_none false = refl
 
 -- the label that a leg takes is this one exactly where it takes this one
 pub taken-place : (g : Leg) (t : TakenLabel) (f : Fibre) (x : ℕ) → taken g ≡ Some t →
-    (same_fibre t.fibre f && nat_eq t.label x) ≡ takes f x g
-taken-place g t f x has = go (same_fibre t.fibre f && nat_eq t.label x) (takes f x g) refl refl
+    (same_fibre t.fibre f && nat_eq t.label x) ≡ takes_in f x g
+taken-place g t f x has = go (same_fibre t.fibre f && nat_eq t.label x) (takes_in f x g) refl refl
   where
     some : {a b : TakenLabel} → Some a ≡ Some b → a ≡ b
     some e = cc
 
-    there : takes f x g ≡ true → (same_fibre t.fibre f && nat_eq t.label x) ≡ true
+    there : takes_in f x g ≡ true → (same_fibre t.fibre f && nat_eq t.label x) ≡ true
     there e =
         let is : record { fibre = f; label = x } ≡ t = some (sym (takes-taken f x g e) ∙ has) in
         subst (λ (u : TakenLabel). (same_fibre u.fibre f && nat_eq u.label x) ≡ true) is
         (rw (same_fibre-refl f) (same_number x))
 
-    here : (same_fibre t.fibre f && nat_eq t.label x) ≡ true → takes f x g ≡ true
+    here : (same_fibre t.fibre f && nat_eq t.label x) ≡ true → takes_in f x g ≡ true
     here e =
         let fibre = same_fibre-eq t.fibre f (both_left (same_fibre t.fibre f) (nat_eq t.label x) e) in
         let label = number t.label x (both_right (same_fibre t.fibre f) (nat_eq t.label x) e) in
-        subst (λ y. takes f y g ≡ true) label (subst (λ h. takes h t.label g ≡ true) fibre (taken-takes g t has))
+        subst (λ y. takes_in f y g ≡ true) label (subst (λ h. takes_in h t.label g ≡ true) fibre (taken-takes g t has))
 
-    go : (a b : Bool) → (same_fibre t.fibre f && nat_eq t.label x) ≡ a → takes f x g ≡ b → a ≡ b
+    go : (a b : Bool) → (same_fibre t.fibre f && nat_eq t.label x) ≡ a → takes_in f x g ≡ b → a ≡ b
     go true b e h = sym (here e) ∙ h
     go false true e h = absurd (cc (e, there h))
     go false false e h = refl
@@ -62,8 +62,8 @@ pub work-guards : (g : Leg) (s : List Guard) → GuardsOfLeg g s → is_work g.r
     GuardsNone s f x g.lsp
 work-guards g s own work f x q =
     own f x q
-    ∙ ap (λ b. takes f x g && has_risk (cond b [] g.risks) q) work
-    ∙ and_none (takes f x g)
+    ∙ ap (λ b. takes_in f x g && has_risk (cond b [] g.risks) q) work
+    ∙ and_none (takes_in f x g)
 
 -- a working leg guards nothing where its LSP guarded nothing, and a backup the risks that it records
 pub guards-work : (g : Leg) (t : TakenLabel) (s : List Guard) → g.role ≡ Work → GuardsNone s t.fibre t.label g.lsp →
@@ -112,7 +112,7 @@ pub entered-guards : (g : Leg) (legs after : List Leg) (s guarded : List Guard) 
 entered-guards g legs after s guarded t fit entered has just =
     record { each = λ f x m q. just f x m q ∙ go f x m q (same_lsp g.lsp m) refl }
   where
-    its : (f : Fibre) (x : ℕ) (q : Risk) (b : Bool) → takes f x g ≡ b →
+    its : (f : Fibre) (x : ℕ) (q : Risk) (b : Bool) → takes_in f x g ≡ b →
         cond (b && true) (has_risk (guarded_risks g) q) (is_guarded s f x g.lsp q) ≡
         (b && has_risk (guarded_risks g) q)
     its f x q true e = refl
@@ -127,7 +127,7 @@ entered-guards g legs after s guarded t fit entered has just =
         subst (λ k. cond ((same_fibre t.fibre f && nat_eq t.label x) && true) (has_risk (guarded_risks g) q)
         (is_guarded s f x k q) ≡ guards_here f x q (find_leg k after)) is
         (ap (λ b. cond (b && true) (has_risk (guarded_risks g) q) (is_guarded s f x g.lsp q)) (taken-place g t f x has)
-        ∙ its f x q (takes f x g) refl
+        ∙ its f x q (takes_in f x g) refl
         ∙ sym (ap (guards_here f x q) entered.here))
     go f x m q false e =
         ap (λ b. cond b (has_risk (guarded_risks g) q) (is_guarded s f x m q))

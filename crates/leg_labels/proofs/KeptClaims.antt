@@ -14,13 +14,13 @@ use Rattle.link_owner.specs.Owners.{claims_of, comes_in, has_label, labels_of}
 use Rattle.link_owner.specs.declared.claims.Claim.{Claim}
 use Rattle.link_owner.specs.declared.claims.ClaimKind.{ClaimKind}
 use Rattle.share_check.specs.Guards.{Guard}
-use Rattle.mesh_rules.specs.Legs.{find_leg, is_in_use, is_work, takes, with_leg, without_leg}
+use Rattle.mesh_rules.specs.Legs.{find_leg, is_in_use, is_work, with_leg, without_leg}
 use Rattle.mesh_nodes.specs.Order as order
 use Rattle.mesh_nodes.proofs.Cases.{both_right}
 use Rattle.mesh_nodes.proofs.Kept.{length-replaced}
 use Rattle.mesh_nodes.proofs.LegList.{find-with_leg, same_lsp-eq, same_lsp-refl}
 use Rattle.leg_table.specs.declared.labels.TakenLabel.{TakenLabel}
-use Rattle.leg_table.specs.LegClaims.{ClaimsFit, GuardsFit, IsClaimOfLeg, MayClaim, MayKeep, claim_kind, guarded_risks, guards_here, kept_claim, kind_here, taken, taken_of}
+use Rattle.leg_table.specs.LegClaims.{ClaimsFit, GuardsFit, IsClaimOfLeg, MayClaim, MayKeep, claim_kind, guarded_risks, guards_here, kept_claim, kind_here, taken, taken_of, takes_in}
 use Rattle.leg_table.proofs.LeftLabels.{left-with, left-without, all-to, kind-none, left-fit}
 use Rattle.leg_labels.proofs.ClaimLists.{kind-of, same_number}
 use Rattle.leg_labels.proofs.GuardChanges.{taken-place}
@@ -39,7 +39,7 @@ module _ (g : Leg) (legs : List Leg) (t : TakenLabel) (may : MayKeep legs g t) (
   here = find-with_leg g legs g.lsp ∙ rw (same_lsp-refl g.lsp) refl
 
   -- it takes what it took
-  same-takes : (f : Fibre) (x : ℕ) → takes f x may.before ≡ takes f x g
+  same-takes : (f : Fibre) (x : ℕ) → takes_in f x may.before ≡ takes_in f x g
   same-takes f x = sym (taken-place may.before t f x may.keeps) ∙ taken-place g t f x has
 
   -- Guards
@@ -48,8 +48,8 @@ module _ (g : Leg) (legs : List Leg) (t : TakenLabel) (may : MayKeep legs g t) (
       guards_here f x q (Some may.before) ≡ guards_here f x q (Some g)
   same-guards f x q =
       ap (λ b. b && has_risk (guarded_risks may.before) q) (same-takes f x)
-      ∙ ap (λ r. takes f x g && has_risk (cond (is_work r) [] may.before.risks) q) may.role
-      ∙ ap (λ qs. takes f x g && has_risk (cond (is_work g.role) [] qs) q) may.risks
+      ∙ ap (λ r. takes_in f x g && has_risk (cond (is_work r) [] may.before.risks) q) may.role
+      ∙ ap (λ qs. takes_in f x g && has_risk (cond (is_work g.role) [] qs) q) may.risks
 
   pub kept-guards : (s : List Guard) → GuardsFit legs s → GuardsFit (with_leg g legs) s
   kept-guards s fit = record { each = λ f x m q. fit.each f x m q ∙ go f x m q (same_lsp g.lsp m) refl }
@@ -74,8 +74,8 @@ module _ (g : Leg) (legs : List Leg) (t : TakenLabel) (may : MayKeep legs g t) (
   found-before : (m : Lsp) → same_lsp g.lsp m ≡ true → find_leg m legs ≡ Some may.before
   found-before m s = subst (λ n. find_leg n legs ≡ Some may.before) (same_lsp-eq g.lsp m s) may.there
 
-  takes-before : (f : Fibre) (x : ℕ) (h : Leg) → h ≡ g → takes f x h ≡ true → takes f x may.before ≡ true
-  takes-before f x h is e = same-takes f x ∙ sym (ap (takes f x) is) ∙ e
+  takes-before : (f : Fibre) (x : ℕ) (h : Leg) → h ≡ g → takes_in f x h ≡ true → takes_in f x may.before ≡ true
+  takes-before f x h is e = same-takes f x ∙ sym (ap (takes_in f x) is) ∙ e
 
   module _ (o : List FibreClaims) (fit : ClaimsFit legs o) where
     pub kept-claimed : has_label o t.fibre t.label g.lsp ≡ true
@@ -97,7 +97,7 @@ module _ (g : Leg) (legs : List Leg) (t : TakenLabel) (may : MayKeep legs g t) (
 
       -- a claim of the LSP is of this label, and gets the kind of the leg
       own-label : (f : Fibre) (c : Claim) → same_lsp g.lsp c.lsp ≡ true → IsClaimOfLeg legs f c →
-          takes f c.label may.before ≡ true
+          takes_in f c.label may.before ≡ true
       own-label f c s of =
           kind-of f c.label may.before c.kind (ap (kind_here f c.label) (sym (found-before c.lsp s)) ∙ of)
 
@@ -108,7 +108,7 @@ module _ (g : Leg) (legs : List Leg) (t : TakenLabel) (may : MayKeep legs g t) (
       own-kind : (f : Fibre) (c : Claim) → same_lsp g.lsp c.lsp ≡ true → IsClaimOfLeg legs f c →
           kind_here f c.label (find_leg c.lsp after) ≡ Some (k c.kind)
       own-kind f c s of =
-          let t' : takes f c.label may.before ≡ true = own-label f c s of in
+          let t' : takes_in f c.label may.before ≡ true = own-label f c s of in
           let old : kind_here f c.label (Some may.before) ≡ Some c.kind =
           ap (kind_here f c.label) (sym (found-before c.lsp s)) ∙ of in
           let some : Some (claim_kind may.before.role may.before.phase) ≡ Some c.kind = rw t' at old in
@@ -181,7 +181,7 @@ module _ (g : Leg) (legs : List Leg) (t : TakenLabel) (may : MayKeep legs g t) (
 
       -- a leg that takes a label after took it before
       before : (f : Fibre) (x : ℕ) (m : Lsp) (h : Leg) (b : Bool) → same_lsp g.lsp m ≡ b → find_leg m after ≡ Some h →
-          takes f x h ≡ true → (j : Leg) × (find_leg m legs ≡ Some j) × (takes f x j ≡ true)
+          takes_in f x h ≡ true → (j : Leg) × (find_leg m legs ≡ Some j) × (takes_in f x j ≡ true)
       before f x m h true s there e = (may.before, found-before m s, takes-before f x h (its m h s there) e)
       before f x m h false s there e = (h, sym (others m s) ∙ there, e)
 

@@ -22,11 +22,11 @@ use Rattle.mesh_rules.specs.declared.neighbours.Neighbour.{Neighbour}
 use Rattle.mesh_rules.specs.CallSteps.{call_answered}
 use Rattle.mesh_rules.specs.Calls.{call_with}
 use Rattle.mesh_rules.specs.Changes.{Answer, followed_by, puts}
-use Rattle.mesh_rules.specs.Legs.{connected, find_leg, following, is_asked, is_closing, is_node, is_over, neighbour_over, previous, reserved}
+use Rattle.mesh_rules.specs.Legs.{connected, find_leg, following, is_asked, is_closing, is_node, is_over, label_through, neighbour_over, only, previous, reserved}
 use Rattle.mesh_rules.specs.LocalNodes.{LocalNode, fibre_in, leads, own_link}
 use Rattle.mesh_rules.specs.PathErrs.{PathFailure, err_passed, on_path_err, path_err_with, removed}
 use Rattle.mesh_rules.specs.Paths.{PathRequest, admitted, at_egress, checks, egress_leg, first_failure, first_path, in_transit, is_active, judged, offered_labels, on_path, path_with, risks_here, role_of}
-use Rattle.mesh_rules.specs.Resvs.{answered, is_expected, label_back, labels_left, on_resv, only, passed_back, resv_with}
+use Rattle.mesh_rules.specs.Resvs.{answered, is_expected, labels_left, on_resv, passed_back, resv_with}
 use Rattle.mesh_rules.specs.State.{NodeState}
 use Rattle.mesh_rules.specs.Tears.{on_tear, tear_with, torn}
 use Rattle.mesh_nodes.specs.Kept.{LegFits}
@@ -175,7 +175,7 @@ module _ (p : LocalNode) (s : NodeState) (a : Arrival) (x : ℕ) (g : Leg) (foun
       subst (λ o. IfSome o (MayHave p s.legs (connected g (Some y) x)))
       (sym (reserved-taken g.role (connected g (Some y) x) refl ∙ ap (λ i. taken_over i (Some y)) before)) (inl may)
 
-  passed-may : (h : Neighbour) (o : Option ℕ) → previous g ≡ Some h → label_back p (labels_left p s g h) x ≡ o →
+  passed-may : (h : Neighbour) (o : Option ℕ) → previous g ≡ Some h → label_through p (labels_left p s g h) x ≡ o →
       MayBeMade p s.legs (passed_back p a g h x o).legs
   passed-may h None before e = (closed-may p s.legs g, tt)
   passed-may h (Some y) before e = (
@@ -194,7 +194,7 @@ module _ (p : LocalNode) (s : NodeState) (a : Arrival) (x : ℕ) (g : Leg) (foun
 
   answered-may : (o : Option Neighbour) → previous g ≡ o → MayBeMade p s.legs (answered p s a x g o).legs
   answered-may None before = connected-may p s g x (call_with g.lsp s.calls)
-  answered-may (Some h) before = passed-may h (label_back p (labels_left p s g h) x) before refl
+  answered-may (Some h) before = passed-may h (label_through p (labels_left p s g h) x) before refl
 
 -- the legs come from neighbours
 pub resv-may : (p : LocalNode) (s : NodeState) (next : ℕ) (a : Arrival) (x : ℕ) →

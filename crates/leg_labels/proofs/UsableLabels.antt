@@ -28,9 +28,10 @@ use Rattle.mesh_nodes.specs.Order.{LegsRise}
 use Rattle.mesh_nodes.proofs.Cases.{both_left, both_right}
 use Rattle.mesh_nodes.proofs.LegList.{all-found, same_lsp-eq}
 use Rattle.mesh_nodes.proofs.Links.{any-found}
-use Rattle.leg_table.specs.LegClaims.{IsClaimOfLeg, LabelsFit, OwnerFits, bars, claim_kind, guarded_risks, guards_here, kind_here}
+use Rattle.leg_table.specs.LegClaims.{IsClaimOfLeg, LabelsFit, OwnerFits, bars, claim_kind, guarded_risks, guards_here, kind_here, takes_in}
 use Rattle.leg_labels.proofs.ClaimLists.{kind-of}
-use Rattle.leg_labels.proofs.ClaimedLabels.{or_last, of_each, claimed-taken}
+use Rattle.leg_table.proofs.TakenLabels.{OneWay, in-takes}
+use Rattle.leg_labels.proofs.ClaimedLabels.{claims_take, of_each, or_last}
 
 -- Labels that a backup may share
 
@@ -77,13 +78,14 @@ module _ (legs : List Leg) (risks : List Risk) (o : List FibreClaims) (s : List 
               list_any (keeps_from risks f x) legs ≡ true
           go None found e = absurd (cc e)
           go (Some g) found e =
-              let t : takes f c.label g ≡ true = kind-of f c.label g c.kind e in
+              let t : takes_in f c.label g ≡ true = kind-of f c.label g c.kind e in
               let kind : Some (claim_kind g.role g.phase) ≡ Some c.kind = rw t at e in
               let is : claim_kind g.role g.phase ≡ c.kind = cc kind in
               let work : is_work g.role ≡ true =
               working-is g.role g.phase (ap is_working is ∙ both_right (has x c) (is_working c.kind) works) in
-              let t' : takes f x g ≡ true = subst (λ y. takes f y g ≡ true) label t in
-              any-found (keeps_from risks f x) (λ h. same_lsp h.lsp c.lsp) legs g found (rw (t', work) refl)
+              let t' : takes_in f x g ≡ true = subst (λ y. takes_in f y g ≡ true) label t in
+              any-found (keeps_from risks f x) (λ h. same_lsp h.lsp c.lsp) legs g found
+              (rw (in-takes f x g t', work) refl)
 
       each : (claims : List Claim) → AllByRecursion (IsClaimOfLeg legs f) claims →
           AllByRecursion (λ c. works_on x c ≡ true → list_any (keeps_from risks f x) legs ≡ true) claims
@@ -111,15 +113,16 @@ module _ (legs : List Leg) (risks : List Risk) (o : List FibreClaims) (s : List 
       go None found e = absurd (cc e)
       go (Some g) found e =
           any-found (keeps_from risks f x) (λ h. same_lsp h.lsp l) legs g found
-          (keeps g (both_left (takes f x g) _ e) (both_right (takes f x g) (has_risk (guarded_risks g) q) e))
+          (keeps g (in-takes f x g (both_left (takes_in f x g) _ e))
+          (both_right (takes_in f x g) (has_risk (guarded_risks g) q) e))
 
   -- a leg that keeps the backup from the label has a working claim of it, or guards one of the risks
-  keeps-one : list_any (works_on x) (claims_of f o) ≡ false → fits s f risks x ≡ true → (l : Lsp) (g : Leg) →
-      find_leg l legs ≡ Some g → keeps_from risks f x g ≡ true → ⊥
-  keeps-one none fitting l g found keeps = role (is_work g.role) refl
+  keeps-one : OneWay legs → list_any (works_on x) (claims_of f o) ≡ false → fits s f risks x ≡ true → (l : Lsp)
+      (g : Leg) → find_leg l legs ≡ Some g → keeps_from risks f x g ≡ true → ⊥
+  keeps-one one none fitting l g found keeps = role (is_work g.role) refl
     where
-      t : takes f x g ≡ true
-      t = both_left (takes f x g) (not (is_apart risks g)) keeps
+      t : takes_in f x g ≡ true
+      t = sym (one l g found f x) ∙ both_left (takes f x g) (not (is_apart risks g)) keeps
 
       works : is_work g.role ≡ true → list_any (works_on x) (claims_of f o) ≡ true
       works work =
@@ -162,9 +165,9 @@ module _ (legs : List Leg) (risks : List Risk) (o : List FibreClaims) (s : List 
           guards back (common-of (is_work g.role) (have_common risks g.risks) back
           (both_right (takes f x g) (not (is_apart risks g)) keeps))
 
-  pub shared-exact : (not (list_any (works_on x) (claims_of f o)) && fits s f risks x) ≡
+  pub shared-exact : OneWay legs → (not (list_any (works_on x) (claims_of f o)) && fits s f risks x) ≡
       not (list_any (keeps_from risks f x) legs)
-  shared-exact =
+  shared-exact one =
       go (list_any (works_on x) (claims_of f o)) (fits s f risks x) (list_any (keeps_from risks f x) legs) refl refl
       refl
     where
@@ -172,7 +175,7 @@ module _ (legs : List Leg) (risks : List Risk) (o : List FibreClaims) (s : List 
           list_any (keeps_from risks f x) legs ≡ true → ⊥
       none-keeps none fitting h =
           of_each (keeps_from risks f x) ⊥ legs
-          (all-found (λ g. keeps_from risks f x g ≡ true → ⊥) legs rise (keeps-one none fitting)) h
+          (all-found (λ g. keeps_from risks f x g ≡ true → ⊥) legs rise (keeps-one one none fitting)) h
 
       met-keeps : fits s f risks x ≡ false → list_any (keeps_from risks f x) legs ≡ false → ⊥
       met-keeps met none =
@@ -191,16 +194,16 @@ module _ (legs : List Leg) (risks : List Risk) (o : List FibreClaims) (s : List 
       go false false false works fitting keeps = absurd (met-keeps fitting keeps)
 
 pub shared-usable : (p : LocalNode) (legs : List Leg) (risks : List Risk) (o : List FibreClaims) (s : List Guard)
-    (f : Fibre) → LegsRise legs → LabelsFit legs o s → OwnerFits p o → comes_in o f ≡ true →
+    (f : Fibre) → LegsRise legs → OneWay legs → LabelsFit legs o s → OwnerFits p o → comes_in o f ≡ true →
     shareable (labels_of f o) (claims_of f o) ≡
     filter (labels.has (shareable (labels_of f o) (claims_of f o))) (up_to 80) →
     labels.meet (shareable (labels_of f o) (claims_of f o)) (fitting s f risks) ≡ usable p legs Back risks f
-shared-usable p legs risks o s f rise fit owner comes narrow =
+shared-usable p legs risks o s f rise one fit owner comes narrow =
     filter-agree (labels.has (fitting s f risks)) (fits s f risks) left (λ x h. here x h)
     ∙ filter-filter (λ x. not (list_any (works_on x) (claims_of f o))) (fits s f risks) (up_to (labels_of f o))
     ∙ rw (owner.labels f comes)
     (filter-agree (λ x. not (list_any (works_on x) (claims_of f o)) && fits s f risks x) (is_usable Back risks legs f)
-    (up_to (local.labels_of (own_link p f.link))) (λ x h. shared-exact legs risks o s f x rise fit))
+    (up_to (local.labels_of (own_link p f.link))) (λ x h. shared-exact legs risks o s f x rise fit one))
   where
     left : List ℕ
     left = shareable (labels_of f o) (claims_of f o)
@@ -238,14 +241,20 @@ not-of : (b : Bool) → not b ≡ true → b ≡ false
 not-of true e = absurd (cc e)
 not-of false e = refl
 
+-- what one test tells, that another fails
+pub unless : (a b : Bool) → (a ≡ true → b ≡ true) → b ≡ false → a ≡ false
+unless true b then none = absurd (let some = then refl in cc (none, some))
+unless false b then none = refl
+
 -- no claim keeps a leg of this role from a label that is usable for it
 pub usable-unclaimed : (p : LocalNode) (legs : List Leg) (r : Role) (risks : List Risk) (o : List FibreClaims)
     (s : List Guard) (f : Fibre) (x : ℕ) → LegsRise legs → LabelsFit legs o s →
     labels.has (usable p legs r risks f) x ≡ true → list_any (bars r x) (claims_of f o) ≡ false
 usable-unclaimed p legs Work risks o s f x rise fit h =
-    claimed-taken legs o f x rise fit.claims
-    ∙ not-of (list_any (takes f x) legs) (usable-is p legs Work risks f x h)
+    unless (list_any (has x) (claims_of f o)) (list_any (takes f x) legs)
+    (claims_take legs f x (claims_of f o) (fit.claims.each f))
+    (not-of (list_any (takes f x) legs) (usable-is p legs Work risks f x h))
 usable-unclaimed p legs Back risks o s f x rise fit h =
-    not-of (list_any (works_on x) (claims_of f o))
-    (both_left (not (list_any (works_on x) (claims_of f o))) (fits s f risks x)
-    (shared-exact legs risks o s f x rise fit ∙ usable-is p legs Back risks f x h))
+    unless (list_any (works_on x) (claims_of f o)) (list_any (keeps_from risks f x) legs)
+    (works-keeps legs risks o s f x rise fit)
+    (not-of (list_any (keeps_from risks f x) legs) (usable-is p legs Back risks f x h))

@@ -5,6 +5,7 @@ ghost use Rattle.std.specs.List.{list_any};
 ghost use Rattle.link_owner.specs.Claims.{is_busy};
 ghost use Rattle.mesh_rules.specs.Activations.{is_contended};
 ghost use Rattle.mesh_rules.specs.Legs.{find_leg, is_beyond_asked, usable};
+ghost use Rattle.leg_table.specs.Fits.{OwnLegsFit};
 ghost use Rattle.leg_table.specs.LegClaims.{AreOfOneNode, ClaimsFit, is_fibre_in};
 ghost use Rattle.leg_table.specs.States.{local_of};
 
@@ -24,6 +25,7 @@ pub fn usable(
     risks: &RiskSet,
     f: Fibre,
 ) -> LabelSet
+    requires legs { OwnLegsFit tables.now }
     requires node { AreOfOneNode tables.now owner.now shares.now }
     requires comes_in { IsTrue (is_fibre_in (local_of tables.now) f) }
     ensures { result ≡ usable (local_of tables.now) tables.now.legs role risks.now f }
@@ -56,6 +58,7 @@ fn has_busy(claims: &[Claim], label: Label, lsp: Lsp) -> bool
 
 /// Whether another leg on the leg's label in is Armed or Live, so that the leg can't be activated. No leg is looked at.
 pub fn is_contended(tables: &NodeTables, owner: &Owner, leg: &Leg) -> bool
+    requires legs { OwnLegsFit tables.now }
     requires claims { ClaimsFit tables.now.legs owner.now }
     requires there { find_leg leg.now.lsp tables.now.legs ≡ Some leg.now }
     requires beyond { IsTrue (is_beyond_asked leg.now.phase) }

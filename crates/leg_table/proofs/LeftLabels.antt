@@ -9,10 +9,10 @@ use Rattle.ason_base.specs.Lsps.{same_lsp}
 use Rattle.link_owner.specs.Claims.{FibreClaims, has}
 use Rattle.link_owner.specs.Owners.{claims_of, labels_of}
 use Rattle.link_owner.specs.declared.claims.Claim.{Claim}
-use Rattle.mesh_rules.specs.Legs.{find_leg, takes, with_leg, without_leg}
+use Rattle.mesh_rules.specs.Legs.{find_leg, with_leg, without_leg}
 use Rattle.mesh_nodes.proofs.LegList.{same_lsp-eq, same_lsp-refl, find-with_leg, find-without_leg}
 use Rattle.leg_table.specs.declared.labels.TakenLabel.{TakenLabel}
-use Rattle.leg_table.specs.LegClaims.{ClaimsFit, IsClaimOfLeg, WorksAreLive, claim_kind, kind_here, taken, taken_of, GuardsFit, GuardsNothing, guarded_risks, guards_here}
+use Rattle.leg_table.specs.LegClaims.{ClaimsFit, IsClaimOfLeg, WorksAreLive, claim_kind, kind_here, taken, taken_of, GuardsFit, GuardsNothing, guarded_risks, guards_here, takes_in}
 use Rattle.leg_table.proofs.TakenLabels.{none-takes, taken-some, taken-takes, takes-taken}
 use Rattle.share_check.specs.Guards.{Guard, GuardsNone, is_guarded}
 use Rattle.ason_base.specs.declared.risks.Risk.{Risk}
@@ -71,7 +71,7 @@ left-old l legs after left m g t found has = go (same_lsp l m) refl
 
 -- labels that are left are labels of their fibres
 pub left-within : (l : Lsp) (legs after : List Leg) (o : List FibreClaims) → ClaimsFit legs o → Left l legs after →
-    (f : Fibre) (x : ℕ) (m : Lsp) (g : Leg) → find_leg m after ≡ Some g → takes f x g ≡ true → x ≤ labels_of f o
+    (f : Fibre) (x : ℕ) (m : Lsp) (g : Leg) → find_leg m after ≡ Some g → takes_in f x g ≡ true → x ≤ labels_of f o
 left-within l legs after o fit left f x m g found t =
     fit.within f x m g (left-old l legs after left m g _ found (takes-taken f x g t)) t
 
@@ -108,7 +108,7 @@ left-fit l legs after o fit left bare = record {
 -- where none has a claim none guards
 pub none-guards : (f : Fibre) (x : ℕ) (q : Risk) (o : Option Leg) → kind_here f x o ≡ None → guards_here f x q o ≡ false
 none-guards f x q None e = refl
-none-guards f x q (Some g) e = go (takes f x g) e
+none-guards f x q (Some g) e = go (takes_in f x g) e
   where
     go : (b : Bool) → cond b (Some (claim_kind g.role g.phase)) None ≡ None →
         (b && has_risk (guarded_risks g) q) ≡ false

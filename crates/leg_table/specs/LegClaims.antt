@@ -20,7 +20,7 @@ use Rattle.link_owner.specs.Owners.{claim_added, claims_of, comes_in, has_label,
 use Rattle.link_owner.specs.declared.claims.Claim.{Claim}
 use Rattle.link_owner.specs.declared.claims.ClaimKind.{ClaimKind}
 use Rattle.link_owner.specs.declared.claims.ClaimKind.TheVariants.{Working, Backup, Armed}
-use Rattle.mesh_rules.specs.Legs.{find_leg, is_beyond_asked, is_busy, is_in_use, is_work, leg_changed, reserved, takes, usable}
+use Rattle.mesh_rules.specs.Legs.{find_leg, is_at, is_beyond_asked, is_busy, is_in_use, is_work, leg_changed, reserved, usable}
 use Rattle.mesh_rules.specs.LocalNodes.{LocalNode, fibre_in, own_link}
 use Rattle.mesh_rules.specs.LocalNodes as local
 use Rattle.mesh_rules.specs.declared.changes.LegChange.{LegChange}
@@ -44,6 +44,10 @@ taken g = if is_beyond_asked g.phase then taken_over g.in_fibre g.in_label else 
 abbrev pub taken_of : Option Leg → Option TakenLabel
 taken_of None = None
 taken_of (Some g) = taken g
+
+-- it is this one; a leg that goes one way takes no other
+abbrev pub takes_in : Fibre → ℕ → Leg → Bool
+takes_in f x g = is_beyond_asked g.phase && is_at g.in_fibre g.in_label f x
 
 -- Claims of legs
 
@@ -70,7 +74,7 @@ bars Back x c = works_on x c
 -- how the leg has the label, if it takes it
 abbrev pub kind_here : Fibre → ℕ → Option Leg → Option ClaimKind
 kind_here f x None = None
-kind_here f x (Some g) = if takes f x g then Some (claim_kind g.role g.phase) else None
+kind_here f x (Some g) = if takes_in f x g then Some (claim_kind g.role g.phase) else None
 
 -- the leg of the claim's LSP takes the label, and has it in this way
 abbrev pub IsClaimOfLeg : List Leg → Fibre → Claim → Type 0
@@ -86,10 +90,10 @@ pub record ClaimsFit (legs : List Leg) (o : List FibreClaims) : Type 0 where
   -- each claim is one of a leg
   pub each : (f : Fibre) → AllByRecursion (IsClaimOfLeg legs f) (claims_of f o)
   -- each label that a leg takes is claimed by its LSP
-  pub all : (f : Fibre) (x : ℕ) (l : Lsp) (g : Leg) → find_leg l legs ≡ Some g → IsTrue (takes f x g) →
+  pub all : (f : Fibre) (x : ℕ) (l : Lsp) (g : Leg) → find_leg l legs ≡ Some g → IsTrue (takes_in f x g) →
       IsTrue (has_label o f x l)
   -- and is a label of its fibre
-  pub within : (f : Fibre) (x : ℕ) (l : Lsp) (g : Leg) → find_leg l legs ≡ Some g → IsTrue (takes f x g) →
+  pub within : (f : Fibre) (x : ℕ) (l : Lsp) (g : Leg) → find_leg l legs ≡ Some g → IsTrue (takes_in f x g) →
       x ≤ labels_of f o
   pub live : WorksAreLive legs
 
@@ -114,7 +118,7 @@ GuardsBy g t before after = GuardsJust t.fibre t.label g.lsp (guarded_risks g) b
 -- the leg takes the label, and guards the risk there
 abbrev pub guards_here : Fibre → ℕ → Risk → Option Leg → Bool
 guards_here f x q None = false
-guards_here f x q (Some g) = takes f x g && has_risk (guarded_risks g) q
+guards_here f x q (Some g) = takes_in f x g && has_risk (guarded_risks g) q
 
 -- the leg's LSP guards just what the leg does
 abbrev pub GuardsOfLeg : Leg → List Guard → Type 0

@@ -107,13 +107,14 @@ pub fn is_over(neighbour: Option<Neighbour>, node: NodeId, link: LinkId) -> bool
     }
 }
 
-/// The leg, torn: it waits for the next node, and gives up its label in.
+/// The leg, torn: it waits for the next node, and gives up its label in and its back label out.
 pub fn closed(alloc: Global, leg: &Leg) -> Result<Leg, OutOfMemory>
     ensures { IfOk result (λ g. g ≡ closed leg.now) }
 {
     let mut torn = leg.copy(alloc)?;
     torn.phase = closing_phase(leg.phase, leg.role);
     torn.in_label = None;
+    torn.back_out = None;
     Ok(torn)
 }
 

@@ -24,9 +24,9 @@ ghost use Rattle.mesh_laws.specs.WavelengthLaw.{EveryCallKeepsItsWavelengths};
 /// Of every network, every run, and each state to which a run leads:
 ///
 /// Labels, at each node. A label of a fibre is taken by one leg alone, or by backups whose
-/// primaries have no risk in common, at most one of them Armed or Live (`labels`); a Live leg has a
-/// label in exactly where it has a fibre in, and a label out exactly where it has a fibre out
-/// (`labelled`); a leg with a label in and a label out has one label where the node doesn't
+/// primaries have no risk in common, at most one of them Armed, Live or Falling (`labels`); a Live
+/// leg has a label in exactly where it has a fibre in, and a label out exactly where it has a fibre
+/// out (`labelled`); a leg with a label in and a label out has one label where the node doesn't
 /// convert, and its label in is one of the labels of its fibre's link (`kept`).
 ///
 /// Calls, at each node. The state of each call that begins there fits its legs, each of which is of
@@ -127,7 +127,7 @@ pub fn no_contend()
 /// At each node, whatever messages come to it, of whatever senders, whatever rows it learns,
 /// whatever fibres it is told to be down or up, and however often it ticks, in whatever order with
 /// the orders of its own calls: a label of a fibre is taken by one leg alone, or by backups whose
-/// primaries have no risk in common, at most one of them Armed or Live.
+/// primaries have no risk in common, at most one of them Armed, Live or Falling.
 pub fn every_node()
     ensures { EveryNodeSharesLawfully }
 {}

@@ -11,7 +11,7 @@ use Rattle.mesh_rules.specs.declared.neighbours.Neighbour.{Neighbour}
 use Rattle.mesh_rules.specs.ActivationAnswers.{confirmed, contended, disarmed, is_confirmed, resv_again}
 use Rattle.mesh_rules.specs.CallSteps.{call_contended, call_turned}
 use Rattle.mesh_rules.specs.Calls.{call_with}
-use Rattle.mesh_rules.specs.Legs.{is_armed, previous, with_leg, with_phase}
+use Rattle.mesh_rules.specs.Legs.{is_armed, is_beyond_asked, previous, with_leg, with_phase}
 use Rattle.mesh_rules.specs.LocalNodes.{LocalNode}
 use Rattle.mesh_rules.specs.State.{NodeState}
 use Rattle.mesh_nodes.specs.Kept.{LegFits, LegsFit, NodeFits}
@@ -46,24 +46,25 @@ begins-put p s h begins = record {
 -- An Armed leg
 module _ (p : LocalNode) (s : NodeState) (g : Leg) (W : Type 0) (place : LocalNodeFits p) (fits : NodeFits p s)
     (stands : Stands p s g) (armed : is_armed g.phase ≡ true) where
-  phase-legs : (f : Phase) → LegsFit p s.lsp (with_leg (with_phase f g) s.legs)
-  phase-legs f =
+  phase-legs : (f : Phase) → is_beyond_asked f ≡ true → LegsFit p s.lsp (with_leg (with_phase f g) s.legs)
+  phase-legs f beyond =
       legs-changed p s.lsp (with_phase f g) g s.legs fits.legs stands.found
-      (phase-fits p s.lsp f g stands.fits (armed-beyond g.phase armed))
+      (phase-fits p s.lsp f g stands.fits (armed-beyond g.phase armed) beyond)
 
-  phase-kept : (f : Phase) → NodeFits p (record s { legs = with_leg (with_phase f g) s.legs })
-  phase-kept f =
-      record { legs = phase-legs f; calls = fits.calls; first = fits.first; numbers = fits.numbers }
+  phase-kept : (f : Phase) → is_beyond_asked f ≡ true →
+      NodeFits p (record s { legs = with_leg (with_phase f g) s.legs })
+  phase-kept f beyond =
+      record { legs = phase-legs f beyond; calls = fits.calls; first = fits.first; numbers = fits.numbers }
 
   confirmed-fits : (o : Option Neighbour) → previous g ≡ o → AnswerFits p s W (confirmed s g o)
   confirmed-fits None is =
       after-puts p s W (call_turned (with_phase Live g) (call_with g.lsp s.calls)) (with_phase Live g)
-      (turned-call-fits p s (with_leg (with_phase Live g) s.legs) (with_phase Live g) W place (phase-kept Live)
+      (turned-call-fits p s (with_leg (with_phase Live g) s.legs) (with_phase Live g) W place (phase-kept Live refl)
       (call_with g.lsp s.calls) refl (begins-put p s (with_phase Live g) (begins-here p s.lsp g stands.fits is)))
   confirmed-fits (Some h) is =
       let sent = resv-sent p s.lsp g (Some h) g.in_label stands.fits is in
       record {
-        kept = phase-kept Live;
+        kept = phase-kept Live refl;
         near = sent.near;
         written = λ w. sent.written;
         few = (let few = sent.few in omega arith);
@@ -73,10 +74,10 @@ module _ (p : LocalNode) (s : NodeState) (g : Leg) (W : Type 0) (place : LocalNo
       AnswerFits p s W (disarmed s g m o)
   disarmed-fits m None writable is =
       after-puts p s W (call_contended (with_phase Held g) (call_with g.lsp s.calls)) (with_phase Held g)
-      (contended-call-fits p s (with_leg (with_phase Held g) s.legs) (with_phase Held g) W place (phase-kept Held)
+      (contended-call-fits p s (with_leg (with_phase Held g) s.legs) (with_phase Held g) W place (phase-kept Held refl)
       (call_with g.lsp s.calls) refl (begins-put p s (with_phase Held g) (begins-here p s.lsp g stands.fits is)))
   disarmed-fits m (Some h) writable is = record {
-    kept = phase-kept Held;
+    kept = phase-kept Held refl;
     near = (previous-is_near p s.lsp g h stands.fits is, tt);
     written = λ w. (writable w, tt);
     few = omega arith;

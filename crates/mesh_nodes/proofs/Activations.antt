@@ -12,7 +12,7 @@ use Rattle.mesh_rules.specs.declared.arrivals.Arrival.{Arrival}
 use Rattle.mesh_rules.specs.declared.neighbours.Neighbour.{Neighbour}
 use Rattle.mesh_rules.specs.Activations.{activated, armed_on, busy_to, is_contended, path_again, taken_on}
 use Rattle.mesh_rules.specs.Changes.{puts, sends}
-use Rattle.mesh_rules.specs.Legs.{find_leg, following, is_active_backup, is_held, is_in_use, is_over, is_work, previous, with_leg, with_phase}
+use Rattle.mesh_rules.specs.Legs.{find_leg, following, is_active_backup, is_beyond_asked, is_held, is_in_use, is_over, is_work, previous, with_leg, with_phase}
 use Rattle.mesh_rules.specs.LocalNodes.{LocalNode, own_link}
 use Rattle.mesh_rules.specs.Paths.{PathRequest, on_path, path_with}
 use Rattle.mesh_rules.specs.State.{NodeState}
@@ -38,10 +38,10 @@ module _ (p : LocalNode) (s : NodeState) (a : Arrival) (route : List Step) (r : 
     few = omega arith;
   }
 
-  phase-legs : (f : Phase) → LegsFit p s.lsp (with_leg (with_phase f g) s.legs)
-  phase-legs f =
+  phase-legs : (f : Phase) → is_beyond_asked f ≡ true → LegsFit p s.lsp (with_leg (with_phase f g) s.legs)
+  phase-legs f beyond =
       legs-changed p s.lsp (with_phase f g) g s.legs fits.legs stands.found
-      (phase-fits p s.lsp f g stands.fits (held-beyond g.phase held))
+      (phase-fits p s.lsp f g stands.fits (held-beyond g.phase held) beyond)
 
   armed_on-fits : (o : Option Neighbour) → following g ≡ o → (W → IsWritableRole r) → (W → length route ≤ 64) →
       AnswerFits p s W (armed_on g route r o)
@@ -49,7 +49,7 @@ module _ (p : LocalNode) (s : NodeState) (a : Arrival) (route : List Step) (r : 
       let sent = resv-sent p s.lsp g (previous g) g.in_label stands.fits refl in
       record {
         kept = record {
-          legs = phase-legs Live;
+          legs = phase-legs Live refl;
           calls = fits.calls;
           first = fits.first;
           numbers = fits.numbers;
@@ -60,7 +60,7 @@ module _ (p : LocalNode) (s : NodeState) (a : Arrival) (route : List Step) (r : 
       }
   armed_on-fits (Some h) is role short = record {
     kept = record {
-      legs = phase-legs Armed;
+      legs = phase-legs Armed refl;
       calls = fits.calls;
       first = fits.first;
       numbers = fits.numbers;
@@ -83,7 +83,7 @@ taken_back-fits : (p : LocalNode) (s : NodeState) (route : List Step) (r : PathR
 taken_back-fits p s route r g W fits stands in_use o is role short = record {
   kept = record {
     legs = legs-changed p s.lsp (with_phase Held g) g s.legs fits.legs stands.found
-        (phase-fits p s.lsp Held g stands.fits (in_use-beyond g.phase in_use));
+        (phase-fits p s.lsp Held g stands.fits (in_use-beyond g.phase in_use) refl);
     calls = fits.calls;
     first = fits.first;
     numbers = fits.numbers;

@@ -16,7 +16,7 @@ use Rattle.ason_base.specs.Lsps.{lsp_before, same_lsp}
 use Rattle.mesh_rules.specs.declared.limits.TheConstants.{MOST_LEGS}
 use Rattle.mesh_rules.specs.declared.neighbours.Neighbour.{Neighbour}
 use Rattle.mesh_rules.specs.Calls.{with_call, without_call}
-use Rattle.mesh_rules.specs.Legs.{closed, closing_phase, connected, find_leg, is_armed, is_beyond_asked, is_held, is_in_use, is_over, neighbour_over, with_leg, with_phase, without_leg}
+use Rattle.mesh_rules.specs.Legs.{closed, closing_phase, connected, find_leg, is_armed, is_beyond_asked, is_held, is_in_use, is_over, neighbour_over, reserved, with_leg, with_phase, without_leg}
 use Rattle.mesh_rules.specs.LocalNodes.{LocalNode}
 use Rattle.mesh_nodes.specs.Kept.{CallFits, CallsFit, LegFits, LegsFit}
 use Rattle.mesh_nodes.specs.Order.{LegsRise}
@@ -78,6 +78,8 @@ later-fits p a b g le fits = record {
   role = fits.role;
   in_label = fits.in_label;
   out_label = fits.out_label;
+  bare = fits.bare;
+  one_way = fits.one_way;
   number = λ e. let small : g.lsp.lsp < a = fits.number e in omega arith;
   leaves = fits.leaves;
   short = fits.short;
@@ -142,12 +144,19 @@ closed-fits p next g fits = record {
   role = fits.role;
   in_label = λ beyond. let torn = closed-phase g.phase g.role in absurd (cc (beyond, torn));
   out_label = λ beyond. let torn = closed-phase g.phase g.role in absurd (cc (beyond, torn));
+  bare = λ e. refl;
+  one_way = fits.one_way;
   number = fits.number;
   leaves = fits.leaves;
   short = fits.short;
   says = fits.says;
   set = fits.set;
 }
+
+-- a leg that gets its label is beyond Asked
+pub reserved-beyond : (r : Role) → is_beyond_asked (reserved r) ≡ true
+reserved-beyond Work = refl
+reserved-beyond Back = refl
 
 -- the label in as it should be, and a fibre out
 pub connected-fits : (p : LocalNode) (next : ℕ) (g : Leg) (label : Option ℕ) (x : ℕ) → LegFits p next g →
@@ -162,6 +171,8 @@ connected-fits p next g label x fits labelled out = record {
   role = fits.role;
   in_label = λ beyond. labelled;
   out_label = λ beyond. sym out;
+  bare = λ e. absurd (let beyond = reserved-beyond g.role in cc (beyond, e));
+  one_way = fits.one_way;
   number = fits.number;
   leaves = fits.leaves;
   short = fits.short;
@@ -171,8 +182,8 @@ connected-fits p next g label x fits labelled out = record {
 
 -- another phase, where the leg has its labels
 pub phase-fits : (p : LocalNode) (next : ℕ) (f : Phase) (g : Leg) → LegFits p next g →
-    is_beyond_asked g.phase ≡ true → LegFits p next (with_phase f g)
-phase-fits p next f g fits beyond = record {
+    is_beyond_asked g.phase ≡ true → is_beyond_asked f ≡ true → LegFits p next (with_phase f g)
+phase-fits p next f g fits beyond later = record {
   prev = fits.prev;
   in_fibre = fits.in_fibre;
   next_node = fits.next_node;
@@ -182,6 +193,8 @@ phase-fits p next f g fits beyond = record {
   role = fits.role;
   in_label = λ e. fits.in_label beyond;
   out_label = λ e. fits.out_label beyond;
+  bare = λ e. absurd (cc (later, e));
+  one_way = fits.one_way;
   number = fits.number;
   leaves = fits.leaves;
   short = fits.short;

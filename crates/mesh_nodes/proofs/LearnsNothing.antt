@@ -41,7 +41,7 @@ use Rattle.mesh_rules.specs.Changes.{Answer, changes_calls, followed_by, nothing
 use Rattle.mesh_rules.specs.FirstLegs.{first_link, is_full}
 use Rattle.mesh_rules.specs.KnownRows.{known_rows}
 use Rattle.mesh_rules.specs.LeastRoutes.{Trip, least_trip}
-use Rattle.mesh_rules.specs.Legs.{connected, find_leg, following, is_active_backup, is_armed, is_asked, is_closing, is_held, is_in_use, is_node, is_over, is_work, leg_of, previous, with_phase}
+use Rattle.mesh_rules.specs.Legs.{connected, find_leg, following, is_active_backup, is_armed, is_asked, is_closing, is_held, is_in_use, is_node, is_over, is_work, label_through, leg_of, previous, with_phase}
 use Rattle.mesh_rules.specs.LocalNodes.{LocalNode, leads, own_link}
 use Rattle.mesh_rules.specs.Messages.{arrival, on_message}
 use Rattle.mesh_rules.specs.Notifies.{Notice, notice_passed, notice_told, notify_with}
@@ -53,7 +53,7 @@ use Rattle.mesh_rules.specs.Protects.{protect_with, protects}
 use Rattle.mesh_rules.specs.Releases.{release_with, releases, tears}
 use Rattle.mesh_rules.specs.Reports.{call_reported, fibre_into, reported, reported_on, with_report}
 use Rattle.mesh_rules.specs.Retries.{retries, retry_with}
-use Rattle.mesh_rules.specs.Resvs.{answered, is_expected, label_back, labels_left, passed_back, resv_with}
+use Rattle.mesh_rules.specs.Resvs.{answered, is_expected, labels_left, passed_back, resv_with}
 use Rattle.mesh_rules.specs.Setups.{SetupRequest, admitted_setup, begins, is_order_here, is_spent, new_call, over_first, over_found, refused_setup, setup_with}
 use Rattle.mesh_rules.specs.State.{NodeState}
 use Rattle.mesh_rules.specs.Tears.{tear_with, torn}
@@ -208,7 +208,7 @@ answered-none : (p : LocalNode) (s : NodeState) (a : Arrival) (x : ℕ) (g : Leg
 answered-none p s a x g None =
     both (puts (connected g None x) []) (call_answered p s (connected g None x) (call_with g.lsp s.calls)) (refl, refl)
     (call_answered-none p s (connected g None x) (call_with g.lsp s.calls))
-answered-none p s a x g (Some h) = passed_back-none p a g h x (label_back p (labels_left p s g h) x)
+answered-none p s a x g (Some h) = passed_back-none p a g h x (label_through p (labels_left p s g h) x)
 
 resv-none : (p : LocalNode) (s : NodeState) (a : Arrival) (x : ℕ) (o : Option Leg) → LearnsNothing (resv_with p s a x o)
 resv-none p s a x None = (refl, refl)

@@ -8,6 +8,7 @@ pub mod FirstLegs
 pub mod Followed
 pub mod Items
 pub mod Kept
+pub mod LabelPlaces
 pub mod LearnsNothing
 pub mod LegList
 pub mod Links

@@ -2,17 +2,17 @@
 use Rattle.std.proofs.Common.{◌≡◌, ◌<◌, ℕ, Bool, true, false, cond, nat_eq, List, [], ◌∷◌, refl, sym, subst, arith, inl, inr}
 use Rattle.std.specs.Prelude.{◌⊎◌, ◌||◌, ◌&&◌, Option, Some, None, find, IfSome}
 use Rattle.std.specs.List.{AllByRecursion, list_any}
-use Rattle.ason_base.specs.declared.ids.Fibre.{Fibre}
 use Rattle.ason_base.specs.declared.ids.LinkId.{LinkId}
 use Rattle.ason_base.specs.declared.ids.NodeId.{NodeId}
 use Rattle.ason_base.specs.declared.network.LinkSpec.{LinkSpec}
-use Rattle.ason_base.specs.Lsps.{same_bool, same_fibre}
+use Rattle.ason_base.specs.Lsps.{same_fibre}
 use Rattle.ason_base.specs.Network.{other_end}
 use Rattle.mesh_rules.specs.declared.neighbours.Neighbour.{Neighbour}
 use Rattle.mesh_rules.specs.Legs.{is_over}
 use Rattle.mesh_rules.specs.LocalNodes.{LocalNode, fibre_in, fibre_out, leads, own_link}
 use Rattle.mesh_nodes.specs.LocalNodes.{IsOwnLink, LocalNodeFits, is_downstream, is_neighbour, is_upstream}
 use Rattle.mesh_nodes.proofs.Cases.{both_left, both_right}
+use Rattle.mesh_nodes.proofs.LabelPlaces.{either, same_fibre-refl}
 
 -- Lists
 
@@ -52,19 +52,8 @@ any-left p q (x ∷ xs) e = go (p x) (q x) e (any-left p q xs)
 
 -- Ends of a link
 
-either : (a b : Bool) → (a || b) ≡ true → (a ≡ true) ⊎ (b ≡ true)
-either true b e = inl refl
-either false b e = inr e
-
 same : (n : ℕ) → nat_eq n n ≡ true
 same n = grind arith
-
-same_fibre-refl : (f : Fibre) → same_fibre f f ≡ true
-same_fibre-refl f = rw (same f.link.0) (go f.forward)
-  where
-    go : (b : Bool) → same_bool b b ≡ true
-    go true = refl
-    go false = refl
 
 -- who sends over a link is its other end
 sender-end : (n u : NodeId) (l : LinkSpec) → l.low.0 < l.high.0 → leads (Some l) u n ≡ true →

@@ -12,10 +12,10 @@ use Rattle.mesh_rules.specs.declared.neighbours.Neighbour.{Neighbour}
 use Rattle.mesh_rules.specs.CallSteps.{call_answered, call_refused}
 use Rattle.mesh_rules.specs.Calls.{call_with}
 use Rattle.mesh_rules.specs.Changes.{removes, to_node}
-use Rattle.mesh_rules.specs.Legs.{closed, connected, find_leg, following, is_asked, is_closing, is_node, is_over, previous, with_leg, without_leg}
+use Rattle.mesh_rules.specs.Legs.{closed, connected, find_leg, following, is_asked, is_closing, is_node, is_over, label_through, previous, with_leg, without_leg}
 use Rattle.mesh_rules.specs.Messages.{arrival}
 use Rattle.mesh_rules.specs.PathErrs.{PathFailure, err_passed, path_err_with, refused_here, removed}
-use Rattle.mesh_rules.specs.Resvs.{answered, connected_here, is_expected, label_back, labels_left, passed_back, resv_with}
+use Rattle.mesh_rules.specs.Resvs.{answered, connected_here, is_expected, labels_left, passed_back, resv_with}
 use Rattle.mesh_rules.specs.LocalNodes.{LocalNode}
 use Rattle.mesh_rules.specs.State.{NodeState}
 use Rattle.mesh_rules.specs.Tears.{tear_with, torn}
@@ -90,7 +90,7 @@ module _ (p : LocalNode) (s : NodeState) (a : Arrival) (x : ℕ) (g : Leg) (W : 
 
   answered-fits : (o : Option Neighbour) → previous g ≡ o → AnswerFits p s W (answered p s a x g o)
   answered-fits None is = connected_here-fits is
-  answered-fits (Some h) is = passed_back-fits h (label_back p (labels_left p s g h) x) is
+  answered-fits (Some h) is = passed_back-fits h (label_through p (labels_left p s g h) x) is
 
 resv-fits : (p : LocalNode) (s : NodeState) (a : Arrival) (x : ℕ) (W : Type 0) (o : Option Leg) → LocalNodeFits p →
     NodeFits p s → find_leg a.lsp s.legs ≡ o → AnswerFits p s W (resv_with p s a x o)

@@ -22,7 +22,7 @@ use Rattle.mesh_nodes.specs.Kept.{LegFits, NodeFits}
 use Rattle.mesh_nodes.specs.LocalNodes.{LocalNodeFits}
 use Rattle.mesh_nodes.specs.Sent.{AnswerFits}
 use Rattle.mesh_nodes.proofs.Cases.{both_left, both_right, if_cases, not-true}
-use Rattle.mesh_nodes.proofs.Kept.{legs-more}
+use Rattle.mesh_nodes.proofs.Kept.{legs-more, reserved-beyond}
 use Rattle.mesh_nodes.proofs.Links.{end-downstream, end-near, own-is, sender-near, sender-upstream}
 
 -- the node keeps what it kept, and nothing is sent
@@ -78,6 +78,8 @@ module _ (p : LocalNode) (s : NodeState) (m : PathRequest) (link : LinkSpec) (W 
     role = role-fits m.role;
     in_label = λ beyond. refl;
     out_label = λ beyond. refl;
+    bare = λ e. absurd (let beyond = reserved-beyond (role_of m.role) in cc (beyond, e));
+    one_way = refl;
     number = away m.arrival.lsp.ingress.0 p.id.0 (m.arrival.lsp.lsp < s.lsp) far;
     leaves = away m.arrival.lsp.ingress.0 p.id.0 (nat_eq m.arrival.egress.0 p.id.0 ≡ false) far;
     short = λ e. omega arith;
@@ -107,6 +109,8 @@ module _ (p : LocalNode) (s : NodeState) (m : PathRequest) (link : LinkSpec) (W 
     role = role-fits m.role;
     in_label = λ beyond. absurd (cc beyond);
     out_label = λ beyond. absurd (cc beyond);
+    bare = λ e. refl;
+    one_way = refl;
     number = away m.arrival.lsp.ingress.0 p.id.0 (m.arrival.lsp.lsp < s.lsp) far;
     leaves = λ e. on;
     short = away m.arrival.lsp.ingress.0 p.id.0 (length route < MOST_LINKS_OF_ROUTE) far;

@@ -78,7 +78,7 @@ module _ (p : LocalNode) (s : NodeState) (fits : NodeFits p s) where
         legs_fit =
             legs-changed p s.lsp (with_phase Held b) there.0 legs st.legs_fit there.1
             (phase-fits p s.lsp Held b (found-all (LegFits p s.lsp) b.lsp s.legs b stands.found fits.legs.each)
-            (in_use-beyond b.phase in_use));
+            (in_use-beyond b.phase in_use) refl);
         calls_fit = st.calls_fit;
         stay = λ l g found.
             subst (λ o. is_some o ≡ true) (sym (find-with_leg (with_phase Held b) legs l))

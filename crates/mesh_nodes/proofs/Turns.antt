@@ -93,16 +93,17 @@ module _ (p : LocalNode) (s : NodeState) (legs : List Leg) (W : Type 0) (fits : 
 
     -- the backup's leg, which has its labels, gets another phase with its call
     moved-fit : (c : CallRec) (b : Leg) (f : Phase) (outs : List Out) → CallFits p c → BeginsHere p legs b →
-        is_beyond_asked b.phase ≡ true → OneFits p outs → AnswerFits p (record s { legs = legs }) W (record nothing {
+        is_beyond_asked b.phase ≡ true → is_beyond_asked f ≡ true → OneFits p outs →
+        AnswerFits p (record s { legs = legs }) W (record nothing {
           legs = leg.Put (with_phase f b) ∷ [];
           calls = call.Put c ∷ [];
           sent = outs;
         })
-    moved-fit c b f outs here stands beyond sent = record {
+    moved-fit c b f outs here stands beyond later sent = record {
       kept = record {
         legs =
             legs-changed p s.lsp (with_phase f b) b legs fits.legs stands.found
-            (phase-fits p s.lsp f b (leg-of b stands) beyond);
+            (phase-fits p s.lsp f b (leg-of b stands) beyond later);
         calls = calls-put p c s.calls fits.calls here;
         first = fits.first;
         numbers = fits.numbers;
@@ -116,14 +117,14 @@ module _ (p : LocalNode) (s : NodeState) (legs : List Leg) (W : Type 0) (fits : 
         AnswerFits p (record s { legs = legs }) W (arms c b)
     arms-fit c b here stands held =
         moved-fit (turning c) b Armed (activating_path b (following b))
-        (record { backup = here.backup; work = here.work; back = here.back }) stands (held-beyond b.phase held)
+        (record { backup = here.backup; work = here.work; back = here.back }) stands (held-beyond b.phase held) refl
         (activating-sent p s.lsp b (following b) (leg-of b stands) stands.begins refl)
 
     disarms-fit : (c : CallRec) (b : Leg) → CallFits p c → BeginsHere p legs b → is_in_use b.phase ≡ true →
         AnswerFits p (record s { legs = legs }) W (disarms c b)
     disarms-fit c b here stands in_use =
         moved-fit (guarded c) b Held (taking_path b (following b))
-        (record { backup = here.backup; work = here.work; back = here.back }) stands (in_use-beyond b.phase in_use)
+        (record { backup = here.backup; work = here.work; back = here.back }) stands (in_use-beyond b.phase in_use) refl
         (taking-sent p s.lsp b (following b) (leg-of b stands) stands.begins refl)
 
     pub turn-fits : (c : CallRec) (o : Option Leg) → CallFits p c → IfSome o (BeginsHere p legs) →

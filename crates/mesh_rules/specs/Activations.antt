@@ -20,9 +20,9 @@ use Rattle.mesh_rules.specs.Legs.{following, is_active_backup, is_busy, is_held,
 
 -- Messages
 
--- a Path of the leg, over these steps from the next node on and for this role
+-- a Path of the leg, over these steps from the next node on and for this role, with its back label in
 abbrev pub path_to : Leg → List Step → PathRole → Neighbour → Out
-path_to g route r h = to_node h.node (Path g.lsp g.egress h.fibre.link route g.sent None r)
+path_to g route r h = to_node h.node (Path g.lsp g.egress h.fibre.link route g.sent g.back_in r)
 
 -- a Resv with the leg's label in, to the previous node
 abbrev pub resv_to : Leg → Option Neighbour → Option ℕ → List Out

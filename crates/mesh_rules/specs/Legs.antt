@@ -1,4 +1,4 @@
--- The legs of one node, in order of LSP, and the labels that they take.
+-- The legs of one node, in order of LSP, and the labels that they take and send.
 use Rattle.std.specs.Prelude.{ℕ, ◌==◌, ◌&&◌, ◌||◌, Bool, true, false, not, List, [], ◌∷◌, find, filter, Option, Some, None, if◌then◌else◌}
 use Rattle.std.specs.List.{list_any}
 use Rattle.ason_base.specs.declared.ids.NodeId.{NodeId}
@@ -11,7 +11,7 @@ use Rattle.ason_base.specs.declared.calls.Role.{Role}
 use Rattle.ason_base.specs.declared.calls.Role.TheVariants.{Work, Back}
 use Rattle.ason_base.specs.declared.risks.Risk.{Risk}
 use Rattle.ason_base.specs.declared.tables.Leg.{Leg}
-use Rattle.ason_base.specs.Labels.{up_to}
+use Rattle.ason_base.specs.Labels.{has, least, up_to}
 use Rattle.ason_base.specs.Lsps.{same_lsp, lsp_before, same_fibre}
 use Rattle.ason_base.specs.Risks.{have_common}
 use Rattle.mesh_rules.specs.declared.changes.LegChange.{LegChange}
@@ -114,9 +114,21 @@ is_work Back = false
 abbrev pub is_active_backup : Leg → Bool
 is_active_backup g = not (is_work g.role) && is_in_use g.phase
 
--- A torn leg gives up its label in. It keeps its fibres and its label out.
+-- the phases of a leg that an activation has passed, until the next node has let go
+abbrev pub is_marking : Phase → Bool
+is_marking Armed = true
+is_marking Live = true
+is_marking Falling = true
+is_marking _ = false
+
+-- a backup that is Armed, Live or Falling
+abbrev pub is_marked : Leg → Bool
+is_marked g = not (is_work g.role) && is_marking g.phase
+
+-- A torn leg gives up the labels that its previous node uses: its label in and its back label out. It keeps its fibres,
+-- and the labels that its next node uses: its label out and its back label in.
 abbrev pub closed : Leg → Leg
-closed g = record g { phase = closing_phase g.phase g.role; in_label = None }
+closed g = record g { phase = closing_phase g.phase g.role; in_label = None; back_out = None }
 
 -- The leg of a Resv: the label out is the one that came, the label in the one that goes back.
 abbrev pub connected : Leg → Option ℕ → ℕ → Leg
@@ -154,13 +166,30 @@ abbrev pub is_label : Option ℕ → ℕ → Bool
 is_label None x = false
 is_label (Some y) x = y == x
 
--- the label in of a leg beyond Asked on this fibre
-abbrev pub label_on : Fibre → Leg → Option ℕ
-label_on f g = if is_beyond_asked g.phase && is_on g.in_fibre f then g.in_label else None
+-- the other direction of the same link
+abbrev pub reverse : Fibre → Fibre
+reverse f = record { link = f.link; forward = not f.forward }
 
--- the leg takes this label of this fibre
+abbrev pub reverse_of : Option Fibre → Option Fibre
+reverse_of None = None
+reverse_of (Some f) = Some (reverse f)
+
+-- this label of this fibre
+abbrev pub is_at : Option Fibre → Option ℕ → Fibre → ℕ → Bool
+is_at o label f x = is_on o f && is_label label x
+
+-- the leg takes the label on a fibre that comes in: as its label in on its fibre in, or as its back label in on the
+-- reverse of its fibre out
 abbrev pub takes : Fibre → ℕ → Leg → Bool
-takes f x g = is_label (label_on f g) x
+takes f x g = is_at g.in_fibre g.in_label f x || is_at (reverse_of g.out_fibre) g.back_in f x
+
+-- it sends on the label on a fibre that goes out: as its label out on its fibre out, or as its back label out on the
+-- reverse of its fibre in
+abbrev pub sends : Fibre → ℕ → Leg → Bool
+sends f x g = is_at g.out_fibre g.out_label f x || is_at (reverse_of g.in_fibre) g.back_out f x
+
+abbrev pub uses : Fibre → ℕ → Leg → Bool
+uses f x g = takes f x g || sends f x g
 
 -- no leg takes the label
 abbrev pub is_free : List Leg → Fibre → ℕ → Bool
@@ -186,3 +215,14 @@ is_usable Back risks legs f x = is_shareable risks legs f x
 -- the labels of a fibre that a leg of this role, whose primary has these risks, may take
 abbrev pub usable : LocalNode → List Leg → Role → List Risk → Fibre → List ℕ
 usable p legs role risks f = filter (is_usable role risks legs f) (up_to (labels_of (own_link p f.link)))
+
+-- The label with which an LSP goes on
+
+-- this label, if it is one of them
+abbrev pub only : ℕ → Bool → Option ℕ
+only x true = Some x
+only x false = None
+
+-- of these labels the least at a node that converts, at another one the label that came
+abbrev pub label_through : LocalNode → List ℕ → ℕ → Option ℕ
+label_through p labels x = if p.convert then least labels else only x (has labels x)

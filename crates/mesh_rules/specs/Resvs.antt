@@ -1,7 +1,7 @@
 -- A Resv (RFC 2205, section 3.1.4; RFC 3473, section 2).
-use Rattle.std.specs.Prelude.{ℕ, ◌&&◌, Bool, true, false, List, [], ◌∷◌, Option, Some, None, if◌then◌else◌}
+use Rattle.std.specs.Prelude.{ℕ, ◌&&◌, Bool, true, List, [], ◌∷◌, Option, Some, None, if◌then◌else◌}
 use Rattle.ason_base.specs.Codes.{label_code}
-use Rattle.ason_base.specs.Labels.{has, meet, least}
+use Rattle.ason_base.specs.Labels.{has, meet}
 use Rattle.ason_base.specs.declared.messages.Msg.TheVariants.{Resv, PathTear, PathErr}
 use Rattle.ason_base.specs.declared.tables.Leg.{Leg}
 use Rattle.mesh_rules.specs.declared.arrivals.Arrival.{Arrival}
@@ -10,23 +10,13 @@ use Rattle.mesh_rules.specs.State.{NodeState}
 use Rattle.mesh_rules.specs.ActivationAnswers.{resv_again}
 use Rattle.mesh_rules.specs.Changes.{Answer, nothing, puts, followed_by, to_node}
 use Rattle.mesh_rules.specs.LocalNodes.{LocalNode}
-use Rattle.mesh_rules.specs.Legs.{find_leg, is_asked, closed, connected, previous, following, is_over, usable}
+use Rattle.mesh_rules.specs.Legs.{find_leg, is_asked, closed, connected, label_through, previous, following, is_over, usable}
 use Rattle.mesh_rules.specs.Calls.{call_with}
 use Rattle.mesh_rules.specs.CallSteps.{call_answered}
 
 -- a Resv is taken by an Asked leg, from its next node, over its outgoing link, with a label of the set that was sent on
 abbrev pub is_expected : Arrival → ℕ → Leg → Bool
 is_expected a x g = is_asked g.phase && (is_over (following g) a.from a.link && has g.sent x)
-
--- this label, if it is one of them
-abbrev pub only : ℕ → Bool → Option ℕ
-only x true = Some x
-only x false = None
-
--- the label that goes back: the least that was offered and is usable now, at a node that doesn't convert the one that
--- came
-abbrev pub label_back : LocalNode → List ℕ → ℕ → Option ℕ
-label_back p labels x = if p.convert then least labels else only x (has labels x)
 
 -- no label is left: the LSP is torn towards the egress, and the ingress is told
 abbrev pub torn_both_ways : LocalNode → Arrival → Leg → Neighbour → Answer
@@ -54,7 +44,7 @@ labels_left p s g h = meet g.offered (usable p s.legs g.role g.risks h.fibre)
 
 abbrev pub answered : LocalNode → NodeState → Arrival → ℕ → Leg → Option Neighbour → Answer
 answered p s a x g None = connected_here p s x g
-answered p s a x g (Some h) = passed_back p a g h x (label_back p (labels_left p s g h) x)
+answered p s a x g (Some h) = passed_back p a g h x (label_through p (labels_left p s g h) x)
 
 abbrev pub resv_with : LocalNode → NodeState → Arrival → ℕ → Option Leg → Answer
 resv_with p s a x None = nothing

@@ -1,5 +1,5 @@
 -- The legs fit after a Resv and after a PathErr.
-use Rattle.std.proofs.Common.{◌≡◌, ℕ, Bool, refl, ap, sym}
+use Rattle.std.proofs.Common.{◌≡◌, refl, ap, sym}
 use Rattle.std.specs.Prelude.{◌&&◌, Option, Some, None}
 use Rattle.ason_base.specs.declared.ids.NodeId.{NodeId}
 use Rattle.ason_base.specs.declared.messages.Msg.{Msg}

@@ -2,8 +2,8 @@
 
 ghost use Rattle.std.specs.Prelude.{◌≡◌, [], IfOk, IsTrue, None, Some};
 ghost use Rattle.mesh_rules.specs.Changes.{puts};
-ghost use Rattle.mesh_rules.specs.Legs.{connected, find_leg};
-ghost use Rattle.mesh_rules.specs.Resvs.{is_expected, label_back, label_passed, torn_both_ways};
+ghost use Rattle.mesh_rules.specs.Legs.{connected, find_leg, label_through};
+ghost use Rattle.mesh_rules.specs.Resvs.{is_expected, label_passed, torn_both_ways};
 ghost use Rattle.leg_table.specs.Fits.{TablesFit};
 ghost use Rattle.leg_table.specs.LegClaims.{is_fibre_in};
 ghost use Rattle.leg_table.specs.States.{local_of};
@@ -45,8 +45,8 @@ fn expects(arrival: Arrival, label: Label, leg: &Leg) -> bool
         && leg.sent.has(label)
 }
 
-fn label_back(tables: &NodeTables, labels: &LabelSet, label: Label) -> Option<Label>
-    ensures { result ≡ label_back (local_of tables.now) labels.now label }
+fn label_through(tables: &NodeTables, labels: &LabelSet, label: Label) -> Option<Label>
+    ensures { result ≡ label_through (local_of tables.now) labels.now label }
 {
     if tables.node().convert {
         labels.least()
@@ -145,7 +145,7 @@ fn answer(
         return connect_here(alloc, leg, label);
     };
     let labels = labels_left(tables, owner, shares, leg, back);
-    match label_back(tables, &labels, label) {
+    match label_through(tables, &labels, label) {
         None => tear_both_ways(alloc, tables, arrival, leg, back),
         Some(chosen) => pass_label(alloc, leg, back, label, chosen),
     }

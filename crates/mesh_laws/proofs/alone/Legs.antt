@@ -1,8 +1,8 @@
 -- Which legs concern one of the groups, and why no label of a backup that does is in use.
-use Rattle.std.proofs.Common.{◌≡◌, ℕ, Bool, true, false, cond, not, nat_eq, List, [], ◌∷◌, refl, sym, ap, ◌∙◌, subst, arith, inl, inr}
+use Rattle.std.proofs.Common.{◌≡◌, ℕ, Bool, true, false, not, List, [], ◌∷◌, refl, sym, ap, ◌∙◌, subst, inl, inr}
 use Rattle.std.specs.Prelude.{◌&&◌, Option, Some, None}
 use Rattle.std.specs.List.{AllByRecursion}
-use Rattle.ason_base.specs.Lsps.{same_bool, same_fibre, same_lsp}
+use Rattle.ason_base.specs.Lsps.{same_lsp}
 use Rattle.ason_base.specs.declared.ids.Fibre.{Fibre}
 use Rattle.ason_base.specs.declared.ids.Lsp.{Lsp}
 use Rattle.ason_base.specs.declared.calls.Phase.{Phase}
@@ -12,11 +12,12 @@ use Rattle.ason_base.specs.declared.calls.Role.TheVariants.{Work, Back}
 use Rattle.ason_base.specs.declared.commands.Group.{Group}
 use Rattle.ason_base.specs.declared.tables.Leg.{Leg}
 use Rattle.mesh_rules.specs.Activations.{is_contended}
-use Rattle.mesh_rules.specs.Legs.{closed, closing_phase, find_leg, is_armed, is_busy, is_held, is_in_use, is_label, reserved, takes}
+use Rattle.mesh_rules.specs.Legs.{closed, closing_phase, find_leg, is_armed, is_busy, is_in_use, reserved, takes}
 use Rattle.mesh_nodes.specs.Order.{LegsRise}
 use Rattle.mesh_nodes.proofs.LegList.{all-found, found-all, found-lsp, same_lsp-refl}
 use Rattle.mesh_laws.proofs.alone.Facts.{LabelsFit}
 use Rattle.mesh_laws.proofs.alone.Groups.{LegConcerns, has_one}
+use Rattle.mesh_laws.proofs.nodes.LegParts.{takes-by}
 
 -- the leg, where it is a backup's, records one of the groups
 abbrev pub Records : List Group → Leg → Type 0
@@ -102,34 +103,11 @@ module _ (gs : List Group) where
     each-found = all-found (λ h. find_leg h.lsp all ≡ Some h) all rise
         (λ l h found. subst (λ k. find_leg k all ≡ Some h) (sym (found-lsp l all h found)) found)
 
-    takes-own : (f : Fibre) (x : ℕ) → b.in_fibre ≡ Some f → b.in_label ≡ Some x → is_held b.phase ≡ true →
-        takes f x b ≡ true
-    takes-own f x at_f at_x held = go b.phase refl held
-      where
-        same_bool-refl : (c : Bool) → same_bool c c ≡ true
-        same_bool-refl true = refl
-        same_bool-refl false = refl
-
-        same_fibre-refl : same_fibre f f ≡ true
-        same_fibre-refl =
-            let link : nat_eq f.link.0 f.link.0 ≡ true = grind arith in rw link (same_bool-refl f.forward)
-
-        same_label : is_label (cond (same_fibre f f) (Some x) None) x ≡ true
-        same_label = rw same_fibre-refl (grind arith)
-
-        go : (q : Phase) → b.phase ≡ q → is_held q ≡ true → takes f x b ≡ true
-        go Held is e = rw (is, at_f, at_x) same_label
-        go Asked is e = absurd (cc e)
-        go Armed is e = absurd (cc e)
-        go Live is e = absurd (cc e)
-        go Closing is e = absurd (cc e)
-        go Falling is e = absurd (cc e)
-
-    -- so the label of a Held leg that records one isn't in use
-    pub not_contended : is_held b.phase ≡ true → is_contended all b b.in_fibre b.in_label ≡ false
-    not_contended held = go b.in_fibre b.in_label refl refl
+    -- so the label of a leg that records one isn't in use
+    pub not_contended : is_contended all b b.in_fibre b.in_label ≡ false
+    not_contended = go b.in_fibre b.in_label refl refl
       where
         go : (f : Option Fibre) (x : Option ℕ) → b.in_fibre ≡ f → b.in_label ≡ x → is_contended all b f x ≡ false
         go None x at_f at_x = refl
         go (Some f) None at_f at_x = refl
-        go (Some f) (Some x) at_f at_x = not_these f x all each-found (takes-own f x at_f at_x held)
+        go (Some f) (Some x) at_f at_x = not_these f x all each-found (takes-by f x b at_f at_x)

@@ -22,14 +22,14 @@ use Rattle.mesh_rules.specs.ActivationAnswers.{confirmed, is_confirmed, resv_aga
 use Rattle.mesh_rules.specs.Calls.{call_with}
 use Rattle.mesh_rules.specs.CallSteps.{call_answered, call_refused, call_turned}
 use Rattle.mesh_rules.specs.Changes.{nothing, puts, removes, sends, to_node}
-use Rattle.mesh_rules.specs.Legs.{closed, connected, find_leg, following, is_active_backup, is_armed, is_asked, is_closing, is_held, is_node, is_over, previous, with_phase}
+use Rattle.mesh_rules.specs.Legs.{closed, connected, find_leg, following, is_active_backup, is_armed, is_asked, is_closing, is_held, is_node, is_over, label_through, previous, with_phase}
 use Rattle.mesh_rules.specs.LocalNodes.{LocalNode, own_link}
 use Rattle.mesh_rules.specs.Messages.{arrival, on_message}
 use Rattle.mesh_rules.specs.Notifies.{Notice, notify_with}
 use Rattle.mesh_rules.specs.PathErrs.{PathFailure, err_passed, path_err_with, removed}
 use Rattle.mesh_rules.specs.Paths.{PathRequest, path_with}
 use Rattle.mesh_rules.specs.Reports.{reported}
-use Rattle.mesh_rules.specs.Resvs.{answered, connected_here, is_expected, label_back, labels_left, passed_back, resv_with}
+use Rattle.mesh_rules.specs.Resvs.{answered, connected_here, is_expected, labels_left, passed_back, resv_with}
 use Rattle.mesh_rules.specs.State.{NodeState}
 use Rattle.mesh_rules.specs.Tears.{tear_with, torn}
 use Rattle.mesh_nodes.proofs.Cases.{both_left, if_cases}
@@ -65,12 +65,12 @@ module _ (t : Network) (gs : List Group) (o : Routes) (p : LocalNode) (s : NodeS
     armed_on-fine route r (Some h) concerns records =
         fine-puts t gs o (with_phase Armed b) _ (λ back used. records back) (concerns, tt)
 
-    activated-fine : (a : Arrival) (route : List Step) (r : PathRole) → is_held b.phase ≡ true →
-        RoleConcerns t gs r → Records gs b → Fine t gs o (activated p s a route r b)
-    activated-fine a route r held concerns records =
+    activated-fine : (a : Arrival) (route : List Step) (r : PathRole) → RoleConcerns t gs r → Records gs b →
+        Fine t gs o (activated p s a route r b)
+    activated-fine a route r concerns records =
         if_cases (Fine t gs o) (is_contended s.legs b b.in_fibre b.in_label) (sends (busy_to p b a.from ∷ []))
         (armed_on b route r (following b))
-        (λ e. let never = not_contended gs s.legs knows.rise knows.labels apart holds.legs b here records held in
+        (λ e. let never = not_contended gs s.legs knows.rise knows.labels apart holds.legs b here records in
         absurd (cc (e, never)))
         (λ e. armed_on-fine route r (following b) concerns records)
 
@@ -94,7 +94,7 @@ module _ (t : Network) (gs : List Group) (o : Routes) (p : LocalNode) (s : NodeS
         (λ e. taken_back-fine route work primary) (λ e. fine-nothing t gs o)
     path_again-fine a route (Back true work primary) concerns its =
         if_cases (Fine t gs o) (is_held b.phase && is_over (previous b) a.from a.link) _ nothing
-        (λ e. activated-fine a route (Back true work primary) (both_left (is_held b.phase) _ e) concerns
+        (λ e. activated-fine a route (Back true work primary) concerns
         (λ back. subst (λ x. has_one x gs ≡ true) (sym (its b here back))
         (recorded-one t gs primary concerns)))
         (λ e. fine-nothing t gs o)
@@ -116,7 +116,7 @@ module _ (t : Network) (gs : List Group) (o : Routes) (p : LocalNode) (s : NodeS
 
     answered-fine : (a : Arrival) (x : ℕ) (h : Option Neighbour) → Fine t gs o (answered p s a x b h)
     answered-fine a x None = connected_here-fine x
-    answered-fine a x (Some h) = passed_back-fine a h x (label_back p (labels_left p s b h) x)
+    answered-fine a x (Some h) = passed_back-fine a h x (label_through p (labels_left p s b h) x)
 
     confirmed-fine : (h : Option Neighbour) → is_armed b.phase ≡ true → Fine t gs o (confirmed s b h)
     confirmed-fine None armed =

@@ -151,7 +151,7 @@ module _ (t : Network) (q : Purpose) (s : Mesh) (l : Lsp) (p : Plan) (i : ℕ) (
       goes_on : suc i < hops p →
           Keeps (armed_on g (drop 1 r) role (Some (record { node = next; fibre = fibre_at t p (suc i) })))
       goes_on small =
-          let m : Msg = Path g.lsp g.egress (link_at p (suc i)) (drop 1 r) g.sent None (Back true work primary) in
+          let m : Msg = Path g.lsp g.egress (link_at p (suc i)) (drop 1 r) g.sent g.back_in (Back true work primary) in
           down_taken t q s l p i route chain below message rest was own
           (puts (with_phase Armed g) (to_node next m ∷ [])) (Some (with_phase Armed g)) [] (m ∷ [])
           (rw mine refl) (sends_on t l l.ingress p route (suc i) m small mine)

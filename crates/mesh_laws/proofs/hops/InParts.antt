@@ -14,11 +14,11 @@ use Rattle.mesh_rules.specs.Activations.{resv_to}
 use Rattle.mesh_rules.specs.ActivationAnswers.{confirmed, contended, disarmed, is_confirmed, resv_again}
 use Rattle.mesh_rules.specs.Changes.{Answer, nothing, puts, removes, sends, followed_by, later, to_node}
 use Rattle.mesh_rules.specs.LocalNodes.{LocalNode}
-use Rattle.mesh_rules.specs.Legs.{find_leg, is_armed, is_asked, is_closing, connected, previous, following, is_node, with_phase}
+use Rattle.mesh_rules.specs.Legs.{find_leg, is_armed, is_asked, is_closing, connected, previous, following, is_node, with_phase, label_through}
 use Rattle.mesh_rules.specs.Calls.{call_with}
 use Rattle.mesh_rules.specs.CallSteps.{call_answered, call_contended, call_refused, call_turned}
 use Rattle.mesh_rules.specs.Notifies.{Notice, notice_passed, notice_told, notify_with}
-use Rattle.mesh_rules.specs.Resvs.{is_expected, label_back, labels_left, passed_back, answered, resv_with}
+use Rattle.mesh_rules.specs.Resvs.{is_expected, labels_left, passed_back, answered, resv_with}
 use Rattle.mesh_rules.specs.PathErrs.{PathFailure, err_passed, removed, path_err_with}
 use Rattle.mesh_rules.specs.Reports.{report_here, reported}
 use Rattle.mesh_rules.specs.Messages.{arrival, on_message}
@@ -27,7 +27,7 @@ use Rattle.mesh_rules.specs.Messages.{arrival, on_message}
 
 abbrev pub leg_answers : LocalNode → NodeState → Arrival → ℕ → Leg → Option Neighbour → Answer
 leg_answers p s a x g None = puts (connected g None x) []
-leg_answers p s a x g (Some h) = passed_back p a g h x (label_back p (labels_left p s g h) x)
+leg_answers p s a x g (Some h) = passed_back p a g h x (label_through p (labels_left p s g h) x)
 
 -- an Armed leg is Live
 abbrev pub leg_confirmed : Leg → Option Neighbour → Answer

@@ -7,9 +7,8 @@ use Rattle.ason_base.specs.declared.ids.Fibre.{Fibre}
 use Rattle.ason_base.specs.declared.risks.Risk.{Risk}
 use Rattle.ason_base.specs.declared.tables.Leg.{Leg}
 use Rattle.ason_base.proofs.MaskMembers.{has-filter}
-use Rattle.mesh_rules.specs.Legs.{is_usable, usable}
+use Rattle.mesh_rules.specs.Legs.{is_usable, label_through, only, usable}
 use Rattle.mesh_rules.specs.LocalNodes.{LocalNode, labels_of, own_link}
-use Rattle.mesh_rules.specs.Resvs.{only, label_back}
 use Rattle.mesh_rules.proofs.Conjunctions.{and_first}
 use Rattle.mesh_nodes.proofs.Cases.{both_right}
 
@@ -24,15 +23,16 @@ has_only : (labels : List ℕ) (x y : ℕ) (b : Bool) → has labels x ≡ b →
 has_only labels x y true here e = let q : x ≡ y = cc in rw (← q) here
 has_only labels x y false here e = cc
 
-pub has_label_back : (p : LocalNode) (labels : List ℕ) (x y : ℕ) → label_back p labels x ≡ Some y → has labels y ≡ true
-has_label_back p labels x y e = go p.convert e
+pub has_label_through : (p : LocalNode) (labels : List ℕ) (x y : ℕ) → label_through p labels x ≡ Some y →
+    has labels y ≡ true
+has_label_through p labels x y e = go p.convert e
   where
     go : (b : Bool) → cond b (least labels) (only x (has labels x)) ≡ Some y → has labels y ≡ true
     go true e = has_least labels y e
     go false e = has_only labels x y (has labels x) refl e
 
 -- a node that doesn't convert passes back the label that came
-pub back_same : (p : LocalNode) (labels : List ℕ) (x y : ℕ) → p.convert ≡ false → label_back p labels x ≡ Some y →
+pub back_same : (p : LocalNode) (labels : List ℕ) (x y : ℕ) → p.convert ≡ false → label_through p labels x ≡ Some y →
     y ≡ x
 back_same p labels x y keeps e = go p.convert keeps e
   where

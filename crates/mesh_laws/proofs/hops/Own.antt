@@ -25,9 +25,9 @@ use Rattle.mesh_rules.specs.Activations.{armed_on, is_contended, path_again, res
 use Rattle.mesh_rules.specs.ActivationAnswers.{is_confirmed}
 use Rattle.mesh_rules.specs.Changes.{Answer, nothing, puts, to_node}
 use Rattle.mesh_rules.specs.LocalNodes.{LocalNode, own_link, leads}
-use Rattle.mesh_rules.specs.Legs.{find_leg, is_active_backup, is_armed, is_asked, is_closing, is_held, previous, following, is_node, is_over, with_phase}
+use Rattle.mesh_rules.specs.Legs.{find_leg, is_active_backup, is_armed, is_asked, is_closing, is_held, previous, following, is_node, is_over, with_phase, label_through}
 use Rattle.mesh_rules.specs.Paths.{PathRequest, is_active, risks_here, first_failure, checks, offered_labels, at_egress, in_transit, admitted, judged, first_path, path_with}
-use Rattle.mesh_rules.specs.Resvs.{is_expected, label_back, labels_left, passed_back}
+use Rattle.mesh_rules.specs.Resvs.{is_expected, labels_left, passed_back}
 use Rattle.mesh_rules.specs.PathErrs.{PathFailure}
 use Rattle.mesh_rules.specs.Tears.{torn, tear_with}
 use Rattle.mesh_rules.specs.Messages.{arrival}
@@ -155,7 +155,7 @@ own-passed_back l p a g h x (Some y) is = record { legs = (is, tt); sent = (is, 
 own-leg_answers : (l : Lsp) (p : LocalNode) (s : NodeState) (a : Arrival) (x : ℕ) (g : Leg)
     (o : Option Neighbour) → g.lsp ≡ l → Own l (leg_answers p s a x g o)
 own-leg_answers l p s a x g None is = record { legs = (is, tt); sent = tt; numbers = refl }
-own-leg_answers l p s a x g (Some h) is = own-passed_back l p a g h x (label_back p (labels_left p s g h) x) is
+own-leg_answers l p s a x g (Some h) is = own-passed_back l p a g h x (label_through p (labels_left p s g h) x) is
 
 own-leg_confirmed : (l : Lsp) (g : Leg) (o : Option Neighbour) → g.lsp ≡ l → Own l (leg_confirmed g o)
 own-leg_confirmed l g None is = record { legs = (is, tt); sent = tt; numbers = refl }

@@ -19,14 +19,14 @@ use Rattle.mesh_rules.specs.State.{NodeState}
 use Rattle.mesh_rules.specs.ActivationAnswers.{is_confirmed}
 use Rattle.mesh_rules.specs.Changes.{Answer, nothing, puts, to_node}
 use Rattle.mesh_rules.specs.LocalNodes.{LocalNode, labels_of, local_node, own_link}
-use Rattle.mesh_rules.specs.Legs.{closed, connected, previous, usable, with_phase}
-use Rattle.mesh_rules.specs.Resvs.{is_expected, label_back, passed_back}
+use Rattle.mesh_rules.specs.Legs.{closed, connected, label_through, previous, usable, with_phase}
+use Rattle.mesh_rules.specs.Resvs.{is_expected, passed_back}
 use Rattle.mesh_rules.specs.Messages.{arrival}
 use Rattle.mesh_rules.specs.Machine.{Mesh}
 use Rattle.mesh_laws.specs.HopShapes.{LegKind, NoLeg, IsTorn, StillWaits, leg_kind}
 use Rattle.mesh_laws.specs.HopLaw.{is_message_of, messages_of, leg_at, mail_between}
 use Rattle.mesh_laws.proofs.hops.Plans.{Plan, hops, node_at, link_at, fibre_at, IsRoute, same}
-use Rattle.mesh_laws.proofs.hops.Labels.{back_same, has_label_back, has_meet, left_of_link}
+use Rattle.mesh_laws.proofs.hops.Labels.{back_same, has_label_through, has_meet, left_of_link}
 use Rattle.mesh_nodes.proofs.LegList.{same_lsp-refl}
 use Rattle.mesh_laws.proofs.hops.RowStates.{nothing_torn, reserved_leg}
 use Rattle.mesh_laws.proofs.hops.AnswersTaken.{TakesResv, ByAsked, ByArmed, ByTorn, takes_resv, resv_armed}
@@ -180,9 +180,9 @@ module _ (t : Network) (q : Purpose) (s : Mesh) (l : Lsp) (p : Plan) (i : ℕ) (
           let fits' : LegFits t q l p (suc j) g = rw before fits in
           let labels : List ℕ = meet g.offered (usable place state.legs g.role g.risks (fibre_at t p j)) in
           rw (previous_is t q l p j g fits')
-          (goes_back j before (label_back place labels x)
+          (goes_back j before (label_through place labels x)
           (λ y q.
-          let back = has_label_back place labels x y q in (
+          let back = has_label_through place labels x y q in (
             has_meet g.offered (usable place state.legs g.role g.risks (fibre_at t p j)) y back,
             (λ keeps. back_same place labels x y keeps q),
             left_of_link place state.legs g.role g.risks (fibre_at t p j) g.offered y back,

@@ -1,7 +1,6 @@
 -- No wavelength of a fibre is cross-connected for two LSPs.
 use Rattle.std.proofs.Common.{◌≡◌, ◌≢◌, ◌<◌, ◌≤◌, ℕ, suc, Bool, true, false, nat_eq, List, refl, sym, ap, ◌∙◌, arith, inl, inr}
 use Rattle.std.specs.Prelude.{◌⊎◌, ◌&&◌, ◌||◌, Option, Some, None}
-use Rattle.ason_base.specs.Lsps.{same_bool, same_fibre}
 use Rattle.ason_base.specs.Network.{Network, far_end, receiver_of, sender_of}
 use Rattle.ason_base.specs.declared.ids.Fibre.{Fibre}
 use Rattle.ason_base.specs.declared.ids.Lsp.{Lsp}
@@ -9,15 +8,16 @@ use Rattle.ason_base.specs.declared.ids.NodeId.{NodeId}
 use Rattle.ason_base.specs.declared.steps.Step.{Step}
 use Rattle.ason_base.specs.declared.network.LinkSpec.{LinkSpec}
 use Rattle.ason_base.specs.declared.calls.Phase.TheVariants.{Live}
+use Rattle.ason_base.specs.declared.calls.Role.TheVariants.{Back}
 use Rattle.ason_base.specs.declared.tables.Leg.{Leg}
 use Rattle.mesh_rules.specs.LocalNodes.{leads}
-use Rattle.mesh_rules.specs.Legs.{is_in_use, takes}
+use Rattle.mesh_rules.specs.Legs.{is_marked}
 use Rattle.mesh_rules.specs.Machine.{Mesh, start}
 use Rattle.mesh_rules.specs.Events.{after, route_of}
 use Rattle.mesh_laws.specs.HopLaw.{leg_at, mail_between, HasOneLegEach}
-use Rattle.mesh_laws.specs.LabelLaw.{MayShare}
 use Rattle.mesh_laws.specs.SafeLaw.{StandsAt, EveryRunIsSafe}
 use Rattle.mesh_laws.proofs.nodes.Facts.{MeshFacts}
+use Rattle.mesh_laws.proofs.nodes.LegParts.{takes-by}
 use Rattle.mesh_laws.proofs.nodes.Runs.{facts-hold}
 use Rattle.mesh_laws.proofs.hops.Plans.{Plan, hops, plan, node_at, link_at, fibre_at, IsRoute, Leads, distinct, same, same_node, lt_true, lt_false, joined}
 use Rattle.mesh_laws.proofs.hops.Rows.{live_upstream}
@@ -37,23 +37,8 @@ record Owner (t : Network) (s : Mesh) (f : Fibre) (x : ℕ) (l : Lsp) : Type 0 w
   fibre : leg.in_fibre ≡ Some f
   label : leg.in_label ≡ Some x
 
-same_fibre-refl : (f : Fibre) → same_fibre f f ≡ true
-same_fibre-refl f = rw (same f.link.0) (go f.forward)
-  where
-    go : (b : Bool) → same_bool b b ≡ true
-    go true = refl
-    go false = refl
-
-takes_label : (f : Fibre) (x : ℕ) (g : Leg) → g.phase ≡ Live → g.in_fibre ≡ Some f → g.in_label ≡ Some x →
-    takes f x g ≡ true
-takes_label f x g live fibre label = rw (live, fibre, same_fibre-refl f, label) (same x)
-
--- of two legs that share a label not both are Live
-both_live : (g h : Leg) → MayShare g h → g.phase ≡ Live → h.phase ≡ Live → ⊥
-both_live g h shares this that =
-    let both : (is_in_use g.phase && is_in_use h.phase) ≡ true = rw (this, that) refl in
-    let one = shares.one_in_use in
-    cc (both, one)
+marked : (g : Leg) → g.role ≡ Back → g.phase ≡ Live → is_marked g ≡ true
+marked g back live = rw (back, live) refl
 
 -- two owners of one label are one LSP's
 owners : (t : Network) (s : Mesh) (f : Fibre) (x : ℕ) (l m : Lsp) → MeshFacts t s → Owner t s f x l →
@@ -61,10 +46,13 @@ owners : (t : Network) (s : Mesh) (f : Fibre) (x : ℕ) (l m : Lsp) → MeshFact
 owners t s f x l m facts a b =
     let at_one : a.node ≡ b.node = (let p = a.receiver in let q = b.receiver in cc (p, q)) in
     let found : leg_at s l b.node ≡ Some a.leg = rw (← at_one) a.found in
-    elim ((facts.node b.node.0).labels f x l m a.leg b.leg found b.found
-    (takes_label f x a.leg a.live a.fibre a.label) (takes_label f x b.leg b.live b.fibre b.label)) [
+    let here = facts.node b.node.0 in
+    let takes_a = takes-by f x a.leg a.fibre a.label in
+    let takes_b = takes-by f x b.leg b.fibre b.label in
+    elim (here.labels f x l m a.leg b.leg found b.found takes_a takes_b) [
       | inl same ↦ same
-      | inr shares ↦ absurd (both_live a.leg b.leg shares a.live b.live)
+      | inr shares ↦ here.marks f x l m a.leg b.leg found b.found takes_a takes_b
+          (marked a.leg shares.backups.0 a.live) (marked b.leg shares.backups.1 b.live)
     ]
 
 -- The node into which the fibre of a hop leads

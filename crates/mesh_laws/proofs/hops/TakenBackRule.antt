@@ -1,7 +1,7 @@
 -- A Path that doesn't activate is taken at a node of its route: a first one, or one that takes back the activation of a
 -- backup.
 use Rattle.std.proofs.Common.{◌≡◌, ◌<◌, ◌≤◌, ℕ, suc, true, false, List, [], ◌∷◌, refl, sym, ◌∙◌, subst, arith, inl, inr, append-nil, drop, ap}
-use Rattle.std.specs.Prelude.{◌⊎◌, Option, Some, None}
+use Rattle.std.specs.Prelude.{◌⊎◌, Option, Some}
 use Rattle.ason_base.specs.Lsps.{same_lsp}
 use Rattle.ason_base.specs.Network.{Network}
 use Rattle.ason_base.specs.declared.ids.Lsp.{Lsp}
@@ -125,9 +125,9 @@ module _ (t : Network) (q : Purpose) (s : Mesh) (l : Lsp) (p : Plan) (i : ℕ) (
         -- elsewhere the Path goes on
         goes_on : suc i < hops p →
             Keeps (puts (with_phase Held g) (to_node next
-            (Path g.lsp g.egress (link_at p (suc i)) (drop 1 r) g.sent None purpose) ∷ []))
+            (Path g.lsp g.egress (link_at p (suc i)) (drop 1 r) g.sent g.back_in purpose) ∷ []))
         goes_on small =
-            let m : Msg = Path g.lsp g.egress (link_at p (suc i)) (drop 1 r) g.sent None (Back false work primary) in
+            let m : Msg = Path g.lsp g.egress (link_at p (suc i)) (drop 1 r) g.sent g.back_in (Back false work primary) in
             down_taken t q s l p i route chain below message rest was own
             (puts (with_phase Held g) (to_node next m ∷ [])) (Some (with_phase Held g)) [] (m ∷ [])
             (rw mine refl) (sends_on t l l.ingress p route (suc i) m small mine) held (rw append-nil before)

@@ -87,7 +87,7 @@ module _ (t : Network) (s : Mesh) (o : Routes) (c : CallRec) (l : Lsp) (q : Purp
       Chain t q l p (leg_at (commit s (node_at p 0).0 (arms c g)) l)
       (mail_between (commit s (node_at p 0).0 (arms c g)) l)
   arms_chain held =
-      let m : Msg = Path g.lsp g.egress (link_at p 0) g.route g.sent None (activating g.path_role) in
+      let m : Msg = Path g.lsp g.egress (link_at p 0) g.route g.sent g.back_in (activating g.path_role) in
       let path = held_activates q 0 (hops p) g.in_label g.out_label g.path_role
       (let phase = fits.phase in rw held at phase) fits.tells in
       let hop = rw here at (pl.chain.each 0 small) in
@@ -102,7 +102,7 @@ module _ (t : Network) (s : Mesh) (o : Routes) (c : CallRec) (l : Lsp) (q : Purp
       Chain t q l p (leg_at (commit s (node_at p 0).0 (disarms c g)) l)
       (mail_between (commit s (node_at p 0).0 (disarms c g)) l)
   disarms_chain is =
-      let m : Msg = Path g.lsp g.egress (link_at p 0) g.route g.sent None (taking_back g.path_role) in
+      let m : Msg = Path g.lsp g.egress (link_at p 0) g.route g.sent g.back_in (taking_back g.path_role) in
       let back : role_of q ≡ role.Back = sym fits.role ∙ is.role in
       let path = tells_back q g.path_role back fits.tells in
       let hop = rw here at (pl.chain.each 0 small) in

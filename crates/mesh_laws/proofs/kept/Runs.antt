@@ -1,14 +1,12 @@
 -- While nothing is set up, released or protected legs change their phases alone; so backups that were apart in a quiet
 -- state stay so.
-use Rattle.std.proofs.Common.{◌≡◌, ℕ, true, cond, List, [], ◌∷◌, ◌++◌, refl, sym, ap, ◌∙◌, subst}
-use Rattle.std.specs.Prelude.{◌&&◌, Option, Some, None}
+use Rattle.std.proofs.Common.{◌≡◌, ℕ, List, [], ◌∷◌, ◌++◌, refl, sym, ap, ◌∙◌, subst}
+use Rattle.std.specs.Prelude.{Option, Some, None}
 use Rattle.std.specs.List.{AllByRecursion}
 use Rattle.ason_base.specs.Network.{Network, find_link}
-use Rattle.ason_base.specs.declared.ids.Fibre.{Fibre}
 use Rattle.ason_base.specs.declared.ids.Lsp.{Lsp}
 use Rattle.ason_base.specs.declared.ids.NodeId.{NodeId}
-use Rattle.ason_base.specs.declared.calls.Phase.{Phase}
-use Rattle.ason_base.specs.declared.calls.Phase.TheVariants.{Asked, Held, Armed, Live, Closing, Falling}
+use Rattle.ason_base.specs.declared.calls.Phase.TheVariants.{Held}
 use Rattle.ason_base.specs.declared.commands.Command.TheVariants.{Setup, Release, Protect, Retry, Revert, Fail, Repair}
 use Rattle.ason_base.specs.declared.commands.DeskItem.{DeskItem}
 use Rattle.ason_base.specs.declared.commands.Group.{Group}
@@ -19,11 +17,10 @@ use Rattle.mesh_rules.specs.declared.events.MeshEvent.{MeshEvent}
 use Rattle.mesh_rules.specs.declared.events.MeshEvent.TheVariants.{Take, Desk, Tick, Learn, Post}
 use Rattle.mesh_rules.specs.Events.{IsRun, after, on_first, on_first_item, route_of, step}
 use Rattle.mesh_rules.specs.Failures.{with_group, without_group}
-use Rattle.mesh_rules.specs.Legs.{find_leg, is_beyond_asked, is_label, is_on, takes, with_phase}
+use Rattle.mesh_rules.specs.Legs.{find_leg, takes, with_phase}
 use Rattle.mesh_rules.specs.LocalNodes.{local_node}
 use Rattle.mesh_rules.specs.Machine.{Mesh, start, without_first, without_item}
 use Rattle.mesh_rules.specs.Quiet.{IsQuiet}
-use Rattle.mesh_nodes.proofs.LegList.{found-all}
 use Rattle.mesh_laws.specs.HopLaw.{LspFits}
 use Rattle.mesh_laws.specs.ContendLaw.{GoesOnWith}
 use Rattle.mesh_laws.proofs.alone.Facts.{Routes}
@@ -33,24 +30,10 @@ use Rattle.mesh_laws.proofs.alone.Legs.{Apart}
 use Rattle.mesh_laws.proofs.alone.Runs.{after-append, append-one, run-first, AllApart, StayApart}
 use Rattle.mesh_laws.proofs.kept.Items.{item-kept, link-kept, tick-kept}
 use Rattle.mesh_laws.proofs.kept.Messages.{ComesToLeg, message-kept}
-use Rattle.mesh_laws.proofs.kept.Phases.{IsUp, ItemKept, Kept, LegsUp, MeshKept, MsgKept, SameLegs, but_phase, commit-kept, failed-kept, handled-kept, kept-nothing, ordered-kept, taken-kept}
+use Rattle.mesh_laws.proofs.kept.Phases.{ItemKept, Kept, LegsUp, MeshKept, MsgKept, SameLegs, but_phase, commit-kept, failed-kept, handled-kept, kept-nothing, ordered-kept, taken-kept}
 use Rattle.mesh_laws.proofs.kept.Places.{path-there}
 
 -- What stays apart
-
--- the label that a leg takes doesn't depend on its phase
-takes-held : (f : Fibre) (x : ℕ) (a : Leg) → IsUp a → takes f x a ≡ takes f x (with_phase Held a)
-takes-held f x a up = go a.phase up
-  where
-    go : (q : Phase) → is_beyond_asked q ≡ true →
-        is_label (cond (is_beyond_asked q && is_on a.in_fibre f) a.in_label None) x ≡
-        is_label (cond (is_on a.in_fibre f) a.in_label None) x
-    go Held e = refl
-    go Armed e = refl
-    go Live e = refl
-    go Asked e = absurd (cc e)
-    go Closing e = absurd (cc e)
-    go Falling e = absurd (cc e)
 
 record WasThere (was : List Leg) (l : Lsp) (a : Leg) : Type 0 where
   leg : Leg
@@ -64,18 +47,12 @@ was-there was now same l a found = go (find_leg l was) refl (sym (same l) ∙ ap
     go None is e = absurd (cc e)
     go (Some b) is e = record { leg = b; found = is; same = cc e }
 
-apart-kept : (gs : List Group) (was now : List Leg) → LegsUp was → LegsUp now → SameLegs was now → Apart gs was →
-    Apart gs now
-apart-kept gs was now up_was up_now same apart f x l m a b at_l at_m takes_a takes_b back_a back_b has_a has_b =
+-- what a leg takes doesn't depend on its phase
+apart-kept : (gs : List Group) (was now : List Leg) → SameLegs was now → Apart gs was → Apart gs now
+apart-kept gs was now same apart f x l m a b at_l at_m takes_a takes_b back_a back_b has_a has_b =
     let p = was-there was now same l a at_l in
     let q = was-there was now same m b at_m in
-    let takes_p : takes f x p.leg ≡ true =
-    takes-held f x p.leg (found-all IsUp l was p.leg p.found up_was) ∙ ap (takes f x) p.same
-    ∙ sym (takes-held f x a (found-all IsUp l now a at_l up_now)) ∙ takes_a in
-    let takes_q : takes f x q.leg ≡ true =
-    takes-held f x q.leg (found-all IsUp m was q.leg q.found up_was) ∙ ap (takes f x) q.same
-    ∙ sym (takes-held f x b (found-all IsUp m now b at_m up_now)) ∙ takes_b in
-    apart f x l m p.leg q.leg p.found q.found takes_p takes_q
+    apart f x l m p.leg q.leg p.found q.found (ap (takes f x) p.same ∙ takes_a) (ap (takes f x) q.same ∙ takes_b)
     (ap (λ (z : Leg). z.role) p.same ∙ back_a) (ap (λ (z : Leg). z.role) q.same ∙ back_b)
     (ap (λ (z : Leg). has_one z.risks gs) p.same ∙ has_a) (ap (λ (z : Leg). has_one z.risks gs) q.same ∙ has_b)
 
@@ -141,9 +118,8 @@ module _ (t : Network) (gs : List Group) (was s : Mesh) (o : Routes) (hops : (l 
 
 -- A run
 
--- from a state on in which each leg is up and backups are apart, they stay apart
-module _ (t : Network) (gs : List Group) (was : Mesh) (up : (n : ℕ) → LegsUp (was.nodes n).legs)
-    (apart : AllApart gs was) where
+-- from a state on in which backups are apart, they stay apart
+module _ (t : Network) (gs : List Group) (was : Mesh) (apart : AllApart gs was) where
   stays : (before since : List MeshEvent) → IsRun t start (before ++ since) → AllByRecursion (GoesOnWith gs) since →
       MeshKept was (after t start before) → StayApart t gs (after t start before) since
   stays before [] run only kept = tt
@@ -152,7 +128,7 @@ module _ (t : Network) (gs : List Group) (was : Mesh) (up : (n : ℕ) → LegsUp
       let first = run-first t start before (e ∷ es) run in
       let next : after t start (before ++ e ∷ []) ≡ step t s e = after-append t start before (e ∷ []) in
       let kept_on = step-kept t gs was s (route_of t start before) (every_hop t before first).1 kept e only.0 in (
-        λ n. apart-kept gs (was.nodes n).legs (s.nodes n).legs (up n) (kept.up n) (kept.legs n) (apart n),
+        λ n. apart-kept gs (was.nodes n).legs (s.nodes n).legs (kept.legs n) (apart n),
         subst (λ x. StayApart t gs x es) next
             (stays (before ++ e ∷ []) es (subst (IsRun t start) (sym (append-one before e es)) run) only.1
             (subst (MeshKept was) (sym next) kept_on)),
@@ -164,7 +140,7 @@ pub stay-apart : (t : Network) (gs : List Group) (before since : List MeshEvent)
     ((n : ℕ) → LegsUp ((after t start before).nodes n).legs) → AllApart gs (after t start before) →
     StayApart t gs (after t start before) since
 stay-apart t gs before since run only quiet up apart =
-    stays t gs (after t start before) up apart before since run only (record {
+    stays t gs (after t start before) apart before since run only (record {
       legs = λ n l. refl;
       up = up;
       mail = λ u d. rw (quiet.mail u d) tt;

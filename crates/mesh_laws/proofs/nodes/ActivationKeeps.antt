@@ -39,7 +39,7 @@ use Rattle.mesh_laws.proofs.nodes.LegEnds.{has_previous-away, no_previous-here, 
 use Rattle.mesh_laws.proofs.nodes.LegParts.{LegPart, MayStand, part-with_leg}
 use Rattle.mesh_laws.proofs.nodes.Parts.{keeps-leg, leg_part}
 use Rattle.mesh_laws.proofs.nodes.PathKeeps.{Keeps, keeps-first}
-use Rattle.mesh_laws.proofs.nodes.PhaseLegs.{armed-back, armed-is, held-back, held-is, stands-alone, stands-unused}
+use Rattle.mesh_laws.proofs.nodes.PhaseLegs.{armed-back, armed-is, held-back, held-is, stands-alone, stands-unmarked}
 use Rattle.mesh_laws.proofs.nodes.States.{Row}
 use Rattle.mesh_laws.proofs.nodes.States as states
 
@@ -69,7 +69,7 @@ module _ (p : LocalNode) (s : NodeState) (g : Leg) (facts : NodeFacts p.id.0 s)
       NodeFacts p.id.0 (changed s (puts (with_phase Held g) []))
   taken away active =
       keeps-leg p.id.0 s (with_phase Held g) away
-      (stands-unused p.id.0 s.lsp s.legs Held g (leg_part p.id.0 s facts) here
+      (stands-unmarked p.id.0 s.lsp s.legs Held g (leg_part p.id.0 s facts) here
       (in_use-beyond g.phase (both_right (not (is_work g.role)) _ active)) refl
       (back-is g.role (not-true (is_work g.role) (both_left (not (is_work g.role)) _ active)))
       (λ used. absurd (cc used)))
@@ -102,7 +102,7 @@ module _ (p : LocalNode) (s : NodeState) (g : Leg) (facts : NodeFacts p.id.0 s)
     -- it is Live, or Held again
     may : (f : Phase) → is_beyond_asked f ≡ true → MayStand p.id.0 s.lsp s.legs (with_phase f g)
     may f later =
-        stands-unused p.id.0 s.lsp s.legs f g (leg_part p.id.0 s facts) here (rw in-phase refl) later of-backup
+        stands-unmarked p.id.0 s.lsp s.legs f g (leg_part p.id.0 s facts) here (rw in-phase refl) later of-backup
         (λ used. rw in-phase refl)
 
     away-phase : (f : Phase) (h : Neighbour) → is_beyond_asked f ≡ true → previous g ≡ Some h →

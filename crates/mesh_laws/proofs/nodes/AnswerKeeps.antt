@@ -12,9 +12,9 @@ use Rattle.ason_base.specs.declared.tables.Out.{Out}
 use Rattle.mesh_rules.specs.declared.arrivals.Arrival.{Arrival}
 use Rattle.mesh_rules.specs.declared.neighbours.Neighbour.{Neighbour}
 use Rattle.mesh_rules.specs.LocalNodes.{LocalNode}
-use Rattle.mesh_rules.specs.Legs.{find_leg, is_asked, is_closing, closed, connected, previous, following, neighbour_over, is_node, is_over}
+use Rattle.mesh_rules.specs.Legs.{find_leg, is_asked, is_closing, closed, connected, previous, following, neighbour_over, is_node, is_over, label_through}
 use Rattle.mesh_rules.specs.State.{NodeState}
-use Rattle.mesh_rules.specs.Resvs.{is_expected, label_back, labels_left, passed_back, answered, resv_with}
+use Rattle.mesh_rules.specs.Resvs.{is_expected, labels_left, passed_back, answered, resv_with}
 use Rattle.mesh_rules.specs.PathErrs.{PathFailure, err_passed, removed, path_err_with}
 use Rattle.mesh_rules.specs.Tears.{torn, tear_with}
 use Rattle.mesh_nodes.proofs.Cases.{if_cases, both_left, both_right}
@@ -39,7 +39,7 @@ asked-is Falling e = absurd (cc e)
 
 keeps-passed_back : (p : LocalNode) (s : NodeState) (a : Arrival) (g : Leg) (h : Neighbour) (x : ℕ) (o : Option ℕ) →
     NodeFacts p.id.0 s → LegFacts p.id.0 s.lsp g → previous g ≡ Some h → is_some g.next ≡ true → has g.sent x ≡ true →
-    label_back p (labels_left p s g h) x ≡ o → Keeps p s (passed_back p a g h x o)
+    label_through p (labels_left p s g h) x ≡ o → Keeps p s (passed_back p a g h x o)
 keeps-passed_back p s a g h x None facts leg is goes_on sent looked =
     keeps-leg p.id.0 s (closed g) (has_previous-away p.id.0 s.lsp g h leg is)
     (closed-stands p.id.0 s.lsp s.legs g goes_on leg) facts
@@ -57,7 +57,7 @@ keeps-answered p s a x g None facts here asked goes_on sent is =
     keeps-connected_here p s g facts here asked (no_previous-here p.id.0 s.lsp g mine is) x
     (ingress-stands p.id.0 s.lsp s.legs g x mine (alone_fibre g.prev g.in_fibre mine.in_fibre is) goes_on sent)
 keeps-answered p s a x g (Some h) facts here asked goes_on sent is =
-    keeps-passed_back p s a g h x (label_back p (labels_left p s g h) x)
+    keeps-passed_back p s a g h x (label_through p (labels_left p s g h) x)
     facts (facts.leg g.lsp g here) is goes_on sent refl
 
 pub keeps-on_resv : (p : LocalNode) (s : NodeState) (a : Arrival) (x : ℕ) (o : Option Leg) → NodeFacts p.id.0 s →

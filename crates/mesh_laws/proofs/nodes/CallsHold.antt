@@ -29,7 +29,7 @@ use Rattle.mesh_rules.specs.Activations.{armed_on, is_contended, path_again}
 use Rattle.mesh_rules.specs.Alarms.{enters, on_alarm, on_clear}
 use Rattle.mesh_rules.specs.Calls.{call_with, find_call, is_bare, is_stuck, is_turned}
 use Rattle.mesh_rules.specs.Changes.{Answer}
-use Rattle.mesh_rules.specs.Legs.{connected, find_leg, following, is_active_backup, is_armed, is_asked, is_closing, is_held, is_node, is_over, leg_of, previous, with_phase}
+use Rattle.mesh_rules.specs.Legs.{connected, find_leg, following, is_active_backup, is_armed, is_asked, is_closing, is_held, is_node, is_over, label_through, leg_of, previous, with_phase}
 use Rattle.mesh_rules.specs.LocalNodes.{LocalNode, leads, own_link}
 use Rattle.mesh_rules.specs.Messages.{arrival, on_message}
 use Rattle.mesh_rules.specs.Notifies.{Notice, notice_passed, notice_told, notify_with}
@@ -39,7 +39,7 @@ use Rattle.mesh_rules.specs.Paths.{PathRequest, admitted, at_egress, checks, fir
 use Rattle.mesh_rules.specs.Protects.{protect_with, protects}
 use Rattle.mesh_rules.specs.Releases.{release_with, tears}
 use Rattle.mesh_rules.specs.Reports.{fibre_into, reported, reported_on}
-use Rattle.mesh_rules.specs.Resvs.{answered, is_expected, label_back, labels_left, passed_back, resv_with}
+use Rattle.mesh_rules.specs.Resvs.{answered, is_expected, labels_left, passed_back, resv_with}
 use Rattle.mesh_rules.specs.Retries.{retry_with}
 use Rattle.mesh_rules.specs.Reverts.{revert_with, reverts}
 use Rattle.mesh_rules.specs.State.{NodeState}
@@ -73,7 +73,7 @@ module _ (Rep : Lsp → Fibre → Type 0) (G : CallNo → Type 0) (P R : CallRec
   holds-answered : (a : Arrival) (x : ℕ) (g : Leg) (o : Option Neighbour) → Holds (answered p s a x g o)
   holds-answered a x g None = holds-call_answered Rep G P R keeps p s rise each (connected g None x)
       (call_with g.lsp s.calls) refl
-  holds-answered a x g (Some h) = holds-passed_back a g h x (label_back p (labels_left p s g h) x)
+  holds-answered a x g (Some h) = holds-passed_back a g h x (label_through p (labels_left p s g h) x)
 
   holds-confirmed : (g : Leg) (o : Option Neighbour) → Holds (confirmed s g o)
   holds-confirmed g None = holds-call_turned Rep G P R keeps p s rise each g.lsp (with_phase Live g)

@@ -235,7 +235,7 @@ module _ (n : ℕ) (s : NodeState) (facts : NodeFacts n s) (c : CallRec) (found 
     pub same-put : NodeFacts n (changed s (call_put (revised c c.state works backs cause ticks)))
     same-put =
         node_facts n (changed s (call_put (revised c c.state works backs cause ticks)))
-        (record { rise = facts.legs_rise; leg = facts.leg; labels = facts.labels })
+        (record { rise = facts.legs_rise; leg = facts.leg; labels = facts.labels; marks = facts.marks })
         (touched-changes n s facts c found g.lsp named (revised c c.state works backs cause ticks) (Some g) s.legs
         (same-leg g s.legs here) refl
         (record {

@@ -11,7 +11,7 @@ use Rattle.ason_base.specs.declared.tables.Leg.{Leg}
 use Rattle.ason_base.specs.Labels.{has}
 use Rattle.ason_base.specs.Network.{Network}
 use Rattle.mesh_rules.specs.Commands.{is_searchable}
-use Rattle.mesh_rules.specs.Legs.{find_leg, is_armed, is_closing, is_held, takes}
+use Rattle.mesh_rules.specs.Legs.{find_leg, is_armed, is_closing, is_held, is_marked, takes}
 use Rattle.mesh_rules.specs.Calls.{find_call, names}
 use Rattle.mesh_rules.specs.Paths.{role_of}
 use Rattle.mesh_rules.specs.State.{NodeState}
@@ -67,6 +67,12 @@ LabelsFit legs =
     (f : Fibre) (x : ℕ) (l m : Lsp) (g h : Leg) → find_leg l legs ≡ Some g → find_leg m legs ≡ Some h →
     IsTrue (takes f x g) → IsTrue (takes f x h) → (l ≡ m) ⊎ MayShare g h
 
+-- marked legs that take the same label of the same fibre are one LSP's
+abbrev pub NoTwoMarked : List Leg → Type 0
+NoTwoMarked legs =
+    (f : Fibre) (x : ℕ) (l m : Lsp) (g h : Leg) → find_leg l legs ≡ Some g → find_leg m legs ≡ Some h →
+    IsTrue (takes f x g) → IsTrue (takes f x h) → IsTrue (is_marked g) → IsTrue (is_marked h) → l ≡ m
+
 -- A call
 
 -- where a protected call was given no backup route, the links can be searched for one
@@ -84,6 +90,7 @@ pub record NodeFacts (n : ℕ) (s : NodeState) : Type 0 where
   pub legs_rise : LegsRise s.legs
   pub leg : (l : Lsp) (g : Leg) → find_leg l s.legs ≡ Some g → LegFacts n s.lsp g
   pub labels : LabelsFit s.legs
+  pub marks : NoTwoMarked s.legs
   pub calls_rise : CallsRise s.calls
   pub call : (k : CallNo) (c : CallRec) → find_call k s.calls ≡ Some c → FitsLegs n s.lsp s.legs c
   -- calls that name one LSP are one

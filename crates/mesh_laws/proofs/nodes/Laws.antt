@@ -1,8 +1,7 @@
--- What the facts of a node say of the places in its lists: each label is shared lawfully, a Live leg has its labels,
--- and the
--- state of each call fits its legs.
-use Rattle.std.proofs.Common.{◌≡◌, ◌<◌, ℕ, true, false, not, nat_eq, List, [], ◌∷◌, refl, sym, subst, ◌∙◌, arith, inl, inr}
-use Rattle.std.specs.Prelude.{Some, IsTrue}
+-- What the facts of a node say of the places in its lists: each label is shared lawfully, a Live leg has its labels, and
+-- the state of each call fits its legs.
+use Rattle.std.proofs.Common.{◌≡◌, ◌<◌, ℕ, Bool, true, false, not, nat_eq, List, [], ◌∷◌, refl, sym, subst, ◌∙◌, arith, inl, inr}
+use Rattle.std.specs.Prelude.{◌&&◌, Some, IsTrue}
 use Rattle.std.specs.List.{AllByRecursion, AllPairs}
 use Rattle.std.proofs.lemmas.List.Elements.{All-from_recursion}
 use Rattle.std.proofs.lemmas.List.Kept.{AllPairs-cons}
@@ -13,17 +12,19 @@ use Rattle.ason_base.specs.declared.tables.CallRec.{CallRec}
 use Rattle.ason_base.specs.declared.tables.Leg.{Leg}
 use Rattle.ason_base.specs.Lsps.{lsp_before, same_lsp}
 use Rattle.mesh_rules.specs.Calls.{names}
-use Rattle.mesh_rules.specs.Legs.{find_leg, is_closing}
+use Rattle.mesh_rules.specs.Legs.{find_leg, is_closing, is_marked}
 use Rattle.ason_base.specs.Network.{Network}
 use Rattle.mesh_rules.specs.Changes.{changed}
+use Rattle.mesh_rules.specs.Events.{after}
 use Rattle.mesh_rules.specs.LocalNodes.{LocalNode, local_node}
+use Rattle.mesh_rules.specs.Machine.{start}
 use Rattle.mesh_rules.specs.State.{NodeState, new_node}
-use Rattle.mesh_laws.specs.LabelLaw.{EveryLabelIsShared, EveryLiveLegIsLabelled, IsLabelled, LabelsAreShared, ShareLawfully}
+use Rattle.mesh_laws.specs.LabelLaw.{AreNotBothMarked, EveryLabelIsShared, EveryLiveLegIsLabelled, IsLabelled, LabelsAreShared, ShareLawfully}
 use Rattle.mesh_laws.specs.LearntLaw.{EveryLearntRowIsTrue}
 use Rattle.mesh_laws.specs.NodeLaw.{EveryNodeSharesLawfully, MayCome, NodeInput, Item, Message, Row, Tick, after_inputs, answer}
 use Rattle.mesh_laws.specs.CallLaw.{CallsFit, EveryCallFitsItsLegs, FitsLegs, IsOfOneCall, wants_call}
 use Rattle.mesh_nodes.proofs.Cases.{both_left, both_right, not-true}
-use Rattle.mesh_laws.proofs.nodes.Facts.{FitsPhase, LabelsFit, NodeFacts}
+use Rattle.mesh_laws.proofs.nodes.Facts.{FitsPhase, NodeFacts}
 use Rattle.mesh_nodes.specs.Order.{CallsRise, LegsRise}
 use Rattle.mesh_nodes.proofs.LegList.{all-found, before-apart, found-all, found-lsp, same_lsp-refl}
 use Rattle.mesh_nodes.proofs.CallList.{all-calls_found, one-count}
@@ -45,30 +46,44 @@ found-later g legs l h above found =
     subst (λ x. same_lsp g.lsp x ≡ false) (found-lsp l legs h found) (before-apart g.lsp h.lsp before) in
     rw apart found
 
-pairs-share : (legs : List Leg) → LegsRise legs → LabelsFit legs → LabelsAreShared legs
-pairs-share [] rise fit = λ i j d less below. absurd (omega arith)
-pairs-share (g ∷ legs) rise fit =
-    AllPairs-cons ShareLawfully g legs
-    (All-from_recursion (ShareLawfully g) legs (all-found (ShareLawfully g) legs rise.1
-    (λ m h found f x this that.
-    elim (fit f x g.lsp m g h (rw (same_lsp-refl g.lsp) refl) (found-later g legs m h rise.0 found) this that) [
-      | inr shares ↦ shares
-      | inl same ↦ (
-          let is = found-lsp m legs h found in
-          let before : lsp_before g.lsp h.lsp ≡ true =
-          found-all (λ x. IsTrue (lsp_before g.lsp x.lsp)) m legs h found rise.0 in
-          let apart : same_lsp g.lsp h.lsp ≡ false = before-apart g.lsp h.lsp before in
-          let test : same_lsp g.lsp h.lsp ≡ true =
-          subst (λ x. same_lsp g.lsp x ≡ true) (same ∙ sym is) (same_lsp-refl g.lsp) in
-          absurd (cc (apart, test)))
-    ])))
-    (pairs-share legs rise.1 (λ f x l m a b at_l at_m.
-    fit f x l m a b (found-later g legs l a rise.0 at_l) (found-later g legs m b rise.0 at_m)))
+-- what holds of the legs of two different LSPs holds of the legs at two different places
+pairs : (R : Leg → Leg → Type 0) (legs : List Leg) → LegsRise legs →
+    ((l m : Lsp) (g h : Leg) → find_leg l legs ≡ Some g → find_leg m legs ≡ Some h → (l ≡ m → ⊥) → R g h) →
+    AllPairs R legs
+pairs R [] rise fit = λ i j d less below. absurd (omega arith)
+pairs R (g ∷ legs) rise fit =
+    AllPairs-cons R g legs
+    (All-from_recursion (R g) legs (all-found (R g) legs rise.1
+    (λ m h found. fit g.lsp m g h (rw (same_lsp-refl g.lsp) refl) (found-later g legs m h rise.0 found) (λ same.
+    let is = found-lsp m legs h found in
+    let before : lsp_before g.lsp h.lsp ≡ true =
+    found-all (λ x. IsTrue (lsp_before g.lsp x.lsp)) m legs h found rise.0 in
+    let apart : same_lsp g.lsp h.lsp ≡ false = before-apart g.lsp h.lsp before in
+    let test : same_lsp g.lsp h.lsp ≡ true =
+    subst (λ x. same_lsp g.lsp x ≡ true) (same ∙ sym is) (same_lsp-refl g.lsp) in
+    cc (apart, test)))))
+    (pairs R legs rise.1 (λ l m a b at_l at_m.
+    fit l m a b (found-later g legs l a rise.0 at_l) (found-later g legs m b rise.0 at_m)))
+
+labels-shared : (n : ℕ) (s : NodeState) → NodeFacts n s → LabelsAreShared s.legs
+labels-shared n s facts = record {
+  shared = pairs ShareLawfully s.legs facts.legs_rise (λ l m g h at_l at_m differ f x this that.
+      elim (facts.labels f x l m g h at_l at_m this that) [
+        | inr shares ↦ shares
+        | inl same ↦ absurd (differ same)
+      ]);
+  marked = pairs AreNotBothMarked s.legs facts.legs_rise (λ l m g h at_l at_m differ f x this that.
+      not-both (is_marked g) (is_marked h) (λ a b. differ (facts.marks f x l m g h at_l at_m this that a b)));
+}
+  where
+    not-both : (a b : Bool) → (a ≡ true → b ≡ true → ⊥) → (a && b) ≡ false
+    not-both true true never = absurd (never refl refl)
+    not-both true false never = refl
+    not-both false b never = refl
 
 pub every_label : EveryLabelIsShared
 every_label t events run n =
-    let facts = (facts-hold t events run).node n in
-    pairs-share _ facts.legs_rise facts.labels
+    labels-shared n ((after t start events).nodes n) ((facts-hold t events run).node n)
 
 -- The same whatever comes to a node
 
@@ -86,8 +101,8 @@ facts-after t p s (i ∷ inputs) facts may =
 
 pub every_node : EveryNodeSharesLawfully
 every_node t n inputs may =
-    let facts = facts-after t (local_node t n) new_node inputs (new-facts n.0) may in
-    pairs-share _ facts.legs_rise facts.labels
+    labels-shared n.0 (after_inputs (local_node t n) new_node inputs)
+    (facts-after t (local_node t n) new_node inputs (new-facts n.0) may)
 
 -- a Live leg's labels are those of its fibres
 live-labelled : (f : Phase) (g : Leg) → FitsPhase f g → f ≡ Live → IsLabelled g

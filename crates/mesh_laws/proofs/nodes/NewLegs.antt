@@ -1,6 +1,6 @@
 -- The legs that rules make may stand: they have the facts of a leg, and their label in is usable for them.
 use Rattle.std.proofs.Common.{◌≡◌, ◌<◌, ℕ, Bool, true, false, cond, not, nat_eq, List, [], ◌∷◌, refl, sym, ap, subst, ◌∙◌, arith}
-use Rattle.std.specs.Prelude.{◌||◌, Option, Some, None, IsTrue, IfSome, is_some}
+use Rattle.std.specs.Prelude.{◌&&◌, ◌||◌, Option, Some, None, IsTrue, IfSome, is_some}
 use Rattle.ason_base.specs.Labels.{has, meet, least, up_to}
 use Rattle.ason_base.proofs.MaskMembers.{has-filter}
 use Rattle.ason_base.specs.declared.ids.Fibre.{Fibre}
@@ -17,10 +17,9 @@ use Rattle.ason_base.specs.declared.tables.Leg.{Leg}
 use Rattle.mesh_rules.specs.declared.neighbours.Neighbour.{Neighbour}
 use Rattle.mesh_rules.specs.FirstLegs.{NewLsp, first_leg}
 use Rattle.mesh_rules.specs.LocalNodes.{LocalNode, own_link, labels_of, fibre_in}
-use Rattle.mesh_rules.specs.Legs.{is_armed, is_held, is_in_use, is_usable, usable, closed, closing_phase, connected, neighbour_over, reserved}
+use Rattle.mesh_rules.specs.Legs.{is_armed, is_held, is_marking, is_usable, is_work, usable, closed, closing_phase, connected, neighbour_over, reserved, label_through, only}
 use Rattle.mesh_rules.specs.State.{NodeState}
 use Rattle.mesh_rules.specs.Paths.{PathRequest, egress_leg, transit_leg, offered_labels, risks_here, role_of}
-use Rattle.mesh_rules.specs.Resvs.{label_back, only}
 use Rattle.mesh_nodes.proofs.Cases.{both_left, both_right, not-true}
 use Rattle.mesh_laws.proofs.nodes.Facts.{FitsPhase, HasItsLabels, LegFacts}
 use Rattle.mesh_laws.proofs.nodes.LegParts.{MayStand, taken, with_usable}
@@ -45,7 +44,7 @@ usable-is p legs r risks f x h =
     both_right (has all x) (is_usable r risks legs f x) (sym (has-filter (is_usable r risks legs f) all x) ∙ h)
 
 -- the label that goes back is one of those that were looked at
-pub back-has : (p : LocalNode) (labels : List ℕ) (x y : ℕ) → label_back p labels x ≡ Some y → has labels y ≡ true
+pub back-has : (p : LocalNode) (labels : List ℕ) (x y : ℕ) → label_through p labels x ≡ Some y → has labels y ≡ true
 back-has p labels x y e = go p.convert e
   where
     one : (b : Bool) → has labels x ≡ b → only x b ≡ Some y → has labels y ≡ true
@@ -63,7 +62,9 @@ no_label n next legs g none facts =
     record {
       facts = facts;
       shares = λ f x m h apart found this that.
-          let label = (taken f x g this).label in absurd (cc (none, label));
+          let label = (taken n next f x g facts this).label in absurd (cc (none, label));
+      alone = λ f x m h apart found this that.
+          let label = (taken n next f x g facts this).label in absurd (cc (none, label));
     }
 
 -- At the ingress
@@ -108,14 +109,14 @@ away a n P e f = let same : nat_eq a n ≡ true = grind arith in absurd (cc (e, 
 some : {X : Type 0} (x y : X) → Some x ≡ Some y → x ≡ y
 some x y e = cc e
 
--- a leg that has its label fits its phase, and a backup isn't in use yet
+-- a leg that has its label fits its phase, and isn't marked yet
 phase_reserved : (r : Role) (g : Leg) → HasItsLabels g → FitsPhase (reserved r) g
 phase_reserved Work g labels = labels
 phase_reserved Back g labels = labels
 
-reserved-idle : (r : Role) → r ≡ Back → is_in_use (reserved r) ≡ false
-reserved-idle Work e = absurd (cc e)
-reserved-idle Back e = refl
+reserved-plain : (r : Role) → (not (is_work r) && is_marking (reserved r)) ≡ false
+reserved-plain Work = refl
+reserved-plain Back = refl
 
 -- reserved without a cross-connection it is a backup's
 reserved-back : (r : Role) → (is_held (reserved r) || is_armed (reserved r)) ≡ true → r ≡ Back
@@ -154,7 +155,7 @@ module _ (p : LocalNode) (s : NodeState) (m : PathRequest) (link : LinkSpec) (ne
       subst (λ z. is_usable (role_of m.role) risks s.legs f z ≡ true) label
       (subst (λ z. is_usable (role_of m.role) risks s.legs z x ≡ true) fibre
       (usable-is p s.legs (role_of m.role) risks (fibre_in link p.id) x (has-right m.set usable_here x offered))))
-      (reserved-idle (role_of m.role))
+      (reserved-plain (role_of m.role))
 
   pub transit-stands : (out : LinkSpec) (route : List Step) (offered : List ℕ) →
       nat_eq m.arrival.egress.0 p.id.0 ≡ false →
@@ -213,7 +214,7 @@ closed-stands n next legs g goes_on facts = no_label n next legs (closed g) refl
   offered = tt;
   sent = facts.sent;
   back_in = facts.back_in;
-  back_out = facts.back_out;
+  back_out = refl;
 })
 
 -- A leg whose Resv came
@@ -278,7 +279,7 @@ connected-stands p next legs g h x y facts fibre goes_on sent looked =
     subst (λ w. is_usable g.role g.risks legs f w ≡ true) label
     (subst (λ w. is_usable g.role g.risks legs w y ≡ true) on
     (usable-is p legs g.role g.risks h.fibre y (has-right g.offered usable_here y looked))))
-    (reserved-idle g.role)
+    (reserved-plain g.role)
   where
     usable_here : List ℕ
     usable_here = usable p legs g.role g.risks h.fibre

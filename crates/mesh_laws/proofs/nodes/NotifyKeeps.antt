@@ -180,6 +180,7 @@ keeps-knows p s f code fibres facts = record {
   legs_rise = facts.legs_rise;
   leg = facts.leg;
   labels = facts.labels;
+  marks = facts.marks;
   calls_rise = facts.calls_rise;
   call = facts.call;
   one_call = facts.one_call;

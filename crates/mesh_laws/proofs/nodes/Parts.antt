@@ -15,7 +15,7 @@ use Rattle.mesh_laws.proofs.nodes.CallParts.{CallPart, Unnamed, named-by, named-
 use Rattle.mesh_laws.proofs.nodes.States.{Row, row, work-stands, back-stands}
 
 pub leg_part : (n : ℕ) (s : NodeState) → NodeFacts n s → LegPart n s.lsp s.legs
-leg_part n s facts = record { rise = facts.legs_rise; leg = facts.leg; labels = facts.labels }
+leg_part n s facts = record { rise = facts.legs_rise; leg = facts.leg; labels = facts.labels; marks = facts.marks }
 
 pub call_part : (n : ℕ) (s : NodeState) → NodeFacts n s → CallPart n s.lsp s.legs s.calls
 call_part n s facts =
@@ -26,6 +26,7 @@ node_facts n s legs calls = record {
   legs_rise = legs.rise;
   leg = legs.leg;
   labels = legs.labels;
+  marks = legs.marks;
   calls_rise = calls.rise;
   call = calls.call;
   one_call = calls.one_call;

@@ -11,25 +11,13 @@ use Rattle.ason_base.specs.declared.tables.Leg.{Leg}
 use Rattle.ason_base.specs.Lsps.{same_lsp}
 use Rattle.ason_base.specs.Risks.{AreDisjoint, have_common}
 use Rattle.ason_base.proofs.RiskOrder.{disjoint-flip, there-common}
-use Rattle.mesh_rules.specs.Legs.{find_leg, is_apart, is_free, is_in_use, is_shareable, is_usable, is_work, takes}
+use Rattle.mesh_rules.specs.Legs.{find_leg, is_apart, is_free, is_shareable, is_usable, is_work, takes}
 use Rattle.mesh_nodes.proofs.Cases.{both_left, both_right, not-true}
 use Rattle.mesh_laws.specs.LabelLaw.{MayShare}
 
 pub may_share-flip : (g h : Leg) → MayShare g h → MayShare h g
-may_share-flip g h s = record {
-  backups = (s.backups.1, s.backups.0);
-  apart = disjoint-flip g.risks h.risks s.apart;
-  one_in_use = swap (is_in_use g.phase) (is_in_use h.phase) s.one_in_use;
-}
-  where
-    swap : (a b : Bool) → (a && b) ≡ false → (b && a) ≡ false
-    swap true b e = go b e
-      where
-        go : (b : Bool) → b ≡ false → (b && true) ≡ false
-        go true e = e
-        go false e = refl
-    swap false true e = refl
-    swap false false e = refl
+may_share-flip g h s =
+    record { backups = (s.backups.1, s.backups.0); apart = disjoint-flip g.risks h.risks s.apart }
 
 or-last : (a b : Bool) → b ≡ true → (a || b) ≡ true
 or-last true b e = refl
@@ -71,16 +59,14 @@ back-of Back e = refl
 apart-of : (a b : List Risk) → have_common a b ≡ false → AreDisjoint a b
 apart-of a b none r in_a in_b = let common = there-common a b r in_a in_b in cc (common, none)
 
--- a leg of this role may share a label that is usable for it with each leg that takes it, while it isn't in use
+-- a leg of this role may share a label that is usable for it with each leg that takes it
 pub usable-shares : (g : Leg) (r : Role) (legs : List Leg) (f : Fibre) (x : ℕ) (m : Lsp) (h : Leg) → g.role ≡ r →
-    is_usable r g.risks legs f x ≡ true → (r ≡ Back → is_in_use g.phase ≡ false) → find_leg m legs ≡ Some h →
-    takes f x h ≡ true → MayShare g h
-usable-shares g Work legs f x m h role usable idle found this = absurd (free-not_taken f x legs m h usable found this)
-usable-shares g Back legs f x m h role usable idle found this =
+    is_usable r g.risks legs f x ≡ true → find_leg m legs ≡ Some h → takes f x h ≡ true → MayShare g h
+usable-shares g Work legs f x m h role usable found this = absurd (free-not_taken f x legs m h usable found this)
+usable-shares g Back legs f x m h role usable found this =
     let apart : is_apart g.risks h ≡ true = shareable-apart g.risks legs f x m h usable found this in
     record {
       backups = (role, back-of h.role (both_left (not (is_work h.role)) _ apart));
       apart =
           apart-of g.risks h.risks (not-true (have_common g.risks h.risks) (both_right (not (is_work h.role)) _ apart));
-      one_in_use = rw (idle refl) refl;
     }

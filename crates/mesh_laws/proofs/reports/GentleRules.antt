@@ -26,14 +26,14 @@ use Rattle.mesh_rules.specs.ActivationAnswers.{confirmed, contended, disarmed, i
 use Rattle.mesh_rules.specs.Activations.{armed_on, busy_to, is_contended, path_again, path_to, resv_to, taken_back}
 use Rattle.mesh_rules.specs.Calls.{call_with}
 use Rattle.mesh_rules.specs.Changes.{changed, puts, removes, to_node}
-use Rattle.mesh_rules.specs.Legs.{closed, connected, find_leg, following, is_active_backup, is_armed, is_asked, is_closing, is_held, is_in_use, is_node, is_over, is_work, previous, with_leg, with_phase}
+use Rattle.mesh_rules.specs.Legs.{closed, connected, find_leg, following, is_active_backup, is_armed, is_asked, is_closing, is_held, is_in_use, is_node, is_over, is_work, label_through, previous, with_leg, with_phase}
 use Rattle.mesh_rules.specs.LocalNodes.{LocalNode, leads, own_link}
 use Rattle.mesh_rules.specs.Notifies.{Notice, notice_passed, notice_told, notify_with}
 use Rattle.mesh_rules.specs.PathErrs.{PathFailure, err_passed, path_err_with, removed}
 use Rattle.mesh_rules.specs.Paths.{PathRequest, admitted, at_egress, checks, egress_leg, error_to, first_failure, first_path, in_transit, is_active, judged, offered_labels, risks_here, set_on, transit_leg}
 use Rattle.mesh_rules.specs.Pairs.{beside_lsp, route_from}
 use Rattle.mesh_rules.specs.Reports.{fibre_into, reported, reported_on}
-use Rattle.mesh_rules.specs.Resvs.{answered, is_expected, label_back, labels_left, passed_back, resv_with}
+use Rattle.mesh_rules.specs.Resvs.{answered, is_expected, labels_left, passed_back, resv_with}
 use Rattle.mesh_rules.specs.State.{NodeState}
 use Rattle.mesh_rules.specs.Tears.{tear_with, torn}
 use Rattle.mesh_nodes.proofs.CallList.{called-names}
@@ -104,7 +104,7 @@ module _ (p : LocalNode) (s : NodeState) (facts : NodeFacts p.id.0 s) (l : Lsp) 
     pub answers-gentle : IsOld p s l → (a : Arrival) (x : ℕ) → is_asked g.phase ≡ true → (h : Option Neighbour) →
         previous g ≡ h → IsGentle s l (answered p s a x g h)
     answers-gentle old a x asked (Some h) is =
-        passed_back-gentle a h x asked (label_back p (labels_left p s g h) x)
+        passed_back-gentle a h x asked (label_through p (labels_left p s g h) x)
     answers-gentle old a x asked None is =
         both-gentle s l (puts (connected g None x) []) _
         (puts-gentle s l g (connected g None x) [] found refl (reserved-done g.role)

@@ -37,7 +37,7 @@ use Rattle.mesh_rules.specs.Events.{on_first, on_first_item}
 use Rattle.mesh_rules.specs.FirstLegs.{first_link, is_full}
 use Rattle.mesh_rules.specs.KnownRows.{known_rows}
 use Rattle.mesh_rules.specs.LeastRoutes.{Trip, least_trip}
-use Rattle.mesh_rules.specs.Legs.{connected, find_leg, following, is_active_backup, is_armed, is_asked, is_closing, is_held, is_node, is_over, leg_of, previous, with_phase}
+use Rattle.mesh_rules.specs.Legs.{connected, find_leg, following, is_active_backup, is_armed, is_asked, is_closing, is_held, is_node, is_over, label_through, leg_of, previous, with_phase}
 use Rattle.mesh_rules.specs.LocalNodes.{LocalNode, own_link}
 use Rattle.mesh_rules.specs.Messages.{arrival, on_message}
 use Rattle.mesh_rules.specs.Notifies.{Notice, notice_passed, notice_told, notify_with}
@@ -48,7 +48,7 @@ use Rattle.mesh_rules.specs.Paths.{PathRequest, path_with}
 use Rattle.mesh_rules.specs.Protects.{protect_with, protects}
 use Rattle.mesh_rules.specs.Releases.{release_with, releases, tears}
 use Rattle.mesh_rules.specs.Reports.{call_reported, fibre_into, reported, reported_on, with_report}
-use Rattle.mesh_rules.specs.Resvs.{answered, is_expected, label_back, labels_left, passed_back, resv_with}
+use Rattle.mesh_rules.specs.Resvs.{answered, is_expected, labels_left, passed_back, resv_with}
 use Rattle.mesh_rules.specs.Retries.{retry_with}
 use Rattle.mesh_rules.specs.Reverts.{revert_with}
 use Rattle.mesh_rules.specs.Setups.{SetupRequest, call_record, is_order_here, is_spent, new_call, next_lsp, over_first, over_found, setup_with}
@@ -86,7 +86,7 @@ module _ (p : LocalNode) (s : NodeState) (rise : CallsRise s.calls) (l : Lsp)
 
       expected : (h : Option Neighbour) → New (answered p s a x g h)
       expected None = answered-new p s rise l unnamed (connected g None x) (call_with g.lsp s.calls) (there g.lsp)
-      expected (Some h) = back h (label_back p (labels_left p s g h) x)
+      expected (Some h) = back h (label_through p (labels_left p s g h) x)
 
       confirms : (h : Option Neighbour) → New (confirmed s g h)
       confirms None = turned-new p s rise l unnamed (with_phase Live g) (call_with g.lsp s.calls) (there g.lsp)

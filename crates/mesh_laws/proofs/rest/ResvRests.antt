@@ -14,7 +14,7 @@ use Rattle.ason_base.specs.declared.tables.Leg.{Leg}
 use Rattle.mesh_rules.specs.State.{NodeState}
 use Rattle.mesh_rules.specs.Changes.{Answer, nothing, puts}
 use Rattle.mesh_rules.specs.LocalNodes.{LocalNode, local_node}
-use Rattle.mesh_rules.specs.Legs.{closed, connected, is_armed, is_asked, previous, with_phase}
+use Rattle.mesh_rules.specs.Legs.{closed, connected, is_armed, is_asked, label_through, previous, with_phase}
 use Rattle.mesh_rules.specs.Messages.{arrival}
 use Rattle.mesh_rules.specs.Machine.{Mesh, without_first}
 use Rattle.mesh_rules.specs.Activations.{resv_to}
@@ -27,7 +27,7 @@ use Rattle.mesh_laws.proofs.hops.Plans.{Plan, hops, fibre_at, node_at, IsRoute, 
 use Rattle.mesh_laws.proofs.hops.AnswersTaken.{armed_answers}
 use Rattle.mesh_laws.proofs.hops.Purposes.{Purpose, role_of}
 use Rattle.mesh_laws.proofs.hops.Chain.{Chain, LegFits}
-use Rattle.mesh_rules.specs.Resvs.{is_expected, label_back, labels_left, label_passed, passed_back, torn_both_ways}
+use Rattle.mesh_rules.specs.Resvs.{is_expected, labels_left, label_passed, passed_back, torn_both_ways}
 use Rattle.mesh_rules.specs.ActivationAnswers.{is_confirmed}
 use Rattle.mesh_laws.proofs.hops.InParts.{leg_of_resv, leg_answers, leg_confirmed}
 use Rattle.mesh_laws.proofs.hops.Views.{leg-there}
@@ -132,7 +132,7 @@ module _ (t : Network) (q : Purpose) (s : Mesh) (l : Lsp) (p : Plan) (i : ℕ) (
     answers : g.phase ≡ Asked → PrevOf t p i g → IsPart (leg_answers place state (arrival l e from k) x g (previous g))
     answers asked (AtIngress first) = rw first
         (record { light = rw mine (light-deaf (connected g None x) (reserved-deaf g.role)); sends = some })
-    answers asked (After j is prev) = rw prev (passed asked j is (fibre_at t p j) (label_back place
+    answers asked (After j is prev) = rw prev (passed asked j is (fibre_at t p j) (label_through place
         (labels_left place state g (record { node = node_at p j; fibre = fibre_at t p j })) x))
 
     -- The Armed leg is Live

@@ -118,7 +118,7 @@ module _ (t : Network) (q : Purpose) (s : Mesh) (l : Lsp) (p : Plan) (i : ℕ) (
                 (puts (with_phase Held g) (taken_on g (drop 1 r) back
                 (Some (record { node = far; fibre = fibre_at t p (suc i) }))))
                 (distinct t l.ingress p route (suc (suc i)) (suc i) small (omega arith) (omega arith)))
-                leg.1 at.0 g.egress (fibre_at t p (suc i)).link (drop 1 r) g.sent None work primary) (omega arith));
+                leg.1 at.0 g.egress (fibre_at t p (suc i)).link (drop 1 r) g.sent g.back_in work primary) (omega arith));
           })
 
   -- A Path that takes an activation back weighs more than what its leg sends, and nothing that stays gets heavier.

@@ -1,7 +1,6 @@
 -- A table has a row of each leg and of each call that is guarded; and by the rows a call may turn where it may.
-use Rattle.std.proofs.Common.{◌≡◌, ℕ, Bool, true, false, cond, nat_eq, nat_lt, List, [], ◌∷◌, refl, sym, ap, ◌∙◌, subst, arith, Contains}
-use Rattle.std.specs.Prelude.{◌&&◌, Option, Some, None, find, flat_map}
-use Rattle.ason_base.specs.Lsps.{same_fibre}
+use Rattle.std.proofs.Common.{◌≡◌, ℕ, Bool, true, false, cond, nat_eq, nat_lt, List, [], ◌∷◌, refl, sym, subst, arith, Contains}
+use Rattle.std.specs.Prelude.{◌&&◌, Option, Some, find, flat_map}
 use Rattle.ason_base.specs.Network.{IsTopology, Network, is_node_id}
 use Rattle.ason_base.specs.declared.calls.CallRow.{CallRow}
 use Rattle.ason_base.specs.declared.calls.LegRow.{LegRow}
@@ -17,7 +16,7 @@ use Rattle.ason_base.specs.declared.calls.Role.TheVariants as role
 use Rattle.ason_base.proofs.Ordered.{any-there, contains-head, contains-tail, in_order-has, there-any}
 use Rattle.ason_base.proofs.RisingNumbers.{nat_order}
 use Rattle.mesh_rules.specs.Calls.{find_call}
-use Rattle.mesh_rules.specs.Legs.{find_leg, is_beyond_asked, is_label, is_on, takes}
+use Rattle.mesh_rules.specs.Legs.{find_leg}
 use Rattle.mesh_rules.specs.Machine.{Mesh}
 use Rattle.mesh_rules.specs.Rows.{call_row, call_rows, leg_row, leg_rows, standing}
 use Rattle.mesh_nodes.proofs.LegList.{found-lsp, same_lsp-refl}
@@ -30,7 +29,7 @@ use Rattle.mesh_laws.proofs.alone.Facts.{Routes}
 use Rattle.mesh_laws.proofs.hops.Plans.{same}
 use Rattle.mesh_laws.proofs.nodes.CallParts.{named-lsp}
 use Rattle.mesh_laws.proofs.nodes.Facts.{MeshFacts}
-use Rattle.mesh_laws.proofs.reports.KnownFibres.{same_fibre-is}
+use Rattle.mesh_laws.proofs.nodes.LegParts.{Taken, taken}
 use Rattle.mesh_laws.proofs.restoration.Calls.{backup-there}
 use Rattle.mesh_laws.proofs.surveyed.Stands.{Into, placed}
 
@@ -43,33 +42,14 @@ find-contains p (y ∷ xs) x e = go (p y) e (find-contains p xs x)
     go true e later = (let is : y ≡ x = cc e in subst (Contains (y ∷ xs)) is (contains-head y xs))
     go false e later = contains-tail y x xs (later e)
 
--- a label that is taken
-record Taken (f : Fibre) (x : ℕ) (b : Leg) : Type 0 where
-  up : is_beyond_asked b.phase ≡ true
-  fibre : b.in_fibre ≡ Some f
-  label : b.in_label ≡ Some x
-
-taken : (f : Fibre) (x : ℕ) (b : Leg) → takes f x b ≡ true → Taken f x b
-taken f x b e = go (is_beyond_asked b.phase) refl b.in_fibre refl b.in_label refl e
-  where
-    go : (u : Bool) → is_beyond_asked b.phase ≡ u → (g : Option Fibre) → b.in_fibre ≡ g → (y : Option ℕ) →
-        b.in_label ≡ y → is_label (cond (u && is_on g f) y None) x ≡ true → Taken f x b
-    go false up g at_g y at_y e = absurd (cc e)
-    go true up None at_g y at_y e = absurd (cc e)
-    go true up (Some g) at_g y at_y e = on (same_fibre g f) refl y at_y e
-      where
-        on : (z : Bool) → same_fibre g f ≡ z → (y : Option ℕ) → b.in_label ≡ y →
-            is_label (cond z y None) x ≡ true → Taken f x b
-        on false is y at_y e = absurd (cc e)
-        on true is None at_y e = absurd (cc e)
-        on true is (Some y) at_y e = record {
-          up = up;
-          fibre = at_g ∙ ap Some (same_fibre-is g f is);
-          label = at_y ∙ ap Some (let same : y ≡ x = grind arith in same);
-        }
-
 module _ (t : Network) (valid : IsTopology t) (s : Mesh) (o : Routes) (hops : (l : Lsp) → LspFits t s l (o l))
     (facts : MeshFacts t s) (calls : List CallRow) (legs : List LegRow) (shows : ShowsAll t s calls legs) where
+  -- it is the label in of a leg beyond Asked
+  took-there : (n : NodeId) (f : Fibre) (x : ℕ) (c : CallRec) → (takes : TakesLabel s c n f x) → Taken f x takes.leg
+  took-there n f x c takes =
+      let node = facts.node n.0 in
+      taken n.0 (s.nodes n.0).lsp f x takes.leg (node.leg takes.back takes.leg takes.there) takes.label
+
   node-spec : (n : NodeId) → is_node_id t.nodes n ≡ true → (m : NodeSpec) × Contains t.nodes m × (m.id ≡ n)
   node-spec n e =
       let one = any-there (λ (m : NodeSpec). nat_eq m.id.0 n.0) t.nodes e in
@@ -131,7 +111,7 @@ module _ (t : Network) (valid : IsTopology t) (s : Mesh) (o : Routes) (hops : (l
       let row : CallRow = call_row at own c in
       let is_back : standing c.back own ≡ Some back = stands c.back own back held.leg turn.label.named here in
       let is_work : standing c.work own ≡ Some hit.work = stands c.work own hit.work worked.0 hit.named worked.1 in
-      let took = taken f x turn.label.leg turn.label.label in
+      let took = took-there n f x c turn.label in
       let at_back : held.leg.lsp ≡ back = found-lsp back own held.leg here in
       let hit_lsp : hit.leg.lsp ≡ hit.work = found-lsp hit.work (s.nodes hit.node.0).legs hit.leg hit.there in
       let take_lsp : turn.label.leg.lsp ≡ back =
@@ -149,7 +129,7 @@ module _ (t : Network) (valid : IsTopology t) (s : Mesh) (o : Routes) (hops : (l
         take_lsp,
         same_lsp-refl back,
         same n.0,
-        took.up,
+        took.phase,
         took.fibre,
         took.label,
         same f.link.0,
@@ -164,7 +144,7 @@ module _ (t : Network) (valid : IsTopology t) (s : Mesh) (o : Routes) (hops : (l
   pub label-there : (n : NodeId) (f : Fibre) (x : ℕ) (c : CallRec) → TakesLabel s c n f x →
       Contains (labels_at legs n f.link) x
   label-there n f x c takes =
-      let took = taken f x takes.leg takes.label in
+      let took = took-there n f x c takes in
       (in_order-has nat_lt nat_order (flat_map (λ r. cond (nat_eq r.node.0 n.0 && is_link r.in_link f.link)
       (label_in r.in_label) []) legs) x).1
       (contains-flat (λ (r : LegRow). cond (nat_eq r.node.0 n.0 && is_link r.in_link f.link) (label_in r.in_label) [])
@@ -174,4 +154,4 @@ module _ (t : Network) (valid : IsTopology t) (s : Mesh) (o : Routes) (hops : (l
   -- and its fibre is one of a link that comes in there
   pub owner-there : (n : NodeId) (f : Fibre) (x : ℕ) (c : CallRec) → TakesLabel s c n f x → Into t n f
   owner-there n f x c takes =
-      (placed t valid s o hops facts takes.back n takes.leg takes.there).into f (taken f x takes.leg takes.label).fibre
+      (placed t valid s o hops facts takes.back n takes.leg takes.there).into f (took-there n f x c takes).fibre

@@ -2,7 +2,7 @@ use Rattle.std.proofs.Common.{◌≡◌, not, ◌∙◌, ap, length, sym}
 use Rattle.mesh_rules.specs.Legs.{is_in_use}
 use Rattle.mesh_nodes.proofs.Kept.{length-replaced}
 use Rattle.leg_table.specs.LegClaims.{is_used_by}
-use Rattle.leg_labels.proofs.BusyLabels.{busy-exact}
+use Rattle.leg_labels.proofs.BusyLabels.{none-busy}
 use Rattle.leg_labels.proofs.RekindedClaims.{kept-fibres}
 use Rattle.leg_labels.proofs.KeptClaims.{kept-claimed, kept-comes, kept-fit, kept-within}
 use Rattle.leg_table.proofs.LegOrder.{legs-to}
@@ -32,8 +32,7 @@ rearm-requires-clause-idle c =
     let was : c.is_used-was.result ≡ is_in_use may.before.phase =
     c.is_used-was.ensures ∙ rw (c.deref.ensures.value, c.leg.ensures) (ap is_used_by may.there) in
     rw c.leg-2.ensures (λ idle used.
-    ap not (busy-exact legs c.args.owner.now c.requires.fit t.fibre t.label g.lsp (legs-to legs c.requires.rising)
-    ∙ may.alone (sym was ∙ idle) used))
+    ap not (none-busy legs c.args.owner.now c.requires.fit t.fibre t.label g.lsp (may.alone (sym was ∙ idle) used)))
 
 pub returns-clause-len : goal.returns-clause-len
 returns-clause-len c =

@@ -2,7 +2,7 @@ use Rattle.std.proofs.Common.{◌∙◌, sym}
 use Rattle.leg_labels.proofs.BusyLabels.{busy-exact, contended-busy, contended-none}
 use Rattle.leg_table.proofs.LegOrder.{legs-to}
 use Rattle.leg_table.proofs.OwnerFibres.{claimed-comes}
-use Rattle.leg_table.proofs.TakenLabels.{taken-takes}
+use Rattle.leg_table.proofs.TakenLabels.{own-one-way, taken-takes}
 use Rattle.leg_labels.proofs.usable_labels.is_contended.Goals as goal
 
 pub claims-requires : goal.claims-requires
@@ -20,6 +20,7 @@ returns-in-Some c =
     let t = c.in-Some.t in
     rw (c.has_busy.ensures, c.claims.ensures)
     (busy-exact legs c.args.owner.now c.requires.claims t.fibre t.label g.lsp (legs-to legs c.rises.ensures.rising)
+    (own-one-way c.args.tables.now c.requires.legs)
     ∙ sym (contended-busy legs g t (sym c.taken.ensures ∙ c.in-Some.is)))
 
 pub returns-in-None : goal.returns-in-None
