@@ -3,6 +3,7 @@ pub mod Activations
 pub mod Alarms
 pub mod CallList
 pub mod CallSteps
+mod CallsLearnNothing
 pub mod Cases
 pub mod FirstLegs
 pub mod Followed
