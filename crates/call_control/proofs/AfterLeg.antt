@@ -1,11 +1,8 @@
 -- What becomes of a call is the same before and after what a Resv, a PathErr or a Notify does to the leg. The rule of
 -- the message is the one and then the other.
-use Rattle.std.proofs.Common.{◌≡◌, ℕ, Bool, true, false, cond, not, nat_lt, nat_le, List, [], drop, length, refl, sym, ap, ◌∙◌}
+use Rattle.std.proofs.Common.{◌≡◌, ℕ, Bool, true, false, cond, not, [], refl, sym, ap, ◌∙◌}
 use Rattle.std.specs.Prelude.{◌&&◌, ◌||◌, Option, Some, None, is_some}
-use Rattle.ason_base.specs.Risks.{unknown_link}
-use Rattle.ason_base.specs.declared.calls.Cause.TheVariants.{Full, NoBackup, Spent}
-use Rattle.ason_base.specs.declared.calls.Phase.{Phase}
-use Rattle.ason_base.specs.declared.calls.Phase.TheVariants.{Asked, Held, Armed, Live, Closing, Falling}
+use Rattle.ason_base.specs.declared.calls.Phase.TheVariants.{Held, Live}
 use Rattle.ason_base.specs.declared.calls.Role.{Role}
 use Rattle.ason_base.specs.declared.calls.Role.TheVariants.{Work, Back}
 use Rattle.ason_base.specs.declared.codes.ErrCode.{ErrCode}
@@ -14,75 +11,30 @@ use Rattle.ason_base.specs.declared.ids.Lsp.{Lsp}
 use Rattle.ason_base.specs.declared.ids.NodeId.{NodeId}
 use Rattle.ason_base.specs.declared.messages.Msg.{Msg}
 use Rattle.ason_base.specs.declared.messages.Msg.TheVariants.{Resv, PathErr, Notify}
-use Rattle.ason_base.specs.declared.network.LinkSpec.{LinkSpec}
-use Rattle.ason_base.specs.declared.steps.Step.{Step}
-use Rattle.ason_base.specs.declared.tables.CallRec.{CallRec}
 use Rattle.ason_base.specs.declared.tables.Leg.{Leg}
 use Rattle.mesh_rules.specs.declared.arrivals.Arrival.{Arrival}
-use Rattle.mesh_rules.specs.declared.limits.TheConstants.{LAST_NUMBER, MOST_LEGS}
 use Rattle.mesh_rules.specs.declared.neighbours.Neighbour.{Neighbour}
 use Rattle.mesh_rules.specs.ActivationAnswers.{confirmed, contended, disarmed, is_confirmed, resv_again}
-use Rattle.mesh_rules.specs.CallSteps.{backup_reserved, call_answered, call_contended, call_refused, call_turned}
-use Rattle.mesh_rules.specs.Calls.{bare, call_with, is_asking, names}
+use Rattle.mesh_rules.specs.CallSteps.{call_answered, call_contended, call_refused, call_turned}
+use Rattle.mesh_rules.specs.Calls.{call_with}
 use Rattle.mesh_rules.specs.Changes.{Answer, changed, followed_by, nothing, puts, removes}
-use Rattle.mesh_rules.specs.FirstLegs.{first_link, is_full}
-use Rattle.mesh_rules.specs.KnownRows.{known_rows}
-use Rattle.mesh_rules.specs.Legs.{connected, find_leg, following, is_armed, is_asked, is_closing, is_in_use, is_node, is_work, previous, reserved, with_leg, with_phase, without_leg}
+use Rattle.mesh_rules.specs.Legs.{connected, find_leg, following, is_armed, is_closing, is_in_use, is_node, is_work, previous, reserved, with_leg, with_phase, without_leg}
 use Rattle.mesh_rules.specs.LocalNodes.{LocalNode}
 use Rattle.mesh_rules.specs.Messages.{arrival, on_message}
 use Rattle.mesh_rules.specs.Notifies.{Notice, notice_passed, notice_told, notify_with}
-use Rattle.mesh_rules.specs.Pairs.{backup_route, begins_backup, leaves_bare, over_backup, pair, pair_over, route_from}
 use Rattle.mesh_rules.specs.PathErrs.{PathFailure, err_passed, path_err_with, removed}
 use Rattle.mesh_rules.specs.PathErrs as errs
 use Rattle.mesh_rules.specs.Reports.{report_here, reported}
 use Rattle.mesh_rules.specs.Resvs.{answered, connected_here, is_expected, resv_with}
 use Rattle.mesh_rules.specs.State.{NodeState}
-use Rattle.mesh_rules.specs.Turns.{call_put}
-use Rattle.mesh_nodes.proofs.CallList.{called-names}
 use Rattle.mesh_nodes.proofs.Cases.{both_left, both_right}
 use Rattle.mesh_nodes.proofs.Followed.{later-none}
 use Rattle.mesh_nodes.proofs.LegList.{found-lsp}
-use Rattle.mesh_nodes.proofs.Links.{found-one}
 use Rattle.leg_table.specs.Fits.{legs_after}
 use Rattle.leg_table.specs.States.{legs_state, local_of, state_of}
 use Rattle.leg_table.specs.Tables.{CallTable, LegTable}
-use Rattle.call_control.specs.Handlers.{IsCarriedOut, begins_at, leg_answer, refused_by_name, takes_err, takes_notify, takes_resv}
-use Rattle.call_control.specs.Ingress.{AllNameByRole, NamesByRole}
-use Rattle.call_control.specs.Rules.{refused_as, refused_for, refused_here}
-use Rattle.call_control.proofs.Roles.{role-is}
-
--- The call of a leg that got its labels
-
--- as many legs stand
-module _ (p : LocalNode) (s : NodeState) (legs : List Leg) (many : length legs ≡ length s.legs) (g : Leg) where
-  abbrev later : NodeState
-  later = record s { legs = legs }
-
-  full-same : is_full later ≡ is_full s
-  full-same = ap (nat_le MOST_LEGS) many
-
-  module _ (c : CallRec) where
-    over-same : (route : List Step) (o : Option LinkSpec) →
-        over_backup p later c g route o ≡ over_backup p s c g route o
-    over-same route None = refl
-    over-same route (Some out) =
-        ap (λ b. cond (nat_lt LAST_NUMBER s.lsp) (leaves_bare c Spent)
-        (cond b (leaves_bare c Full) (begins_backup p s c g out (drop 1 route)))) full-same
-
-    along-same : (o : Option (List Step)) → pair_over p later c g o ≡ pair_over p s c g o
-    along-same None = refl
-    along-same (Some route) = over-same route (first_link p route)
-
-    pair-same : pair p later c g ≡ pair p s c g
-    pair-same =
-        ap (λ a. cond (is_some (unknown_link (known_rows p s) (route_from p g))) (leaves_bare c NoBackup) a)
-        (along-same (backup_route p s c g))
-
-  pub answered-same : (o : Option CallRec) → call_answered p later g o ≡ call_answered p s g o
-  answered-same None = refl
-  answered-same (Some c) =
-      ap (λ a. cond (is_work g.role) (cond (is_asking c.state) (cond c.protected a (call_put (bare c))) nothing)
-      (backup_reserved g c)) (pair-same c)
+use Rattle.call_control.specs.Handlers.{IsCarriedOut, begins_at, leg_answer, takes_err, takes_notify, takes_resv}
+use Rattle.call_control.specs.Rules.{refused_for, refused_here}
 
 -- The rules
 
@@ -320,16 +272,3 @@ module _ (before t : LegTable) (c : CallTable) (u : NodeId) (l : Lsp) (e : NodeI
                   ∙ ap (λ b. cond b (notice_told p s n g (reported code)) nothing) (both_left (here && there) _ taken)
                   ∙ ap (notice_told p s n g) told ∙ ap (notice_passed p s n g down) first;
             }
-
--- A leg that has gone
-
--- the call tells the role that the leg had
-pub refused-same : (p : LocalNode) (s : NodeState) (code : ErrCode) (l : Lsp) (g : Leg) (o : Option CallRec) →
-    AllNameByRole p s → find_leg l s.legs ≡ Some g → call_with l s.calls ≡ o →
-    refused_by_name code l o ≡ call_refused code g o
-refused-same p s code l g None all found called = refl
-refused-same p s code l g (Some c) all found called =
-    let here : NamesByRole p.id.0 s.lsp s.legs c =
-    found-one (NamesByRole p.id.0 s.lsp s.legs) (names l) s.calls c called all in
-    ap (λ r. refused_as code r c)
-    (sym (role-is p.id.0 s.lsp s.legs c l g here (called-names l s.calls c called) found))

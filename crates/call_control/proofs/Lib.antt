@@ -3,9 +3,13 @@ pub mod Again
 mod AnyLeft
 mod Asked
 pub mod AtStart
+pub mod CallAfterLeg
 mod Decided
+pub mod Decides
 pub mod Decisions
+pub mod Followed
 pub mod Kept
+mod LegFollowed
 mod Links
 pub mod Named
 pub mod Roles

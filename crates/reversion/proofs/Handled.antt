@@ -43,7 +43,8 @@ use Rattle.call_control.specs.GoingBack.{going_back, once_turned}
 use Rattle.call_control.specs.Handlers.{goes_back}
 use Rattle.call_control.specs.Ingress.{IngressFits, IsArmedAsBackup, NamesByRole, role_at}
 use Rattle.call_control.proofs.Kept.{Keeps, carried-fits}
-use Rattle.call_control.proofs.Named.{Begins, leg_of-begins, reported-names}
+use Rattle.call_control.proofs.Decides.{reported-names}
+use Rattle.call_control.proofs.Named.{Begins, leg_of-begins}
 use Rattle.call_control.proofs.Roles.{BeginAlone, fits-alone, named-as}
 use Rattle.reversion.specs.Answers.{go_back_answer, revert_here, tick_answer}
 use Rattle.reversion.proofs.Standing.{Leaves, at-start, backed-leaves, decide-leaves, leg-leaves, nothing-leaves, then-leaves, ticks-leave}

@@ -27,7 +27,8 @@ use Rattle.leg_table.specs.LegClaims.{ChangesNoLabel, ClaimsStay}
 use Rattle.leg_table.proofs.LeftLabels.{left-with, kind-none, left-fit}
 use Rattle.call_control.specs.Ingress.{AllNameByRole, IsArmedAsBackup, NamesByRole, role_at}
 use Rattle.call_control.proofs.Decisions.{HasLspsOf, decide-has, go_back-has, phase_put}
-use Rattle.call_control.proofs.Named.{Begins, leg_of-begins, names-like}
+use Rattle.call_control.proofs.Decides.{names-like}
+use Rattle.call_control.proofs.Named.{Begins, leg_of-begins}
 use Rattle.call_control.proofs.Roles.{BeginAlone, RolesStay, alone-with, calls-stay, changed-stay, lone-taken, lsp-stays, none-taken}
 
 -- s is what the answer reads

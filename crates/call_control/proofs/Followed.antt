@@ -1,0 +1,254 @@
+-- A Resv, a PathErr and a Notify at an ingress, after what they did to the leg: the rule of the message is that, and
+-- then what is done to the call.
+use Rattle.std.proofs.Common.{◌≡◌, ℕ, Bool, true, false, cond, not, List, [], refl, sym, ap, subst, ◌∙◌, arith}
+use Rattle.std.specs.Prelude.{◌&&◌, Option, Some, None}
+use Rattle.ason_base.specs.Lsps.{same_lsp}
+use Rattle.ason_base.specs.declared.calls.Phase.TheVariants.{Held, Live}
+use Rattle.ason_base.specs.declared.codes.ErrCode.{ErrCode}
+use Rattle.ason_base.specs.declared.ids.LinkId.{LinkId}
+use Rattle.ason_base.specs.declared.ids.Lsp.{Lsp}
+use Rattle.ason_base.specs.declared.ids.NodeId.{NodeId}
+use Rattle.ason_base.specs.declared.messages.Msg.{Msg}
+use Rattle.ason_base.specs.declared.messages.Msg.TheVariants.{Path, Resv, PathTear, PathErr, Notify}
+use Rattle.ason_base.specs.declared.tables.CallRec.{CallRec}
+use Rattle.ason_base.specs.declared.tables.Leg.{Leg}
+use Rattle.ason_base.specs.declared.tables.Out.{Out}
+use Rattle.mesh_rules.specs.ActivationAnswers.{is_confirmed}
+use Rattle.mesh_rules.specs.CallSteps.{call_answered, call_contended, call_turned}
+use Rattle.mesh_rules.specs.Calls.{call_with}
+use Rattle.mesh_rules.specs.Changes.{Answer, changed, followed_by, nothing, removes}
+use Rattle.mesh_rules.specs.Legs.{connected, is_armed, is_work, with_leg, with_phase, without_leg}
+use Rattle.mesh_rules.specs.LocalNodes.{LocalNode}
+use Rattle.mesh_rules.specs.Messages.{arrival, on_message}
+use Rattle.mesh_rules.specs.Pairs.{route_from}
+use Rattle.mesh_rules.specs.Reports.{fibre_into, reported}
+use Rattle.mesh_rules.specs.State.{NodeState}
+use Rattle.mesh_nodes.specs.Kept.{NodeFits}
+use Rattle.mesh_nodes.proofs.Cases.{both_left}
+use Rattle.mesh_nodes.proofs.LearnsNothing.{message-learns_nothing}
+use Rattle.mesh_nodes.proofs.LegList.{all-filter}
+use Rattle.mesh_nodes.proofs.Messages.{messages-fit}
+use Rattle.leg_table.specs.States.{local_of, state_of}
+use Rattle.leg_table.specs.Tables.{CallTable, LegTable}
+use Rattle.call_control.specs.Handlers.{AreSentFor, IsKeptAfter, WereBefore, answer_here, busy_here, gone_here, resv_here, whole_answer}
+use Rattle.call_control.specs.Ingress.{IngressFits, IsArmedAsBackup}
+use Rattle.call_control.specs.Rules.{answered_here, refused_for, refused_here, told_here, turned_here}
+use Rattle.call_control.proofs.AfterLeg.{Becomes, Contends, Refuses, TakesResv, Tells, contends, refuses, removes-then, reserved-inactive, resv-taken, tells}
+use Rattle.call_control.proofs.CallAfterLeg.{answered-same, refused-same}
+use Rattle.call_control.proofs.Kept.{Keeps, nothing-keeps}
+use Rattle.call_control.proofs.AfterLeg.TakesResv.{confirms, connects}
+use Rattle.call_control.proofs.Decides.{answered-stays, contended-stays, refused-stays, reported-stays, turned-stays}
+use Rattle.call_control.proofs.Named.{Stays, nothing-stays}
+use Rattle.call_control.proofs.Roles.{alone-without, calls-stay, fits-alone, gone-stay}
+use Rattle.call_control.proofs.LegFollowed.{Follows, alone-after, armed-after, armed-role, as-many, h-found, h-here, leg-follows, names-after}
+
+module _ (before : LegTable) (c : CallTable) (u : NodeId) (fits : IngressFits before c) where
+  abbrev p : LocalNode
+  p = local_of before
+
+  abbrev s : NodeState
+  s = state_of before c
+
+  module _ (l : Lsp) (e : NodeId) (k : LinkId) (x : ℕ) (t : LegTable) where
+    abbrev m : Msg
+    m = Resv l e k x
+
+    connected-follows : (g : Leg) →
+        Becomes before t c u l e m g (connected g None x)
+        (call_answered p s (connected g None x) (call_with g.lsp c.calls)) →
+        Follows before (record before { legs = with_leg (connected g None x) before.legs }) c u m
+    connected-follows g became =
+        let h : Leg = connected g None x in
+        let after : LegTable = record before { legs = with_leg h before.legs } in
+        leg-follows before c u fits l e m t g h _ became refl
+        (ap (resv_here after c) (h-here before c u fits l e m t g h _ became)
+        ∙ ap (λ b. cond b (turned_here c h) (answered_here after c h)) (reserved-inactive g.role)
+        ∙ answered-same p s after.legs (as-many before c u fits l e m t g h _ became) h (call_with g.lsp c.calls))
+        (subst (Stays p (state_of after c))
+        (answered-same p s after.legs (as-many before c u fits l e m t g h _ became) h (call_with g.lsp c.calls))
+        (answered-stays p (state_of after c) (names-after before c u fits l e m t g h _ became)
+        (alone-after before c u fits l e m t g h _ became)
+        (armed-after before c u fits l e m t g h _ became) h
+        (h-found before c u fits l e m t g h _ became) (call_with g.lsp c.calls) refl))
+
+    confirmed-follows : (g : Leg) → is_confirmed (arrival l e u k) x g ≡ true →
+        Becomes before t c u l e m g (with_phase Live g)
+        (call_turned (with_phase Live g) (call_with g.lsp c.calls)) →
+        Follows before (record before { legs = with_leg (with_phase Live g) before.legs }) c u m
+    confirmed-follows g confirmed became =
+        leg-follows before c u fits l e m t g h _ became refl
+        (ap (resv_here after c) (h-here before c u fits l e m t g h _ became) ∙ part (call_with g.lsp c.calls) refl)
+        (stays (call_with g.lsp c.calls) refl)
+      where
+        armed : is_armed g.phase ≡ true
+        armed = both_left (is_armed g.phase) _ confirmed
+
+        h : Leg
+        h = with_phase Live g
+
+        after : LegTable
+        after = record before { legs = with_leg h before.legs }
+
+        same : (b : Bool) → cond b nothing nothing ≡ nothing
+        same true = refl
+        same false = refl
+
+        -- a leg that no call names has no call's rule
+        part : (o : Option CallRec) → call_with g.lsp c.calls ≡ o →
+            cond (not (is_work g.role) && true) (call_turned h o) (call_answered p (state_of after c) h o)
+            ≡ call_turned h o
+        part None none = same (not (is_work g.role) && true)
+        part (Some d) named =
+            ap (λ r. cond (not (is_work r) && true) (call_turned h (Some d))
+            (call_answered p (state_of after c) h (Some d)))
+            (armed-role before c u fits l e m t g h _ became d named armed)
+
+        stays : (o : Option CallRec) → call_with g.lsp c.calls ≡ o → Stays p (state_of after c) (call_turned h o)
+        stays None none =
+            nothing-stays p (state_of after c) (names-after before c u fits l e m t g h _ became)
+            (alone-after before c u fits l e m t g h _ became)
+            (armed-after before c u fits l e m t g h _ became)
+        stays (Some d) named =
+            turned-stays p (state_of after c) (names-after before c u fits l e m t g h _ became)
+            (alone-after before c u fits l e m t g h _ became)
+            (armed-after before c u fits l e m t g h _ became) h (h-found before c u fits l e m t g h _ became)
+            (armed-role before c u fits l e m t g h _ became d named armed) (Some d) named
+
+    pub resv-follows : TakesResv before t c u l e k x → Follows before t c u m
+    resv-follows (connects g became) =
+        subst (λ b. Follows before b c u m) (sym became.is) (connected-follows g became)
+    resv-follows (confirms g confirmed became) =
+        subst (λ b. Follows before b c u m) (sym became.is) (confirmed-follows g confirmed became)
+
+  module _ (l : Lsp) (e at : NodeId) (code : ErrCode) (t : LegTable) where
+    pub busy-follows : Contends before t c u l e at code → Follows before t c u (PathErr l e at false code)
+    busy-follows took =
+        subst (λ b. Follows before b c u (PathErr l e at false code)) (sym took.becomes.is)
+        (leg-follows before c u fits l e m t g h _ took.becomes refl
+        (ap (busy_here c) (h-here before c u fits l e m t g h _ took.becomes)) (stays (call_with g.lsp c.calls) refl))
+      where
+        m : Msg
+        m = PathErr l e at false code
+
+        g : Leg
+        g = took.leg
+
+        h : Leg
+        h = with_phase Held g
+
+        after : LegTable
+        after = record before { legs = with_leg h before.legs }
+
+        stays : (o : Option CallRec) → call_with g.lsp c.calls ≡ o → Stays p (state_of after c) (call_contended h o)
+        stays None none =
+            nothing-stays p (state_of after c) (names-after before c u fits l e m t g h _ took.becomes)
+            (alone-after before c u fits l e m t g h _ took.becomes)
+            (armed-after before c u fits l e m t g h _ took.becomes)
+        stays (Some d) named =
+            contended-stays p (state_of after c) (names-after before c u fits l e m t g h _ took.becomes)
+            (alone-after before c u fits l e m t g h _ took.becomes)
+            (armed-after before c u fits l e m t g h _ took.becomes) h
+            (h-found before c u fits l e m t g h _ took.becomes)
+            (armed-role before c u fits l e m t g h _ took.becomes d named took.armed) (Some d)
+            named
+
+  module _ (l : Lsp) (e at : NodeId) (code : ErrCode) (t : LegTable) (took : Refuses before t c u l e at code) where
+    abbrev left : LegTable
+    left = record before { legs = without_leg l before.legs }
+
+    err-part : gone_here c l code ≡ refused_here before c l code
+    err-part =
+        refused-same p s code l took.leg (call_with l c.calls) fits.names took.found refl
+        ∙ ap (refused_for code (call_with l c.calls)) (sym took.found)
+
+    err-whole : on_message p s u (PathErr l e at true code) ≡ followed_by (removes l []) (gone_here c l code)
+    err-whole = took.whole ∙ ap (followed_by (removes l [])) (sym err-part)
+
+    err-state : changed s (on_message p s u (PathErr l e at true code)) ≡ changed (state_of left c) (gone_here c l code)
+    err-state = ap (changed s) err-whole ∙ removes-then s l (gone_here c l code)
+
+    pub err-follows : Follows before left c u (PathErr l e at true code)
+    err-follows = record {
+      links = fits.links;
+      known = fits.rows;
+      state = err-state;
+      sent = ap (λ a. a.sent) err-whole;
+      keeps = record {
+        kept = subst (NodeFits p) err-state
+            (messages-fit p s u (PathErr l e at true code) fits.links fits.kept).kept;
+        stays = refused-stays p (state_of left c)
+            (calls-stay p.id.0 c.lsp c.lsp before.legs left.legs c.calls (omega arith) (gone-stay c.lsp l before.legs)
+            fits.names)
+            (alone-without p l before.legs (fits-alone p s fits.kept))
+            (all-filter (IsArmedAsBackup p.id.0) (λ g. not (same_lsp g.lsp l)) before.legs fits.armed) code l
+            (call_with l c.calls) refl;
+        no_row = sym (ap (λ a. a.rows) err-whole) ∙ message-learns_nothing p s u (PathErr l e at true code);
+      };
+    }
+
+  -- a Notify leaves the leg as it was
+  module _ (l : Lsp) (e at : NodeId) (k : LinkId) (code : ErrCode) (t : LegTable)
+      (took : Tells before t c u l e at k code) where
+    told-part : answer_here before c (Notify l e at k code) ≡ on_message p s u (Notify l e at k code)
+    told-part =
+        ap (λ o. told_here before c at k o (reported code)) took.found
+        ∙ ap (told_here before c at k (Some took.leg)) took.told ∙ sym took.whole
+
+    pub told-follows : Follows before before c u (Notify l e at k code)
+    told-follows = record {
+      links = fits.links;
+      known = fits.rows;
+      state = ap (changed s) (sym told-part);
+      sent = ap (λ a. a.sent) (sym told-part);
+      keeps = record {
+        kept = subst (λ a. NodeFits p (changed s a)) (sym told-part)
+            (messages-fit p s u (Notify l e at k code) fits.links fits.kept).kept;
+        stays = subst (Stays p s) (sym (told-part ∙ took.whole))
+            (reported-stays p s fits.names (fits-alone p s fits.kept) fits.armed took.leg took.down
+            (fibre_into (route_from p took.leg) took.leg.egress at k));
+        no_row = ap (λ a. a.rows) told-part ∙ message-learns_nothing p s u (Notify l e at k code);
+      };
+    }
+
+  -- a message of another kind
+  other-follows : (m : Msg) (t : LegTable) → whole_answer before c u m ≡ nothing →
+      ((b : LegTable) → answer_here b c m ≡ nothing) → t ≡ before → Follows before t c u m
+  other-follows m t whole here same =
+      subst (λ b. Follows before b c u m) (sym same)
+      (record {
+        links = fits.links;
+        known = fits.rows;
+        state = ap (changed s) (whole ∙ sym (here before));
+        sent = ap (λ a. a.sent) (whole ∙ sym (here before));
+        keeps = subst (Keeps before c) (sym (here before)) (nothing-keeps before c fits);
+      })
+
+pub follows : (before t : LegTable) (c : CallTable) (u : NodeId) (m : Msg) → WereBefore t c u m before →
+    Follows before t c u m
+follows before t c u (Path l e k route set up r) were =
+    other-follows before c u were.fits (Path l e k route set up r) t refl (λ b. refl) were.leg
+follows before t c u (Resv l e k x) were =
+    resv-follows before c u were.fits l e k x t (resv-taken before t c u l e k x were.leg)
+follows before t c u (PathTear l e k) were =
+    other-follows before c u were.fits (PathTear l e k) t refl (λ b. refl) were.leg
+follows before t c u (PathErr l e at true code) were =
+    let took = refuses before t c u l e at code were.leg in
+    subst (λ b. Follows before b c u (PathErr l e at true code)) (sym took.is)
+    (err-follows before c u were.fits l e at code t took)
+follows before t c u (PathErr l e at false code) were =
+    busy-follows before c u were.fits l e at code t (contends before t c u l e at code were.leg)
+follows before t c u (Notify l e at k code) were =
+    let took = tells before t c u l e at k code were.leg in
+    subst (λ b. Follows before b c u (Notify l e at k code)) (sym took.is)
+    (told-follows before c u were.fits l e at k code t took)
+
+-- what is done at the tables after is what the whole rule does at those before
+pub kept-after : (t : LegTable) (c : CallTable) (u : NodeId) (m : Msg) (a : Answer) (s : NodeState) →
+    a ≡ answer_here t c m → s ≡ changed (state_of t c) a → IsKeptAfter t c u m s
+kept-after t c u m a s same state before were =
+    state ∙ ap (changed (state_of t c)) same ∙ sym (follows before t c u m were).state
+
+pub sent-after : (t : LegTable) (c : CallTable) (u : NodeId) (m : Msg) (a : Answer) (outs : List Out) →
+    a ≡ answer_here t c m → outs ≡ a.sent → AreSentFor t c u m outs
+sent-after t c u m a outs same sent before were =
+    sent ∙ ap (λ b. b.sent) same ∙ sym (follows before t c u m were).sent

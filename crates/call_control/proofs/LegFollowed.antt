@@ -1,0 +1,119 @@
+-- A leg at an ingress that a message changes alone, and the tables after it: what is done to its call is done there.
+use Rattle.std.proofs.Common.{◌≡◌, true, cond, length, sym, ap, subst, ◌∙◌, arith}
+use Rattle.std.specs.Prelude.{Some}
+use Rattle.std.specs.List.{AllByRecursion}
+use Rattle.ason_base.specs.declared.calls.Role.TheVariants.{Back}
+use Rattle.ason_base.specs.declared.ids.Lsp.{Lsp}
+use Rattle.ason_base.specs.declared.ids.NodeId.{NodeId}
+use Rattle.ason_base.specs.declared.messages.Msg.{Msg}
+use Rattle.ason_base.specs.declared.tables.CallRec.{CallRec}
+use Rattle.ason_base.specs.declared.tables.Leg.{Leg}
+use Rattle.mesh_rules.specs.Calls.{call_with, names}
+use Rattle.mesh_rules.specs.Changes.{Answer, changed}
+use Rattle.mesh_rules.specs.Legs.{find_leg, is_armed, with_leg}
+use Rattle.mesh_rules.specs.LocalNodes.{LocalNode}
+use Rattle.mesh_rules.specs.Messages.{on_message}
+use Rattle.mesh_rules.specs.State.{NodeState}
+use Rattle.mesh_nodes.specs.Kept.{LegFits, NodeFits}
+use Rattle.mesh_nodes.specs.LocalNodes.{LocalNodeFits}
+use Rattle.mesh_nodes.proofs.CallList.{called-names}
+use Rattle.mesh_nodes.proofs.Kept.{alone-fibre, length-replaced}
+use Rattle.mesh_nodes.proofs.LearnsNothing.{message-learns_nothing}
+use Rattle.mesh_nodes.proofs.LegList.{all-with_leg, find-with_leg, found-all, found-lsp, same_lsp-refl}
+use Rattle.mesh_nodes.proofs.Links.{found-one}
+use Rattle.mesh_nodes.proofs.Messages.{messages-fit}
+use Rattle.leg_table.specs.States.{local_of, state_of}
+use Rattle.leg_table.specs.Tables.{CallTable, LegTable}
+use Rattle.call_control.specs.Handlers.{answer_here, whole_answer}
+use Rattle.call_control.specs.Ingress.{AllNameByRole, IngressFits, IsArmedAsBackup, NamesByRole, role_at}
+use Rattle.call_control.specs.Searches.{RowsAreKnown}
+use Rattle.call_control.proofs.AfterLeg.{Becomes, puts-then}
+use Rattle.call_control.proofs.Kept.{Keeps}
+use Rattle.call_control.proofs.Named.{Stays}
+use Rattle.call_control.proofs.Roles.{BeginAlone, alone-with, calls-stay, changed-stay, fits-alone, named-as, none-there}
+
+-- the whole rule is what was done to the leg and then what is done to the call
+pub record Follows (before t : LegTable) (c : CallTable) (u : NodeId) (m : Msg) : Type 0 where
+  pub links : LocalNodeFits (local_of t)
+  pub known : RowsAreKnown t
+  pub state : changed (state_of before c) (whole_answer before c u m) ≡ changed (state_of t c) (answer_here t c m)
+  pub sent : (whole_answer before c u m).sent ≡ (answer_here t c m).sent
+  pub keeps : Keeps t c (answer_here t c m)
+
+module _ (before : LegTable) (c : CallTable) (u : NodeId) (fits : IngressFits before c) where
+  abbrev p : LocalNode
+  p = local_of before
+
+  abbrev s : NodeState
+  s = state_of before c
+
+  -- a leg here changes
+  module _ (l : Lsp) (e : NodeId) (m : Msg) (t : LegTable) (g h : Leg) (a : Answer)
+      (became : Becomes before t c u l e m g h a) where
+    abbrev after : LegTable
+    after = record before { legs = with_leg h before.legs }
+
+    is : g.lsp ≡ l
+    is = found-lsp l before.legs g became.found
+
+    same : h.lsp ≡ l
+    same = became.lsp ∙ is
+
+    pub h-found : find_leg h.lsp after.legs ≡ Some h
+    h-found =
+        find-with_leg h before.legs h.lsp
+        ∙ ap (λ b. cond b (Some h) (find_leg h.lsp before.legs)) (same_lsp-refl h.lsp)
+
+    pub h-here : find_leg l after.legs ≡ Some h
+    h-here = subst (λ k. find_leg k after.legs ≡ Some h) same h-found
+
+    there : find_leg h.lsp before.legs ≡ Some g
+    there = subst (λ k. find_leg k before.legs ≡ Some g) (sym same) became.found
+
+    pub as-many : length after.legs ≡ length before.legs
+    as-many = length-replaced h g before.legs fits.kept.legs.rise there
+
+    pub names-after : AllNameByRole p (state_of after c)
+    names-after =
+        calls-stay p.id.0 c.lsp c.lsp before.legs after.legs c.calls (omega arith)
+        (changed-stay c.lsp h before.legs (ap role_at there ∙ ap Some (sym became.role))) fits.names
+
+    pub alone-after : BeginAlone p after.legs
+    alone-after =
+        let leg : LegFits p c.lsp g = found-all (LegFits p c.lsp) l before.legs g became.found fits.kept.legs.each in
+        alone-with p h before.legs
+        (became.in_fibre ∙ none-there g.in_fibre (alone-fibre g.prev g.in_fibre leg.in_fibre became.first))
+        (fits-alone p s fits.kept)
+
+    pub armed-after : AllByRecursion (IsArmedAsBackup p.id.0) after.legs
+    armed-after =
+        all-with_leg (IsArmedAsBackup p.id.0) h before.legs (λ begun e. absurd (cc (sym became.unarmed ∙ e))) fits.armed
+
+    -- an Armed leg that a call names is its backup
+    pub armed-role : (d : CallRec) → call_with h.lsp c.calls ≡ Some d → is_armed g.phase ≡ true → h.role ≡ Back
+    armed-role d named armed =
+        let n = named-as p.id.0 c.lsp after.legs d h.lsp
+        (found-one (NamesByRole p.id.0 c.lsp after.legs) (names h.lsp) c.calls d named names-after)
+        (called-names h.lsp c.calls d named) in
+        became.role
+        ∙ found-all (IsArmedAsBackup p.id.0) l before.legs g became.found fits.armed
+        (ap (λ (k : Lsp). k.ingress.0) (sym became.lsp) ∙ n.ingress) armed
+
+    -- by the rule of its call
+    pub leg-follows : whole_answer before c u m ≡ on_message p s u m → answer_here after c m ≡ a →
+        Stays p (state_of after c) a → Follows before after c u m
+    leg-follows whole part stays =
+        let state : changed s (whole_answer before c u m) ≡ changed (state_of after c) (answer_here after c m) =
+        ap (changed s) (whole ∙ became.whole) ∙ puts-then s h a ∙ ap (changed (state_of after c)) (sym part) in
+        record {
+          links = fits.links;
+          known = fits.rows;
+          state = state;
+          sent = ap (λ b. b.sent) (whole ∙ became.whole) ∙ ap (λ b. b.sent) (sym part);
+          keeps = record {
+            kept = subst (NodeFits p) (ap (changed s) (sym whole) ∙ state)
+                (messages-fit p s u m fits.links fits.kept).kept;
+            stays = subst (Stays p (state_of after c)) (sym part) stays;
+            no_row = ap (λ b. b.rows) part ∙ sym (ap (λ b. b.rows) became.whole) ∙ message-learns_nothing p s u m;
+          };
+        }
