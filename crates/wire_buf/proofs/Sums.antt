@@ -9,25 +9,25 @@ use Rattle.std.proofs.lemmas.List.Elements.{All-head, All-tail}
 use Rattle.byteorder.specs.Endian.{big_number}
 use Rattle.wire_buf.specs.Checksum.{words, ones_of, ones_add}
 
--- what was added up so far, and what is still to come
+-- what was added up so far, and what is still to come: with it the sum is the whole one in one's complement
 pub record SumsTo (bytes left : List ℕ) (so_far : ℕ) : Type 0 where
-  pub whole : so_far + sum (words left) ≡ sum (words bytes)
-  pub few : so_far + 65536 * length left ≤ 65536 * length bytes
+  pub whole : ones_of (so_far + sum (words left)) ≡ ones_of (sum (words bytes))
+  pub few : so_far + 4294967296 * length left ≤ 4294967296 * length bytes
 
 read_two : (a b : ℕ) (left : List ℕ) → big_number 2 (a ∷ b ∷ left) ≡ a * 256 + b
 read_two a b left = omega arith
 
-words_front : (left : List ℕ) → 2 ≤ length left → sum (words left) ≡ big_number 2 left + sum (words (drop 2 left))
+pub words_front : (left : List ℕ) → 2 ≤ length left → sum (words left) ≡ big_number 2 left + sum (words (drop 2 left))
 words_front [] h = absurd (omega arith)
 words_front (a ∷ []) h = absurd (omega arith)
 words_front (a ∷ b ∷ left) h = rw (read_two a b left) (sum_by-cons (λ x. x) (a * 256 + b) (words left))
 
-words_last : (left : List ℕ) → length left ≡ 1 → sum (words left) ≡ big_number 1 left * 256
+pub words_last : (left : List ℕ) → length left ≡ 1 → sum (words left) ≡ big_number 1 left * 256
 words_last [] h = absurd (omega arith)
 words_last (a ∷ []) h = omega arith
 words_last (a ∷ b ∷ left) h = absurd (omega arith)
 
-words_none : (left : List ℕ) → length left ≡ 0 → sum (words left) ≡ 0
+pub words_none : (left : List ℕ) → length left ≡ 0 → sum (words left) ≡ 0
 words_none [] h = refl
 words_none (a ∷ left) h = absurd (omega arith)
 
@@ -52,20 +52,45 @@ ones_more (suc n) w h =
           omega arith
     ] refl)
 
-pub adds_word : (bytes left after : List ℕ) (so_far word new : ℕ) → 2 ≤ length left → word ≡ big_number 2 left →
-    word < 65536 → after ≡ drop 2 left → new ≡ so_far + word → SumsTo bytes left so_far → SumsTo bytes after new
-adds_word bytes left after so_far word new long is_word fits is_after is_new sums = record {
-  whole = rw is_after (let front = words_front left long in omega (arith, sums.whole));
-  few = rw is_after (omega (arith, sums.few, length-drop 2 left));
+ones-positive : (n : ℕ) → 0 < n → ones_of n ≡ (n - 1) % 65535 + 1
+ones-positive zero h = absurd (omega arith)
+ones-positive (suc n) h = ap (λ (m : ℕ). m % 65535 + 1) (omega arith)
+
+-- a number of four bytes stands for its two words
+wraps : (n high : ℕ) → (n ≡ 0 → high ≡ 0) → ones_of (n + 65535 * high) ≡ ones_of n
+wraps zero high none =
+    let is_zero = none refl in
+    let nothing : 0 + 65535 * high ≡ 0 = omega (arith, is_zero) in ap ones_of nothing
+wraps (suc n) high none =
+    omega (arith, ones-positive (suc n + 65535 * high) (omega arith), ones-positive (suc n) (omega arith))
+
+pair_wraps : (n : ℕ) (left : List ℕ) → 4 ≤ length left →
+    ones_of (n + big_number 4 left + sum (words (drop 4 left))) ≡ ones_of (n + sum (words left))
+pair_wraps n [] h = absurd (omega arith)
+pair_wraps n (a ∷ []) h = absurd (omega arith)
+pair_wraps n (a ∷ b ∷ []) h = absurd (omega arith)
+pair_wraps n (a ∷ b ∷ c ∷ []) h = absurd (omega arith)
+pair_wraps n (a ∷ b ∷ c ∷ d ∷ left) h =
+    let high : ℕ = a * 256 + b in
+    let low : ℕ = c * 256 + d in
+    let read : big_number 4 (a ∷ b ∷ c ∷ d ∷ left) ≡ high * 65536 + low = omega arith in
+    let front : sum (words (a ∷ b ∷ c ∷ d ∷ left)) ≡ high + (low + sum (words left)) =
+    sum_by-cons (λ x. x) high (low ∷ words left)
+    ∙ ap (λ (m : ℕ). high + m) (sum_by-cons (λ x. x) low (words left)) in
+    let whole : ℕ = n + sum (words (a ∷ b ∷ c ∷ d ∷ left)) in
+    ap ones_of (omega (arith, read, front)) ∙ wraps whole high (λ none. omega (arith, front, none))
+
+pub adds_pair : (bytes left after : List ℕ) (so_far pair new : ℕ) → 4 ≤ length left → pair ≡ big_number 4 left →
+    pair < 4294967296 → after ≡ drop 4 left → new ≡ so_far + pair → SumsTo bytes left so_far → SumsTo bytes after new
+adds_pair bytes left after so_far pair new long is_pair fits is_after is_new sums = record {
+  whole =
+      rw (is_after, is_new, is_pair) (pair_wraps so_far left long ∙ sums.whole);
+  few = rw is_after (omega (arith, sums.few, length-drop 4 left));
 }
 
-pub ends_even : (bytes left : List ℕ) (so_far : ℕ) → length left ≡ 0 → SumsTo bytes left so_far →
-    so_far ≡ sum (words bytes)
-ends_even bytes left so_far none sums = omega (arith, sums.whole, words_none left none)
-
-pub ends_odd : (bytes left : List ℕ) (so_far last new : ℕ) → length left ≡ 1 → last ≡ big_number 1 left →
-    new ≡ so_far + last * 256 → SumsTo bytes left so_far → new ≡ sum (words bytes)
-ends_odd bytes left so_far last new one is_last is_new sums = omega (arith, sums.whole, words_last left one)
+pub sums_all : (bytes left : List ℕ) (so_far last new : ℕ) → last ≡ sum (words left) → new ≡ so_far + last →
+    SumsTo bytes left so_far → ones_of new ≡ ones_of (sum (words bytes))
+sums_all bytes left so_far last new is_last is_new sums = ap ones_of (omega (arith, is_last, is_new)) ∙ sums.whole
 
 add_all : (n : ℕ) (ws : List ℕ) → All (λ w. w < 65536) ws → fold ones_add (ones_of n) ws ≡ ones_of (n + sum ws)
 add_all n [] fit = ap ones_of (omega arith)
@@ -82,10 +107,6 @@ words-append [] back even = refl
 words-append (a ∷ []) back even = absurd (omega arith)
 words-append (a ∷ b ∷ front) back even =
     ap (λ (ws : List ℕ). (a * 256 + b) ∷ ws) (words-append front back (omega arith))
-
-ones-positive : (n : ℕ) → 0 < n → ones_of n ≡ (n - 1) % 65535 + 1
-ones-positive zero h = absurd (omega arith)
-ones-positive (suc n) h = ap (λ (m : ℕ). m % 65535 + 1) (omega arith)
 
 cancels : (others field : ℕ) → 0 < others → field < 65535 → field ≡ 65535 - ones_of others →
     65535 - ones_of (others + field) ≡ 0

@@ -35,18 +35,41 @@ pub fn pieces_keep_words()
         → words (front ++ back) ≡ words front ++ words back }
 {}
 
+// The word of a last byte, which is its high byte; 0 where none is left.
+fn last_byte(cursor: &mut Cursor) -> u32
+    requires { length cursor.old < 2 }
+    ensures value { result ≡ sum (words cursor.old) }
+    ensures small { result < 65536 }
+{
+    match cursor.u8() {
+        None => 0,
+        Some(last) => u32::from(last) << 8,
+    }
+}
+
+// The sum of the words of the last bytes.
+fn last_words(cursor: &mut Cursor) -> u32
+    requires { length cursor.old < 4 }
+    ensures value { result ≡ sum (words cursor.old) }
+    ensures small { result < 131072 }
+{
+    match cursor.u16() {
+        None => last_byte(cursor),
+        Some(word) => u32::from(word) + last_byte(cursor),
+    }
+}
+
 /// The one's complement of the one's complement sum of the 16-bit words. An odd last byte is the high byte of a word
-/// whose low byte is 0 (RFC 1071, sections 1 and 4.1).
+/// whose low byte is 0 (RFC 1071, sections 1 and 4.1). Two words are added at a time, as one number of four bytes, which
+/// is their sum in one's complement (section 2, C).
 pub fn internet_checksum(bytes: &[u8]) -> u16
     ensures { result ≡ checksum_of bytes.now }
 {
     let mut cursor = Cursor::new(bytes);
     let mut sum = 0u128;
-    'words: while let Some(word) = cursor.u16() {
-        sum += u128::from(word);
+    'pairs: while let Some(pair) = cursor.u32() {
+        sum += u128::from(pair);
     }
-    if let Some(last) = cursor.u8() {
-        sum += u128::from(last) << 8;
-    }
+    sum += u128::from(last_words(&mut cursor));
     !ones_of(sum)
 }
