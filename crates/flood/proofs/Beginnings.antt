@@ -17,7 +17,8 @@ use Rattle.flood.specs.NetworkLaws.{AreRowsOfLinks, OwnCanBeDeclared, StartIsNew
 use Rattle.flood.proofs.Members.{each_mapped, there_filter, there_from_filter, there_from_map, there_map}
 use Rattle.flood.proofs.KnownRows.{known_row, room_for_row, row_of_known}
 use Rattle.flood.proofs.NodeFacts.{LineFacts, NodeFacts, facts_row}
-use Rattle.flood.proofs.ChannelFacts.{LineFits, flow_learns}
+use Rattle.flood.proofs.ChannelFacts.{LineFits}
+use Rattle.flood.proofs.RowsGiven.{flow_learns}
 use Rattle.flood.proofs.NetworkFacts.{FlowOf, Lasts}
 
 -- What declaring leaves

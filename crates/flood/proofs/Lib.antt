@@ -9,7 +9,9 @@ pub mod SentMessages
 pub mod KnownRows
 pub mod NodeFacts
 pub mod ChannelFacts
+pub mod RowsGiven
 pub mod NetworkFacts
+pub mod NetworkEvents
 pub mod Beginnings
 pub mod NetworkLaws
 pub mod TopologyRows

@@ -16,7 +16,8 @@ use Rattle.flood.proofs.Members.{there_filter, there_map}
 use Rattle.flood.proofs.KnownRows.{known_is_there}
 use Rattle.flood.proofs.NodeFacts.{unknown_is_new}
 use Rattle.flood.proofs.ChannelFacts.{IsDueAs, one_number}
-use Rattle.flood.proofs.NetworkFacts.{Lasts, run_lasts}
+use Rattle.flood.proofs.NetworkEvents.{run_lasts}
+use Rattle.flood.proofs.NetworkFacts.{Lasts}
 use Rattle.flood.proofs.Beginnings.{begun_lasts}
 
 -- what follows from what lasts holds in every run
