@@ -42,7 +42,7 @@ impl FrameMaker {
         ensures spelled { IfOk result (λ f. IsFrame f.bytes content.now) }
     {
         self.buffer.clear();
-        write_frame(self.alloc, &mut self.buffer, me, content)?;
+        write_frame(&mut self.buffer, me, content)?;
         let bytes = Vec::from_slice(self.alloc, &self.buffer)?;
         Ok(Frame {
             to,

@@ -1,5 +1,5 @@
 -- Envelopes of flood messages.
-use Rattle.std.proofs.Common.{◌≡◌, ◌≤◌, ℕ, ◌+◌, ◌*◌, List, [], ◌++◌, length, drop, slice_index, refl, ap, sym, subst, ◌∙◌, arith}
+use Rattle.std.proofs.Common.{◌≡◌, ◌≤◌, ℕ, ◌+◌, ◌*◌, List, [], ◌++◌, length, drop, slice_index, refl, ap, sym, subst, ◌∙◌, append_assoc, arith}
 use Rattle.std.specs.Prelude.{Err, IsErrOf}
 use Rattle.byteorder.specs.Endian.{big_bytes, big_number}
 use Rattle.byteorder.specs.Numbers.{big_number-reads_back}
@@ -55,6 +55,17 @@ flood_spelled (Row number origin row) can fits = (
   sym (big_number-reads_back 4 origin.0 (link_tlv origin row) fits.1),
   row_spelled origin row can fits.2,
 )
+
+joined : (old a b c : List ℕ) → ((old ++ a) ++ b) ++ c ≡ old ++ ((a ++ b) ++ c)
+joined old a b c = simp append_assoc
+
+-- a row's message, as it is pushed
+pub row_pushed : (old room headed sent new : List ℕ) (number : ℕ) (origin : NodeId) (row : TeRow) → room ≡ old →
+    headed ≡ room ++ (big_bytes 1 1 ++ big_bytes 3 0 ++ big_bytes 4 number) → sent ≡ headed ++ big_bytes 4 origin.0 →
+    new ≡ sent ++ link_tlv origin row → new ≡ old ++ flood_bytes (Row number origin row)
+row_pushed old room headed sent new number origin row same e1 e2 e3 =
+    rw (e3, e2, e1, same) (joined old (big_bytes 1 1 ++ big_bytes 3 0 ++ big_bytes 4 number) (big_bytes 4 origin.0)
+    (link_tlv origin row))
 
 -- the same error in results of two types
 pub same_error : {T U E : Type 0} (x y : E) → IsErrOf {T = T} (Err x) y → IsErrOf {T = U} (Err x) y

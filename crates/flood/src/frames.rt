@@ -9,7 +9,7 @@ ghost use Rattle.flood.specs.declared.frames.Content.{Content};
 ghost use Rattle.flood.specs.Messages as floods;
 ghost use Rattle.flood.specs.Messages.{flood_bytes};
 
-use crate::messages::{FloodMsg, decode_flood, encode_flood};
+use crate::messages::{FloodMsg, append_flood, decode_flood};
 use ason_base::{DecodeError, NodeId, OutOfMemory, Packet};
 use rsvp_messages::{decode, encode_into, room_for};
 use std::alloc::Global;
@@ -77,24 +77,17 @@ fn write_message(out: &mut Vec<u8>, me: NodeId, p: &Packet) -> Result<(), OutOfM
 }
 
 // Appends the frame of a flood message.
-fn write_flood(alloc: Global, out: &mut Vec<u8>, m: &FloodMsg) -> Result<(), OutOfMemory>
+fn write_flood(out: &mut Vec<u8>, m: &FloodMsg) -> Result<(), OutOfMemory>
     requires { floods.CanBeWritten m.now }
     ensures written { OnOk result (out.new.items ≡ out.old.items ++ 89 ∷ flood_bytes m.now) }
     ensures spelled { OnOk result (IsFrame (89 ∷ flood_bytes m.now) (Content.Flood m.now)) }
 {
-    let body = encode_flood(alloc, m)?;
     out.push(FLOOD)?;
-    out.extend_from_slice(&body)?;
-    Ok(())
+    append_flood(out, m)
 }
 
 /// Appends the frame that a node sends. After want of memory there may be a part of it.
-pub fn write_frame(
-    alloc: Global,
-    out: &mut Vec<u8>,
-    me: NodeId,
-    content: &Content,
-) -> Result<(), OutOfMemory>
+pub fn write_frame(out: &mut Vec<u8>, me: NodeId, content: &Content) -> Result<(), OutOfMemory>
     requires { CanBeWritten content.now }
     ensures written { OnOk result (out.new.items ≡ out.old.items ++ frame_bytes me content.now) }
     // What is written is read as the same again.
@@ -102,6 +95,6 @@ pub fn write_frame(
 {
     match content {
         Content::Message(p) => write_message(out, me, p),
-        Content::Flood(m) => write_flood(alloc, out, m),
+        Content::Flood(m) => write_flood(out, m),
     }
 }

@@ -12,5 +12,5 @@ pub mod sends;
 
 pub use flood::Flood;
 pub use frames::{Content, read_frame, write_frame};
-pub use messages::{FloodMsg, decode_flood, encode_flood};
+pub use messages::{FloodMsg, append_flood, decode_flood, encode_flood};
 pub use sends::{FloodOut, FloodSends};

@@ -1,6 +1,6 @@
 //! Flood messages and their bytes.
 
-ghost use Rattle.std.specs.Prelude.{◌≡◌, ◌<◌, ◌≤◌, ◌+◌, ◌^◌, ◌++◌, drop, length, IfOk, IsErrOf, OnOk};
+ghost use Rattle.std.specs.Prelude.{◌≡◌, ◌<◌, ◌≤◌, ◌+◌, ◌^◌, ◌++◌, drop, length, IfOk, IsErrOf, OnOk, vec_capacity, vec_len};
 ghost use Rattle.byteorder.specs.Endian.{big_bytes, big_number};
 ghost use Rattle.ason_base.specs.declared.network.TeRow.{TeRow};
 ghost use Rattle.flood.specs.declared.messages.FloodMsg.{FloodMsg};
@@ -12,8 +12,8 @@ use ason_base::{DecodeError, NodeId, OutOfMemory, TeRow};
 use byteorder::{BigEndian, ByteOrder};
 use std::alloc::Global;
 use te_tlv::writing::row_fits;
-use te_tlv::{read_row, write_row};
-use wire_buf::{push_u8, push_u24, push_u32};
+use te_tlv::{append_row, read_row};
+use wire_buf::{put_u8, put_u24, put_u32};
 
 /// The kinds of flood messages.
 const ROW: u8 = 1;
@@ -87,15 +87,17 @@ pub fn decode_flood(alloc: Global, bytes: &[u8]) -> Result<FloodMsg, DecodeError
     }
 }
 
-/// Appends the head of a message: its kind, three zeros and its number.
-fn push_head(out: &mut Vec<u8>, kind: u8, number: u32) -> Result<(), OutOfMemory>
-    ensures { OnOk result
-        (out.new.items ≡ out.old.items ++
-        (big_bytes 1 kind ++ big_bytes 3 0 ++ big_bytes 4 number)) }
+/// Appends the head of a message in the room that is reserved: its kind, three zeros and its number.
+fn put_head(out: &mut Vec<u8>, kind: u8, number: u32)
+    requires { vec_len out.old + 8 ≤ vec_capacity out.old }
+    ensures items { out.new.items ≡ out.old.items ++
+        (big_bytes 1 kind ++ big_bytes 3 0 ++ big_bytes 4 number) }
+    ensures len { vec_len out.new ≡ vec_len out.old + 8 }
+    ensures capacity { vec_capacity out.old ≤ vec_capacity out.new }
 {
-    push_u8(out, kind)?;
-    push_u24(out, 0)?;
-    push_u32(out, number)
+    put_u8(out, kind);
+    put_u24(out, 0);
+    put_u32(out, number);
 }
 
 // Laws: what the types of a flood message say of its numbers. Calling them changes nothing.
@@ -121,38 +123,50 @@ fn message_fits(m: &FloodMsg)
     }
 }
 
-// The bytes of a flood message.
-fn message_bytes(alloc: Global, m: &FloodMsg) -> Result<Vec<u8>, OutOfMemory>
+// Appends the bytes of a flood message.
+fn push_message(out: &mut Vec<u8>, m: &FloodMsg) -> Result<(), OutOfMemory>
     requires { CanBeWritten m.now }
-    ensures { IfOk result (λ bytes. bytes.items ≡ flood_bytes m.now) }
+    ensures { OnOk result (out.new.items ≡ out.old.items ++ flood_bytes m.now) }
 {
-    let mut bytes = Vec::new(alloc);
     match m {
         FloodMsg::Ack { number } => {
-            push_head(&mut bytes, ACK, *number)?;
+            out.reserve(8)?;
+            put_head(out, ACK, *number);
+            Ok(())
         }
         FloodMsg::Row {
             number,
             origin,
             row,
         } => {
-            let tlv = write_row(alloc, *origin, row)?;
-            push_head(&mut bytes, ROW, *number)?;
-            push_u32(&mut bytes, origin.0)?;
-            bytes.extend_from_slice(&tlv)?;
+            out.reserve(12)?;
+            put_head(out, ROW, *number);
+            put_u32(out, origin.0);
+            append_row(out, *origin, row)
         }
     }
-    Ok(bytes)
 }
 
-/// The bytes of a flood message, with zeros where nothing reads.
+/// Appends the bytes of a flood message, with zeros where nothing reads.
+pub fn append_flood(out: &mut Vec<u8>, m: &FloodMsg) -> Result<(), OutOfMemory>
+    requires { CanBeWritten m.now }
+    ensures written { OnOk result (out.new.items ≡ out.old.items ++ flood_bytes m.now) }
+    // What is written is read as the message again.
+    ensures spelled { SpellsFlood (flood_bytes m.now) m.now }
+{
+    floods_come_back();
+    message_fits(m);
+    push_message(out, m)
+}
+
+/// The bytes of a flood message, as they are appended.
 pub fn encode_flood(alloc: Global, m: &FloodMsg) -> Result<Vec<u8>, OutOfMemory>
     requires { CanBeWritten m.now }
     ensures written { IfOk result (λ bytes. bytes.items ≡ flood_bytes m.now) }
     // What is written is read as the message again.
     ensures spelled { IfOk result (λ bytes. SpellsFlood bytes.items m.now) }
 {
-    floods_come_back();
-    message_fits(m);
-    message_bytes(alloc, m)
+    let mut bytes = Vec::new(alloc);
+    append_flood(&mut bytes, m)?;
+    Ok(bytes)
 }

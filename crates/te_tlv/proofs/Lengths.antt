@@ -1,5 +1,5 @@
 -- How long the written form is.
-use Rattle.std.proofs.Common.{◌≡◌, ◌≤◌, ℕ, ◌+◌, ◌-◌, ◌*◌, ◌==◌, false, zero, suc, List, [], ◌∷◌, ◌++◌, length, refl, ap}
+use Rattle.std.proofs.Common.{◌≡◌, ◌≤◌, ℕ, ◌+◌, ◌-◌, ◌*◌, ◌==◌, false, suc, List, [], ◌∷◌, ◌++◌, length, ap}
 use Rattle.std.proofs.Common.{sym, ◌∙◌, arith, length-append, append_assoc, replicate, take}
 use Rattle.std.proofs.Math.Seq.{take-length}
 use Rattle.std.proofs.lemmas.List.{append-nil, length-replicate}
@@ -88,7 +88,8 @@ all_pushed lens new ns i low high pushed =
     (ap (λ (k : ℕ). take k ns) all ∙ take-length ns)
 
 -- the Link TLV, as it is pushed
-pub tlv_pushed : (empty kinds lens new body : List ℕ) (len : ℕ) → empty ≡ [] → len ≡ length body →
-    kinds ≡ empty ++ big_bytes 2 2 → lens ≡ kinds ++ big_bytes 2 len → new ≡ lens ++ body →
-    new ≡ big_bytes 2 2 ++ big_bytes 2 (length body) ++ body
-tlv_pushed empty kinds lens new body len none is e1 e2 e3 = rw (e3, e2, e1, none, is) refl
+pub tlv_pushed : (old room kinds lens new body : List ℕ) (len : ℕ) → room ≡ old → len ≡ length body →
+    kinds ≡ room ++ big_bytes 2 2 → lens ≡ kinds ++ big_bytes 2 len → new ≡ lens ++ body →
+    new ≡ old ++ (big_bytes 2 2 ++ big_bytes 2 (length body) ++ body)
+tlv_pushed old room kinds lens new body len same is e1 e2 e3 =
+    rw (e3, e2, e1, same, is) (joined old (big_bytes 2 2) (big_bytes 2 (length body)) body)

@@ -9,17 +9,19 @@ use Rattle.wire_buf.specs.Tlvs.{TypeValue, values_of}
 use Rattle.wire_buf.proofs.Codecs.{decodes_some}
 use Rattle.wire_buf.proofs.Sequences.{same_items}
 use Rattle.wire_buf.proofs.Tlvs.{tlvs_once}
+use Rattle.te_tlv.specs.declared.found.Found.{Found}
+use Rattle.te_tlv.specs.Found.{AreFound}
 use Rattle.te_tlv.specs.SubTlvs.{AreSubTlvs, IsLinkTlv}
 use Rattle.te_tlv.specs.Rows.{IsOnly, HasPeer, HasMetric, HasLink, HasSrlgs, SrlgsOf, HasFields, row_between, SpellsRow}
 use Rattle.te_tlv.proofs.Rising.{srlgs_once}
 
-pub no_fields : {X : Type 0} (o : Option X) (origin : NodeId) (body : List ℕ) →
-    ((subs : List TypeValue) → AreSubTlvs body subs → (peer metric link : ℕ) → HasFields origin subs peer metric link →
+pub no_fields : {X : Type 0} (o : Option X) (origin : NodeId) (f : Found) →
+    ((subs : List TypeValue) → AreFound f subs → (peer metric link : ℕ) → HasFields origin subs peer metric link →
     ⊥) →
-    IfNone o ((subs : List TypeValue) → AreSubTlvs body subs → (peer metric link : ℕ) →
+    IfNone o ((subs : List TypeValue) → AreFound f subs → (peer metric link : ℕ) →
     HasFields origin subs peer metric link → ⊥)
-no_fields None origin body none = none
-no_fields (Some x) origin body none = tt
+no_fields None origin f none = none
+no_fields (Some x) origin f none = tt
 
 value_once : (kind : ℕ) (subs : List TypeValue) (v w : List ℕ) → IsOnly kind subs v → IsOnly kind subs w → v ≡ w
 value_once kind subs v w p q = cc

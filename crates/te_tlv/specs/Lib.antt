@@ -1,3 +1,4 @@
 pub mod SubTlvs
+pub mod Found
 pub mod Rows
 pub mod Written

@@ -2,6 +2,7 @@
 #![tactic(auto)]
 
 pub mod constants;
+mod found;
 pub mod laws;
 pub mod reading;
 pub mod srlgs;
@@ -9,4 +10,4 @@ pub mod sub_tlvs;
 pub mod writing;
 
 pub use reading::read_row;
-pub use writing::write_row;
+pub use writing::{append_row, write_row};

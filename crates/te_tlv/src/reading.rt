@@ -1,15 +1,15 @@
 //! Reading rows.
 
-ghost use Rattle.std.specs.Prelude.{◌≡◌, ◌≤◌, ℕ, List, length, IfSome, IfNone, IfOk, IsTrue, IsErrOf, SomeIff, false};
+ghost use Rattle.std.specs.Prelude.{◌≡◌, ◌≤◌, ℕ, length, IfSome, IfNone, IfOk, IsTrue, IsErrOf, SomeIff, false};
 ghost use Rattle.byteorder.specs.Endian.{big_number};
 ghost use Rattle.ason_base.specs.declared.network.TeRow.{TeRow};
 ghost use Rattle.wire_buf.specs.Codecs.{Decodes};
-ghost use Rattle.wire_buf.specs.Tlvs.{TypeValue};
 ghost use Rattle.te_tlv.specs.Rows.{HasFields, HasLink, HasMetric, HasPeer, IsPointToPoint, SpellsRow};
-ghost use Rattle.te_tlv.specs.SubTlvs.{AreSubTlvs, OfSubTlvs};
+ghost use Rattle.te_tlv.specs.Found.{OfFound};
 
+use crate::found::{Found, scan};
 use crate::srlgs::srlgs_of;
-use crate::sub_tlvs::{link_body, only};
+use crate::sub_tlvs::link_body;
 use ason_base::{DecodeError, LinkId, NodeId, TeRow};
 use byteorder::{BigEndian, ByteOrder};
 use std::alloc::Global;
@@ -37,30 +37,30 @@ fn number(value: &[u8]) -> Option<u32>
     }
 }
 
-fn is_point_to_point(body: &[u8]) -> bool
-    ensures yes { IsTrue result → OfSubTlvs body.now (λ subs. IsPointToPoint subs) }
-    ensures no { result ≡ false → OfSubTlvs body.now (λ subs. ¬ IsPointToPoint subs) }
+fn is_point_to_point(found: &Found) -> bool
+    ensures yes { IsTrue result → OfFound found.now (λ subs. IsPointToPoint subs) }
+    ensures no { result ≡ false → OfFound found.now (λ subs. ¬ IsPointToPoint subs) }
 {
-    match only(body, LINK_TYPE) {
+    match found.link_type() {
         Some(value) => value.len() == 1 && value[0] == POINT_TO_POINT,
         None => false,
     }
 }
 
 /// The node at the other end.
-fn peer(origin: NodeId, body: &[u8]) -> Option<u32>
-    ensures found { IfSome result (λ n. OfSubTlvs body.now (λ subs. HasPeer origin subs n)) }
-    ensures none { IfNone result (OfSubTlvs body.now (λ subs. (n : ℕ) → ¬ HasPeer origin subs n)) }
+fn peer(origin: NodeId, found: &Found) -> Option<u32>
+    ensures found { IfSome result (λ n. OfFound found.now (λ subs. HasPeer origin subs n)) }
+    ensures none { IfNone result (OfFound found.now (λ subs. (n : ℕ) → ¬ HasPeer origin subs n)) }
 {
-    let peer = number(only(body, LINK_ID)?)?;
+    let peer = number(found.link_id()?)?;
     if peer == origin.0 { None } else { Some(peer) }
 }
 
-fn metric(body: &[u8]) -> Option<u32>
-    ensures found { IfSome result (λ n. OfSubTlvs body.now (λ subs. HasMetric subs n)) }
-    ensures none { IfNone result (OfSubTlvs body.now (λ subs. (n : ℕ) → ¬ HasMetric subs n)) }
+fn metric(found: &Found) -> Option<u32>
+    ensures found { IfSome result (λ n. OfFound found.now (λ subs. HasMetric subs n)) }
+    ensures none { IfNone result (OfFound found.now (λ subs. (n : ℕ) → ¬ HasMetric subs n)) }
 {
-    let metric = number(only(body, METRIC)?)?;
+    let metric = number(found.metric()?)?;
     if metric < 1 || metric > 65_535 {
         None
     } else {
@@ -69,12 +69,11 @@ fn metric(body: &[u8]) -> Option<u32>
 }
 
 /// The link's number, which both identifiers are.
-fn link(body: &[u8]) -> Option<u32>
-    ensures some { IfSome result (λ _. (subs : List TypeValue) × AreSubTlvs body.now subs) }
-    ensures found { IfSome result (λ n. OfSubTlvs body.now (λ subs. HasLink subs n)) }
-    ensures none { IfNone result (OfSubTlvs body.now (λ subs. (n : ℕ) → ¬ HasLink subs n)) }
+fn link(found: &Found) -> Option<u32>
+    ensures found { IfSome result (λ n. OfFound found.now (λ subs. HasLink subs n)) }
+    ensures none { IfNone result (OfFound found.now (λ subs. (n : ℕ) → ¬ HasLink subs n)) }
 {
-    let value = only(body, IDENTIFIERS)?;
+    let value = found.identifiers()?;
     if value.len() != 8 {
         return None;
     }
@@ -94,17 +93,16 @@ struct Fields {
     link: u32,
 }
 
-fn read_fields(origin: NodeId, body: &[u8]) -> Option<Fields>
-    ensures some { IfSome result (λ _. (subs : List TypeValue) × AreSubTlvs body.now subs) }
-    ensures found { IfSome result (λ f. OfSubTlvs body.now
+fn read_fields(origin: NodeId, found: &Found) -> Option<Fields>
+    ensures found { IfSome result (λ f. OfFound found.now
         (λ subs. HasFields origin subs f.peer f.metric f.link)) }
-    ensures none { IfNone result (OfSubTlvs body.now
+    ensures none { IfNone result (OfFound found.now
         (λ subs. (peer metric link : ℕ) → ¬ HasFields origin subs peer metric link)) }
 {
-    let link = link(body)?;
-    let metric = metric(body)?;
-    let peer = peer(origin, body)?;
-    if is_point_to_point(body) {
+    let link = link(found)?;
+    let metric = metric(found)?;
+    let peer = peer(origin, found)?;
+    if is_point_to_point(found) {
         Some(Fields { peer, metric, link })
     } else {
         None
@@ -118,10 +116,13 @@ pub fn read_row(alloc: Global, origin: NodeId, bytes: &[u8]) -> Result<TeRow, De
     let Some(body) = link_body(bytes) else {
         return Err(DecodeError::NotMessage);
     };
-    let Some(fields) = read_fields(origin, body) else {
+    let Some(found) = scan(body) else {
         return Err(DecodeError::NotMessage);
     };
-    let srlgs = srlgs_of(alloc, body)?;
+    let Some(fields) = read_fields(origin, &found) else {
+        return Err(DecodeError::NotMessage);
+    };
+    let srlgs = srlgs_of(alloc, &found)?;
     Ok(TeRow {
         link: LinkId(fields.link),
         low: NodeId(origin.0.min(fields.peer)),

@@ -4,13 +4,13 @@ ghost use Rattle.std.specs.Prelude.{◌≡◌, ◌↔◌, ℕ, List, Contains, I
 ghost use Rattle.std.specs.List.Sorted.{IsStrictlyIncreasing};
 ghost use Rattle.wire_buf.specs.Objects.{numbers};
 ghost use Rattle.te_tlv.specs.Rows.{AreSrlgs, HasSrlgs};
-ghost use Rattle.te_tlv.specs.SubTlvs.{OfSubTlvs};
+ghost use Rattle.te_tlv.specs.Found.{OfFound};
 
-use crate::sub_tlvs::UNCOUNTED;
+use crate::found::Found;
 use ason_base::network::MOST_SRLGS;
 use ason_base::{DecodeError, OutOfMemory, Srlgs};
 use std::alloc::Global;
-use wire_buf::{Cursor, at_most_one};
+use wire_buf::Cursor;
 
 /// The type of the sub-TLV of SRLGs.
 pub(crate) const SRLG: u16 = 16;
@@ -57,15 +57,14 @@ fn srlgs_of_value(alloc: Global, value: &[u8]) -> Result<Srlgs, DecodeError>
     }
 }
 
-/// The SRLGs of a text of sub-TLVs. NotMessage exactly where they are not in order.
-pub(crate) fn srlgs_of(alloc: Global, body: &[u8]) -> Result<Srlgs, DecodeError>
-    ensures found { IfOk result (λ s. OfSubTlvs body.now (λ subs. HasSrlgs subs s)) }
+/// The SRLGs of what was found. NotMessage exactly where they are not in order.
+pub(crate) fn srlgs_of(alloc: Global, found: &Found) -> Result<Srlgs, DecodeError>
+    ensures found { IfOk result (λ s. OfFound found.now (λ subs. HasSrlgs subs s)) }
     ensures not_message { IsErrOf result DecodeError.NotMessage
-        → OfSubTlvs body.now (λ subs. (s : List ℕ) → ¬ HasSrlgs subs s) }
+        → OfFound found.now (λ subs. (s : List ℕ) → ¬ HasSrlgs subs s) }
 {
-    match at_most_one(body, UNCOUNTED, SRLG) {
-        None => Err(DecodeError::NotMessage),
-        Some(None) => Ok(Srlgs::new(alloc)),
-        Some(Some(value)) => srlgs_of_value(alloc, value),
+    match found.srlgs {
+        None => Ok(Srlgs::new(alloc)),
+        Some(value) => srlgs_of_value(alloc, value),
     }
 }

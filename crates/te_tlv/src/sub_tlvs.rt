@@ -1,11 +1,10 @@
 //! Sub-TLVs, looked up by type (RFC 3630, section 2.3.2).
 
-ghost use Rattle.std.specs.Prelude.{◌≡◌, ℕ, List, drop, IfSome, IfNone};
+ghost use Rattle.std.specs.Prelude.{◌≡◌, List, drop, IfSome, IfNone};
 ghost use Rattle.wire_buf.specs.Tlvs.{TypeValue};
-ghost use Rattle.te_tlv.specs.Rows.{IsOnly};
-ghost use Rattle.te_tlv.specs.SubTlvs.{AreSubTlvs, IsLinkTlv, OfSubTlvs};
+ghost use Rattle.te_tlv.specs.SubTlvs.{IsLinkTlv, OfSubTlvs};
 
-use wire_buf::{Cursor, at_most_one};
+use wire_buf::Cursor;
 
 /// The type of a Link TLV.
 pub(crate) const LINK: u16 = 2;
@@ -28,15 +27,4 @@ pub(crate) fn link_body(bytes: &[u8]) -> Option<&[u8]>
     } else {
         None
     }
-}
-
-/// The value of the one sub-TLV of this type. None where there isn't just one.
-pub(crate) fn only<'a>(body: &'a [u8], kind: u16) -> Option<&'a [u8]>
-    ensures some { IfSome result (λ _. (subs : List TypeValue) × AreSubTlvs body.now subs) }
-    ensures value { IfSome result (λ value. OfSubTlvs body.now
-        (λ subs. IsOnly kind subs value.now)) }
-    ensures none { IfNone result (OfSubTlvs body.now
-        (λ subs. (value : List ℕ) → ¬ IsOnly kind subs value)) }
-{
-    at_most_one(body, UNCOUNTED, kind)?
 }

@@ -1,6 +1,6 @@
 //! Writing rows.
 
-ghost use Rattle.std.specs.Prelude.{◌≡◌, ◌<◌, ◌≤◌, ◌+◌, ◌^◌, ◌++◌, [], ◌∷◌, length, All, IfOk, OnOk};
+ghost use Rattle.std.specs.Prelude.{◌≡◌, ◌<◌, ◌≤◌, ◌+◌, ◌^◌, ◌++◌, [], ◌∷◌, length, All, IfOk, OnOk, vec_capacity, vec_len};
 ghost use Rattle.std.specs.List.{flat_map};
 ghost use Rattle.byteorder.specs.Endian.{big_bytes};
 ghost use Rattle.te_tlv.specs.Rows.{SpellsRow};
@@ -12,7 +12,7 @@ use crate::srlgs::SRLG;
 use crate::sub_tlvs::LINK;
 use ason_base::{NodeId, OutOfMemory, TeRow};
 use std::alloc::Global;
-use wire_buf::{push_u16, push_u32};
+use wire_buf::{push_u16, push_u32, put_u16, put_u32};
 
 /// How many bytes a TLV's header takes, and the sub-TLVs that each row has.
 const HEADER: usize = 4;
@@ -43,36 +43,43 @@ fn srlgs_len(srlgs: &[u32]) -> usize
     }
 }
 
-/// Appends the sub-TLV of a point-to-point link: one byte and three of padding.
+/// Appends the sub-TLV of a point-to-point link in the room that is reserved: one byte and three of padding.
 #[tactic(auto, unfolding(crate::specs::Written::sub_tlv))]
-fn push_link_type(out: &mut Vec<u8>) -> Result<(), OutOfMemory>
-    ensures { OnOk result (out.new.items ≡ out.old.items ++ sub_tlv 1 (1 ∷ [])) }
+fn put_link_type(out: &mut Vec<u8>)
+    requires { vec_len out.old + 8 ≤ vec_capacity out.old }
+    ensures items { out.new.items ≡ out.old.items ++ sub_tlv 1 (1 ∷ []) }
+    ensures len { vec_len out.new ≡ vec_len out.old + 8 }
+    ensures capacity { vec_capacity out.old ≤ vec_capacity out.new }
 {
-    push_u16(out, LINK_TYPE)?;
-    push_u16(out, 1)?;
-    push_u32(out, 1 << 24)
+    put_u16(out, LINK_TYPE);
+    put_u16(out, 1);
+    put_u32(out, 1 << 24);
 }
 
-/// Appends a sub-TLV of four bytes.
+/// Appends a sub-TLV of four bytes in the room that is reserved.
 #[tactic(auto, unfolding(crate::specs::Written::sub_tlv))]
-fn push_number(out: &mut Vec<u8>, kind: u16, n: u32) -> Result<(), OutOfMemory>
-    ensures { OnOk result (out.new.items ≡ out.old.items ++ sub_tlv kind (big_bytes 4 n)) }
+fn put_number(out: &mut Vec<u8>, kind: u16, n: u32)
+    requires { vec_len out.old + 8 ≤ vec_capacity out.old }
+    ensures items { out.new.items ≡ out.old.items ++ sub_tlv kind (big_bytes 4 n) }
+    ensures len { vec_len out.new ≡ vec_len out.old + 8 }
+    ensures capacity { vec_capacity out.old ≤ vec_capacity out.new }
 {
-    push_u16(out, kind)?;
-    push_u16(out, 4)?;
-    push_u32(out, n)
+    put_u16(out, kind);
+    put_u16(out, 4);
+    put_u32(out, n);
 }
 
-/// Appends the sub-TLV of both identifiers.
+/// Appends the sub-TLV of both identifiers in the room that is reserved.
 #[tactic(auto, unfolding(crate::specs::Written::sub_tlv))]
-fn push_identifiers(out: &mut Vec<u8>, link: u32) -> Result<(), OutOfMemory>
-    ensures { OnOk result (out.new.items ≡ out.old.items ++ sub_tlv 11
-        (big_bytes 4 link ++ big_bytes 4 link)) }
+fn put_identifiers(out: &mut Vec<u8>, link: u32)
+    requires { vec_len out.old + 12 ≤ vec_capacity out.old }
+    ensures { out.new.items ≡ out.old.items ++ sub_tlv 11
+        (big_bytes 4 link ++ big_bytes 4 link) }
 {
-    push_u16(out, IDENTIFIERS)?;
-    push_u16(out, 8)?;
-    push_u32(out, link)?;
-    push_u32(out, link)
+    put_u16(out, IDENTIFIERS);
+    put_u16(out, 8);
+    put_u32(out, link);
+    put_u32(out, link);
 }
 
 /// Appends the sub-TLV of the SRLGs, where there are any.
@@ -91,15 +98,16 @@ fn push_srlgs(out: &mut Vec<u8>, srlgs: &[u32]) -> Result<(), OutOfMemory>
     Ok(())
 }
 
-/// Appends the sub-TLVs in order of type.
+/// Appends the sub-TLVs in order of type, those that each row has in the room that is reserved.
 fn push_body(out: &mut Vec<u8>, origin: NodeId, row: &TeRow) -> Result<(), OutOfMemory>
-    requires { length row.now.srlgs ≤ 16 }
+    requires few { length row.now.srlgs ≤ 16 }
+    requires room { vec_len out.old + 36 ≤ vec_capacity out.old }
     ensures { OnOk result (out.new.items ≡ out.old.items ++ link_body origin row.now) }
 {
-    push_link_type(out)?;
-    push_number(out, LINK_ID, peer_of(origin, row))?;
-    push_number(out, METRIC, row.metric)?;
-    push_identifiers(out, row.link.0)?;
+    put_link_type(out);
+    put_number(out, LINK_ID, peer_of(origin, row));
+    put_number(out, METRIC, row.metric);
+    put_identifiers(out, row.link.0);
     push_srlgs(out, row.srlgs.items())
 }
 
@@ -127,27 +135,38 @@ pub fn row_fits(row: &TeRow)
     row.srlgs.rises();
 }
 
-// The bytes of the Link TLV.
-fn row_bytes(alloc: Global, origin: NodeId, row: &TeRow) -> Result<Vec<u8>, OutOfMemory>
+// Appends the Link TLV.
+fn push_row(out: &mut Vec<u8>, origin: NodeId, row: &TeRow) -> Result<(), OutOfMemory>
     requires { length row.now.srlgs ≤ 16 }
-    ensures { IfOk result (λ bytes. bytes.items ≡ link_tlv origin row.now) }
+    ensures { OnOk result (out.new.items ≡ out.old.items ++ link_tlv origin row.now) }
 {
     let len = FIXED + srlgs_len(row.srlgs.items());
-    let mut out = Vec::with_capacity(alloc, HEADER + len)?;
-    push_u16(&mut out, LINK)?;
-    push_u16(&mut out, len as u16)?;
-    push_body(&mut out, origin, row)?;
-    Ok(out)
+    out.reserve(HEADER + len)?;
+    put_u16(out, LINK);
+    put_u16(out, len as u16);
+    push_body(out, origin, row)
 }
 
-/// The Link TLV of a row, from one of its ends: sub-TLVs in order of type, SRLGs rising, padding zero.
+/// Appends the Link TLV of a row, from one of its ends: sub-TLVs in order of type, SRLGs rising, padding zero.
+pub fn append_row(out: &mut Vec<u8>, origin: NodeId, row: &TeRow) -> Result<(), OutOfMemory>
+    requires { IsWritable origin row.now }
+    ensures written { OnOk result (out.new.items ≡ out.old.items ++ link_tlv origin row.now) }
+    // What is written is read as the row again.
+    ensures spelled { SpellsRow origin (link_tlv origin row.now) row.now }
+{
+    rows_come_back();
+    row_fits(row);
+    push_row(out, origin, row)
+}
+
+/// The Link TLV of a row, as it is appended.
 pub fn write_row(alloc: Global, origin: NodeId, row: &TeRow) -> Result<Vec<u8>, OutOfMemory>
     requires { IsWritable origin row.now }
     ensures written { IfOk result (λ bytes. bytes.items ≡ link_tlv origin row.now) }
     // What is written is read as the row again.
     ensures spelled { IfOk result (λ bytes. SpellsRow origin bytes.items row.now) }
 {
-    rows_come_back();
-    row_fits(row);
-    row_bytes(alloc, origin, row)
+    let mut out = Vec::new(alloc);
+    append_row(&mut out, origin, row)?;
+    Ok(out)
 }

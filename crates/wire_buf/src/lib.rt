@@ -16,4 +16,4 @@ pub use hex::{hex_digit, push_hex, read_hex};
 pub use objects::put_header;
 pub use pushes::{push_u8, push_u16, push_u24, push_u32, put_u8, put_u16, put_u24, put_u32};
 pub use routes::{read_steps, write_steps};
-pub use tlv::at_most_one;
+pub use tlv::{at_most_one, next_tlv};

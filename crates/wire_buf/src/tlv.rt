@@ -6,8 +6,9 @@ ghost use Rattle.wire_buf.specs.Tlvs.{AreTlvs, BeginsTlv, OfTlvs, TypeValue, tlv
 
 use crate::cursor::Cursor;
 
-// The type and the value of the next TLV.
-fn next_tlv<'a>(cursor: &mut Cursor<'a>, counted: usize) -> Option<(u16, &'a [u8])>
+/// The type and the value of the next TLV, whose length counts so many bytes beside the value. None exactly where there is
+/// none; then the cursor may be anywhere.
+pub fn next_tlv<'a>(cursor: &mut Cursor<'a>, counted: usize) -> Option<(u16, &'a [u8])>
     ensures found { IfSome result (λ t. BeginsTlv counted cursor.old
         (record { kind = t.0; value = t.1.now })) }
     ensures left { IfSome result (λ t. cursor.new ≡ drop

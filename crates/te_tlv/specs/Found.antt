@@ -1,0 +1,53 @@
+-- What one pass over sub-TLVs finds: of each type that a row reads the value, where there is one.
+use Rattle.std.specs.Prelude.{◌≡◌, ◌≢◌, ◌≤◌, ◌⊎◌, ℕ, Option, Some, None, List, length}
+use Rattle.std.specs.Option.{option_copied, option_to_list}
+use Rattle.wire_buf.specs.Tlvs.{TypeValue, values_of}
+use Rattle.te_tlv.specs.declared.found.Found.{Found}
+use Rattle.te_tlv.specs.declared.reading.TheConstants.{IDENTIFIERS, LINK_ID, LINK_TYPE, METRIC}
+use Rattle.te_tlv.specs.declared.srlgs.TheConstants.{SRLG}
+
+-- the values of these types are those that were found
+pub record AreFound (f : Found) (subs : List TypeValue) : Type 0 where
+  pub link_type : values_of LINK_TYPE subs ≡ option_to_list (option_copied f.link_type)
+  pub link_id : values_of LINK_ID subs ≡ option_to_list (option_copied f.link_id)
+  pub metric : values_of METRIC subs ≡ option_to_list (option_copied f.metric)
+  pub identifiers : values_of IDENTIFIERS subs ≡ option_to_list (option_copied f.identifiers)
+  pub srlgs : values_of SRLG subs ≡ option_to_list (option_copied f.srlgs)
+
+-- this holds of the sub-TLVs in which that was found
+abbrev pub OfFound : Found → (List TypeValue → Type 0) → Type 0
+OfFound f P = (subs : List TypeValue) → AreFound f subs → P subs
+
+-- no type that a row reads stands twice
+pub record StandOnce (subs : List TypeValue) : Type 0 where
+  pub link_type : length (values_of LINK_TYPE subs) ≤ 1
+  pub link_id : length (values_of LINK_ID subs) ≤ 1
+  pub metric : length (values_of METRIC subs) ≤ 1
+  pub identifiers : length (values_of IDENTIFIERS subs) ≤ 1
+  pub srlgs : length (values_of SRLG subs) ≤ 1
+
+-- One sub-TLV more
+
+-- what was found of the type that is wanted, before a sub-TLV of this type and value and after it
+abbrev pub IsKept : ℕ → ℕ → List ℕ → Option (List ℕ) → Option (List ℕ) → Type 0
+IsKept wanted kind value old new =
+    ((kind ≡ wanted) × (old ≡ None) × (new ≡ Some value)) ⊎ ((kind ≢ wanted) × (new ≡ old))
+
+-- one of the wanted type was found, and this one is of it too
+abbrev pub IsAnother : ℕ → ℕ → Option (List ℕ) → Type 0
+IsAnother wanted kind old = (kind ≡ wanted) × (value : List ℕ) × (old ≡ Some value)
+
+pub record HasKept (kind : ℕ) (value : List ℕ) (old new : Found) : Type 0 where
+  pub link_type : IsKept LINK_TYPE kind value (option_copied old.link_type) (option_copied new.link_type)
+  pub link_id : IsKept LINK_ID kind value (option_copied old.link_id) (option_copied new.link_id)
+  pub metric : IsKept METRIC kind value (option_copied old.metric) (option_copied new.metric)
+  pub identifiers : IsKept IDENTIFIERS kind value (option_copied old.identifiers) (option_copied new.identifiers)
+  pub srlgs : IsKept SRLG kind value (option_copied old.srlgs) (option_copied new.srlgs)
+
+abbrev pub HasAnother : ℕ → Found → Type 0
+HasAnother kind f =
+    IsAnother LINK_TYPE kind (option_copied f.link_type)
+    ⊎ (IsAnother LINK_ID kind (option_copied f.link_id)
+    ⊎ (IsAnother METRIC kind (option_copied f.metric)
+    ⊎ (IsAnother IDENTIFIERS kind (option_copied f.identifiers)
+    ⊎ IsAnother SRLG kind (option_copied f.srlgs))))

@@ -1,0 +1,120 @@
+//! What one pass over the sub-TLVs of a row finds.
+
+ghost use Rattle.std.specs.Prelude.{◌≡◌, List, ℕ, IfNone, IfSome, IsTrue, false};
+ghost use Rattle.std.specs.Option.{option_copied};
+ghost use Rattle.wire_buf.specs.Tlvs.{TypeValue};
+ghost use Rattle.te_tlv.specs.Found.{AreFound, HasAnother, HasKept, IsAnother, IsKept, OfFound, StandOnce};
+ghost use Rattle.te_tlv.specs.Rows.{IsOnly};
+ghost use Rattle.te_tlv.specs.SubTlvs.{AreSubTlvs, OfSubTlvs};
+ghost use Rattle.te_tlv.specs.declared.reading.TheConstants.{IDENTIFIERS, LINK_ID, LINK_TYPE, METRIC};
+
+use crate::reading::{IDENTIFIERS, LINK_ID, LINK_TYPE, METRIC};
+use crate::srlgs::SRLG;
+use crate::sub_tlvs::UNCOUNTED;
+use wire_buf::{Cursor, next_tlv};
+
+/// The value of each sub-TLV that a row reads, where there is one.
+#[derive(Clone, Copy, Drop)]
+pub(crate) struct Found<'a> {
+    link_type: Option<&'a [u8]>,
+    link_id: Option<&'a [u8]>,
+    metric: Option<&'a [u8]>,
+    identifiers: Option<&'a [u8]>,
+    pub(crate) srlgs: Option<&'a [u8]>,
+}
+
+// Keeps the value where its type is the one that is wanted. False: one of this type was kept before.
+fn keep<'a>(found: &mut Option<&'a [u8]>, wanted: u16, kind: u16, value: &'a [u8]) -> bool
+    ensures kept { IsTrue result →
+        IsKept wanted kind value.now (option_copied found.old) (option_copied found.new) }
+    ensures twice { result ≡ false → IsAnother wanted kind (option_copied found.old) }
+{
+    if kind != wanted {
+        return true;
+    }
+    if found.is_some() {
+        return false;
+    }
+    *found = Some(value);
+    true
+}
+
+impl<'a> Found<'a> {
+    // Keeps the value of a sub-TLV of this type, where a row reads it. False: one of this type was kept before.
+    fn keep(&mut self, kind: u16, value: &'a [u8]) -> bool
+        ensures kept { IsTrue result → HasKept kind value.now self.old self.new }
+        ensures twice { result ≡ false → HasAnother kind self.old }
+    {
+        keep(&mut self.link_type, LINK_TYPE, kind, value)
+            && keep(&mut self.link_id, LINK_ID, kind, value)
+            && keep(&mut self.metric, METRIC, kind, value)
+            && keep(&mut self.identifiers, IDENTIFIERS, kind, value)
+            && keep(&mut self.srlgs, SRLG, kind, value)
+    }
+
+    /// The link type.
+    pub(crate) fn link_type(&self) -> Option<&'a [u8]>
+        ensures value { IfSome result
+            (λ value. OfFound self.now (λ subs. IsOnly LINK_TYPE subs value.now)) }
+        ensures none { IfNone result
+            (OfFound self.now (λ subs. (value : List ℕ) → ¬ IsOnly LINK_TYPE subs value)) }
+    {
+        self.link_type
+    }
+
+    /// The link ID.
+    pub(crate) fn link_id(&self) -> Option<&'a [u8]>
+        ensures value { IfSome result
+            (λ value. OfFound self.now (λ subs. IsOnly LINK_ID subs value.now)) }
+        ensures none { IfNone result
+            (OfFound self.now (λ subs. (value : List ℕ) → ¬ IsOnly LINK_ID subs value)) }
+    {
+        self.link_id
+    }
+
+    /// The traffic engineering metric.
+    pub(crate) fn metric(&self) -> Option<&'a [u8]>
+        ensures value { IfSome result
+            (λ value. OfFound self.now (λ subs. IsOnly METRIC subs value.now)) }
+        ensures none { IfNone result
+            (OfFound self.now (λ subs. (value : List ℕ) → ¬ IsOnly METRIC subs value)) }
+    {
+        self.metric
+    }
+
+    /// The link's local and remote identifiers.
+    pub(crate) fn identifiers(&self) -> Option<&'a [u8]>
+        ensures value { IfSome result
+            (λ value. OfFound self.now (λ subs. IsOnly IDENTIFIERS subs value.now)) }
+        ensures none { IfNone result
+            (OfFound self.now (λ subs. (value : List ℕ) → ¬ IsOnly IDENTIFIERS subs value)) }
+    {
+        self.identifiers
+    }
+}
+
+/// What these bytes have of the sub-TLVs that a row reads. None exactly where they aren't sub-TLVs, or one that a row
+/// reads stands there twice.
+pub(crate) fn scan<'a>(body: &'a [u8]) -> Option<Found<'a>>
+    ensures some { IfSome result (λ _. (subs : List TypeValue) × AreSubTlvs body.now subs) }
+    ensures found { IfSome result (λ f. OfSubTlvs body.now (AreFound f)) }
+    ensures none { IfNone result (OfSubTlvs body.now (λ subs. ¬ StandOnce subs)) }
+{
+    let mut cursor = Cursor::new(body);
+    let mut found = Found {
+        link_type: None,
+        link_id: None,
+        metric: None,
+        identifiers: None,
+        srlgs: None,
+    };
+    'tlvs: while !cursor.is_empty() {
+        let Some((kind, value)) = next_tlv(&mut cursor, UNCOUNTED) else {
+            return None;
+        };
+        if !found.keep(kind, value) {
+            return None;
+        }
+    }
+    Some(found)
+}
