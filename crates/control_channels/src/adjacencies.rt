@@ -10,7 +10,7 @@ ghost use Rattle.hop_reliable.specs.Hop.{heard_as, last_number, numbered, with_n
 ghost use Rattle.rsvp_messages.specs.Writable.{IsWritable};
 ghost use Rattle.control_channels.specs.declared.adjacencies.Adjacency.{Adjacency};
 ghost use Rattle.control_channels.specs.Adjacencies.{AllCanGo, CanGoAgain, IsChangedAt, adjacency_at, aged, again_to, committed, hop_at, is_to, next_at, packets_on, peer_numbers, prepared_at, reaches, rested, sendings_to, sent_on, sent_one, taken_at, taken_by};
-ghost use Rattle.control_channels.specs.Frames.{AllSpelled, frames_to, sent_frame};
+ghost use Rattle.control_channels.specs.Frames.{AllSpelled, frames_to, message_in, sent_frame};
 ghost use Rattle.control_channels.specs.Kept.{unacknowledged};
 
 use crate::frames::{Frame, FrameMaker};
@@ -85,43 +85,73 @@ pub fn take(adjacencies: &mut [Adjacency], from: NodeId, heard: Heard, acks: &[M
 
 // Sending
 
-fn prepare_at(
-    alloc: Global,
-    adjacencies: &mut [Adjacency],
-    place: usize,
-    msg: Msg,
-) -> Result<Packet, OutOfMemory>
-    requires within { place < length adjacencies.old }
-    requires below { (a : Adjacency) → slice_get adjacencies.old place ≡ Some a →
-        last_number a.hop < 2 ^ 32 - 1 }
-    ensures ok { OnOk result
-        (IsChangedAt adjacencies.old place (λ h. with_next h msg) adjacencies.new) }
-    ensures err { OnErr result (IsChangedAt adjacencies.old place (λ h. h) adjacencies.new) }
-    ensures packet { IfOk result (λ p. (a : Adjacency) → slice_get adjacencies.old place ≡ Some a →
-        p ≡ numbered (last_number a.hop + 1) msg) }
+// The message that the content of a frame bears, if it does.
+fn message_in(content: Content) -> Option<Msg>
+    ensures { result ≡ message_in content }
 {
-    let adjacency = &mut adjacencies[place];
-    adjacency.hop.prepare(alloc, msg)
-}
-
-/// Prepares one message, and hands back its packet.
-fn prepare(alloc: Global, adjacencies: &mut [Adjacency], out: Out) -> Result<Packet, OutOfMemory>
-    requires reached { IsTrue (reaches adjacencies.old out.to.0) }
-    requires below { (next_at adjacencies.old out.to.0).sent < 2 ^ 32 - 1 }
-    ensures hops { OnOk result
-        ((d : ℕ) → next_at adjacencies.new d ≡ sent_one (next_at adjacencies.old) out d) }
-    ensures rest { map rested adjacencies.new ≡ map rested adjacencies.old }
-    ensures packet { IfOk result
-        (λ p. p ≡ numbered ((next_at adjacencies.old out.to.0).sent + 1) out.msg) }
-{
-    let Out { to, msg } = out;
-    match place_of(adjacencies, to) {
-        None => Err(OutOfMemory),
-        Some(place) => prepare_at(alloc, adjacencies, place, msg),
+    match content {
+        Content::Message(packet) => {
+            let Packet { body, .. } = packet;
+            body
+        }
+        Content::Flood(_) => None,
     }
 }
 
+// Prepares a message, and frames it as it goes out first.
 fn prepare_framed(
+    maker: &mut FrameMaker,
+    me: NodeId,
+    to: NodeId,
+    hop: &mut Hop,
+    msg: Msg,
+) -> Result<Frame, OutOfMemory>
+    requires below { last_number hop.old < 2 ^ 32 - 1 }
+    requires writable { IsWritableMsg msg }
+    ensures ok { OnOk result (hop.new ≡ with_next hop.old msg) }
+    ensures err { OnErr result (hop.new ≡ hop.old) }
+    ensures frame { IfOk result
+        (λ f. f ≡ sent_frame me to (Content.Message (numbered (last_number hop.old + 1) msg))) }
+    ensures spelled { IfOk result
+        (λ f. IsFrame f.bytes (Content.Message (numbered (last_number hop.old + 1) msg))) }
+{
+    let content = Content::Message(hop.next_packet(maker.alloc, msg));
+    let frame = maker.frame(me, to, &content)?;
+    match message_in(content) {
+        None => unreachable!(),
+        Some(msg) => {
+            hop.keep(msg)?;
+            Ok(frame)
+        }
+    }
+}
+
+fn prepare_at(
+    maker: &mut FrameMaker,
+    me: NodeId,
+    adjacencies: &mut [Adjacency],
+    place: usize,
+    out: Out,
+) -> Result<Frame, OutOfMemory>
+    requires within { place < length adjacencies.old }
+    requires below { (a : Adjacency) → slice_get adjacencies.old place ≡ Some a →
+        last_number a.hop < 2 ^ 32 - 1 }
+    requires writable { IsWritableMsg out.msg }
+    ensures ok { OnOk result
+        (IsChangedAt adjacencies.old place (λ h. with_next h out.msg) adjacencies.new) }
+    ensures err { OnErr result (IsChangedAt adjacencies.old place (λ h. h) adjacencies.new) }
+    ensures frame { IfOk result (λ f. (a : Adjacency) → slice_get adjacencies.old place ≡ Some a →
+        f ≡ sent_frame me out.to (Content.Message (numbered (last_number a.hop + 1) out.msg))) }
+    ensures spelled { IfOk result (λ f. (a : Adjacency) → slice_get adjacencies.old place ≡ Some a →
+        IsFrame f.bytes (Content.Message (numbered (last_number a.hop + 1) out.msg))) }
+{
+    let Out { to, msg } = out;
+    let adjacency = &mut adjacencies[place];
+    prepare_framed(maker, me, to, &mut adjacency.hop, msg)
+}
+
+// Prepares one message, and hands back its frame.
+fn prepare(
     maker: &mut FrameMaker,
     me: NodeId,
     adjacencies: &mut [Adjacency],
@@ -140,9 +170,10 @@ fn prepare_framed(
         (λ f. IsFrame f.bytes
         (Content.Message (numbered ((next_at adjacencies.old out.to.0).sent + 1) out.msg))) }
 {
-    let to = out.to;
-    let packet = prepare(maker.alloc, adjacencies, out)?;
-    maker.frame(me, to, &Content::Message(packet))
+    match place_of(adjacencies, out.to) {
+        None => Err(OutOfMemory),
+        Some(place) => prepare_at(maker, me, adjacencies, place, out),
+    }
 }
 
 /// Prepares these messages, in order. Their frames go to the end of the list.
@@ -164,7 +195,7 @@ pub fn prepare_all(
         (AllSpelled me (packets_on (next_at adjacencies.old) outs.items)) }
 {
     for out in outs {
-        let frame = prepare_framed(maker, me, adjacencies, out)?;
+        let frame = prepare(maker, me, adjacencies, out)?;
         frames.push(frame)?;
     }
     Ok(())

@@ -70,15 +70,42 @@ impl Hop {
         ensures ok { OnOk result (self.new ≡ with_next self.old msg) }
         ensures err { OnErr result (self.new ≡ self.old) }
     {
-        let number = self.sent + self.prepared.len() as u32 + 1;
         let kept = msg.copy(alloc)?;
+        let packet = self.next_packet(alloc, msg);
+        self.keep(kept)?;
+        Ok(packet)
+    }
+
+    /// The message with the next number, as it goes out first. It changes nothing.
+    pub fn next_packet(&self, alloc: Global, msg: Msg) -> Packet
+        requires { last_number self.now < 2 ^ 32 - 1 }
+        ensures { result ≡ numbered (last_number self.now + 1) msg }
+    {
+        numbered(alloc, self.next_number(), msg)
+    }
+
+    /// Gives the message the next number and makes room for it, as `prepare` does, where its packet isn't asked for.
+    pub fn keep(&mut self, msg: Msg) -> Result<(), OutOfMemory>
+        requires { last_number self.old < 2 ^ 32 - 1 }
+        ensures ok { OnOk result (self.new ≡ with_next self.old msg) }
+        ensures err { OnErr result (self.new ≡ self.old) }
+    {
+        let number = self.next_number();
         self.unacked.reserve(self.prepared.len() + 1)?;
         self.prepared.push(Unacked {
             number,
             age: 0,
-            msg: kept,
+            msg,
         })?;
-        Ok(numbered(alloc, number, msg))
+        Ok(())
+    }
+
+    // The number that the next message gets.
+    fn next_number(&self) -> u32
+        requires { last_number self.now < 2 ^ 32 - 1 }
+        ensures { result ≡ last_number self.now + 1 }
+    {
+        self.sent + self.prepared.len() as u32 + 1
     }
 
     /// Sends what is prepared.

@@ -2,6 +2,9 @@ use Rattle.std.proofs.Common.{◌≡◌, ◌<◌, ◌-◌, ◌^◌, ◌+◌, ref
 use Rattle.std.specs.Prelude.{position, Some}
 use Rattle.hop_reliable.specs.Hop.{PreparedHop, last_number, numbered, with_next}
 use Rattle.control_channels.specs.Adjacencies.{is_to}
+use Rattle.control_channels.specs.Frames.{sent_frame}
+use Rattle.flood.specs.declared.frames.Content.TheVariants.{Message}
+use Rattle.flood.specs.Frames.{IsFrame}
 use Rattle.control_channels.proofs.Changing.{hop_there, item_there, next_changed, rest_changed}
 use Rattle.ason_base.proofs.Results.{if_ok, on_both, on_ok}
 use Rattle.control_channels.proofs.adjacencies.prepare.Goals as goal
@@ -30,10 +33,20 @@ returns-in-Some-clause-rest c =
     (λ h. rest_changed c.args.out.to.0 (λ k. k) before after c.in-Some.place at (λ k. refl) h)
     c.prepare_at.ensures.ok c.prepare_at.ensures.err
 
-pub returns-in-Some-clause-packet : goal.returns-in-Some-clause-packet
-returns-in-Some-clause-packet c =
+pub returns-in-Some-clause-frame : goal.returns-in-Some-clause-frame
+returns-in-Some-clause-frame c =
     let before = c.args.adjacencies.now in
     let at : position (is_to c.args.out.to.0) before ≡ Some c.in-Some.place = sym c.in-Some.ensures in
     let there = item_there c.args.out.to.0 before c.in-Some.place at in
-    if_ok c.prepare_at.result _ _ (λ p f. f there.0 there.1 ∙
-    ap (λ (h : PreparedHop). numbered (last_number h + 1) c.args.out.msg) there.2) c.prepare_at.ensures.packet
+    if_ok c.prepare_at.result _ _ (λ f is. is there.0 there.1 ∙
+    ap (λ (h : PreparedHop). sent_frame c.args.me c.args.out.to
+    (Message (numbered (last_number h + 1) c.args.out.msg))) there.2) c.prepare_at.ensures.frame
+
+pub returns-in-Some-clause-spelled : goal.returns-in-Some-clause-spelled
+returns-in-Some-clause-spelled c =
+    let before = c.args.adjacencies.now in
+    let at : position (is_to c.args.out.to.0) before ≡ Some c.in-Some.place = sym c.in-Some.ensures in
+    let there = item_there c.args.out.to.0 before c.in-Some.place at in
+    if_ok c.prepare_at.result _ _ (λ f spells. subst
+    (λ (h : PreparedHop). IsFrame f.bytes (Message (numbered (last_number h + 1) c.args.out.msg))) there.2
+    (spells there.0 there.1)) c.prepare_at.ensures.spelled

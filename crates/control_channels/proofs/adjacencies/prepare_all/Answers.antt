@@ -11,7 +11,7 @@ use Rattle.control_channels.proofs.adjacencies.prepare_all.Goals as goal
 pub loop-out-preserved : goal.loop-out-preserved
 loop-out-preserved c =
     let before = c.loop-out.adjacencies in
-    let now = c.prepare_framed.new.adjacencies in
+    let now = c.prepare.new.adjacencies in
     let rest = into_iter_items c.next.new.self in
     let items : into_iter_items c.loop-out.out-iterator ≡ c.in-Some.out ∷ rest = c.in-Some.ensures.steps.0 in
     let after : next_at now ≡ sent_one (next_at before) c.in-Some.out =
