@@ -2,6 +2,7 @@
 
 ghost use Rattle.std.specs.Prelude.{◌≡◌, IfOk};
 
+use crate::boxes::Boxed;
 use crate::copies::Copied;
 use crate::ids::{CallNo, Fibre, LinkId, NodeId, OutOfMemory};
 use crate::lists::Bytes;
@@ -153,9 +154,9 @@ pub enum Event {
     Desk {
         node: NodeId,
     },
-    /// A command is given.
+    /// A command is given. Its box keeps the events small of which a log is made.
     Post {
-        command: Command,
+        command: Boxed<Command>,
     },
 }
 

@@ -1,6 +1,7 @@
 //! Shared types of the optical controllers: numbers, labels, routes, messages, calls, commands and the topology.
 #![tactic(auto)]
 
+pub mod boxes;
 pub mod calls;
 pub mod codes;
 pub mod commands;
@@ -18,6 +19,7 @@ pub mod routes;
 pub mod steps;
 pub mod tables;
 
+pub use boxes::Boxed;
 pub use calls::{CallRow, CallRows, CallState, Cause, LegRow, LegRows, Phase, Role, TableRows};
 pub use codes::ErrCode;
 pub use commands::{Command, DeskItem, Disturb, DisturbKind, Entry, EntryRef, Event, Group};

@@ -10,7 +10,9 @@ ghost use Rattle.fleet.specs.Posting.{greatest_of, news_for, post_of, with_clock
 use crate::fleet::Fleet;
 use crate::seats::Seat;
 use crate::telling::tell_all;
-use ason_base::{Command, Copied, DeskItem, Entry, Event, Group, NodeId, OutOfMemory, Topology};
+use ason_base::{
+    Boxed, Command, Copied, DeskItem, Entry, Event, Group, NodeId, OutOfMemory, Topology,
+};
 use mesh_rules::failures::failed_after;
 use station::Station;
 use std::alloc::Global;
@@ -119,9 +121,8 @@ fn take_news(
 fn line_of(alloc: Global, stamp: u64, command: &Command) -> Result<Entry, OutOfMemory>
     ensures { IfOk result (λ e. e ≡ post_of stamp command.now) }
 {
-    let event = Event::Post {
-        command: command.copy(alloc)?,
-    };
+    let command = Boxed::new(alloc, command.copy(alloc)?)?;
+    let event = Event::Post { command };
     Ok(Entry {
         stamp,
         node: None,

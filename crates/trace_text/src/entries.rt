@@ -9,7 +9,7 @@ ghost use Rattle.trace_text.specs.Words.{parted};
 use crate::commands::push_command;
 use crate::words::{behind_word, parted};
 use ason_base::copies::Copied;
-use ason_base::{Bytes, Command, Entry, Event, NodeId, OutOfMemory, number_within};
+use ason_base::{Boxed, Bytes, Command, Entry, Event, NodeId, OutOfMemory, number_within};
 use plan_reader::{Line, Plan, node_named};
 use std::alloc::Global;
 use wire_buf::read_hex;
@@ -183,7 +183,7 @@ fn post_entry<'a>(
     if !is_command(alloc, plan, command, text)? {
         return Ok(None);
     }
-    let command = command.copy(alloc)?;
+    let command = Boxed::new(alloc, command.copy(alloc)?)?;
     let entry = Entry {
         stamp,
         node: None,

@@ -67,7 +67,7 @@ fn push_event(text: &mut String, plan: &Plan, event: &Event) -> Result<(), OutOf
         }
         Event::Post { command } => {
             text.push_str("post ")?;
-            push_command(text, plan, command)
+            push_command(text, plan, command.value())
         }
     }
 }

@@ -255,7 +255,7 @@ impl World {
             Event::Noise { to, from, bytes } => self.make_noise(alloc, *to, *from, bytes),
             Event::Tick { node } => self.tick(*node),
             Event::Desk { node } => self.handle(*node),
-            Event::Post { command } => self.post(alloc, t, command),
+            Event::Post { command } => self.post(alloc, t, command.value()),
         }
     }
 

@@ -1,7 +1,7 @@
 //! Replays of controllers in a row: frames are lost, come twice or overtake, and a link is learnt.
 
 use crate::networks::{A, B, C, row, search_to, setup};
-use ason_base::{Bytes, CallState, Cause, Event, NodeId, Phase};
+use ason_base::{Boxed, Bytes, CallState, Cause, Event, NodeId, Phase};
 use std::alloc::Global;
 use std::test::Fail;
 use world_core::{ReplayError, World, replay};
@@ -235,10 +235,10 @@ const CASES: &[Case] = &[
 fn event_of(alloc: Global, act: Act) -> Result<Event, Fail> {
     Ok(match act {
         Act::SetUp(call) => Event::Post {
-            command: setup(alloc, call)?,
+            command: Boxed::new(alloc, setup(alloc, call)?)?,
         },
         Act::Search(call) => Event::Post {
-            command: search_to(call, C),
+            command: Boxed::new(alloc, search_to(call, C))?,
         },
         Act::Desk(node) => Event::Desk { node: NodeId(node) },
         Act::Tick(node) => Event::Tick { node: NodeId(node) },
