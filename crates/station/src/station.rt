@@ -26,6 +26,9 @@ use station_rings::{join, look};
 use std::alloc::Global;
 use std::marker::Model;
 
+/// So many lines a log has room for at the start: a block of this size the C library grows without copying it.
+const FIRST_LINES: usize = 4096;
+
 /// A controller, the desk of its node, its log, and its ends of the rings to each neighbour.
 #[derive(Drop)]
 pub struct Station {
@@ -57,7 +60,7 @@ impl Station {
             desk: Desk::new(alloc),
             links: Vec::new(alloc),
             clock: 0,
-            log: Vec::new(alloc),
+            log: Vec::with_capacity(alloc, FIRST_LINES)?,
             held: Vec::new(alloc),
             lines: Vec::new(alloc),
             answer: Turn::Idle,

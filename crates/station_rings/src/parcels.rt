@@ -53,12 +53,17 @@ impl Parcels {
         self.parcels.push_back_reserved(parcel);
     }
 
-    /// Takes the first parcel.
+    /// Takes the first parcel. Where it is the only one, its place is that of the next one: parcels that come one by one
+    /// touch one place and not each of 256.
     pub fn pop(&mut self) -> Option<Parcel>
         ensures { MatchOption result ((self.old ≡ []) × (self.new ≡ []))
             (λ p. self.old ≡ p ∷ self.new) }
     {
-        self.parcels.pop_front()
+        if self.parcels.len() == 1 {
+            self.parcels.pop_back()
+        } else {
+            self.parcels.pop_front()
+        }
     }
 
     /// What is known of the first parcel, which stays.
