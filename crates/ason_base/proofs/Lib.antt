@@ -1,5 +1,7 @@
 pub mod Bridges
 pub mod MaskMembers
+pub mod MaskCounts
+pub mod LeastMarks
 pub mod Ordered
 pub mod ParsedNumerals
 pub mod Results

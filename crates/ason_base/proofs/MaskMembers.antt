@@ -134,7 +134,7 @@ unfolding members
 has-members mask l low high = has-filter (is_marked mask) (up_to 80) l ∙
     ap (λ b. b && is_marked mask l) (has-numbers 80 1 l low (omega arith))
 
-has-low : (n first l : ℕ) → has (numbers_from first n) l ≡ true → first ≤ l
+pub has-low : (n first l : ℕ) → has (numbers_from first n) l ≡ true → first ≤ l
 unfolding numbers_from
 has-low zero first l h = cc
 has-low (suc n) first l h =

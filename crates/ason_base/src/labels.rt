@@ -1,9 +1,12 @@
 //! Labels, and sets of labels (RFC 3471, section 3).
 
-ghost use Rattle.std.specs.Prelude.{◌≡◌, ◌≤◌, [], SomeIff, filter};
+ghost use Rattle.std.specs.Prelude.{◌≡◌, ◌≤◌, [], SomeIff, filter, length};
 ghost use Rattle.ason_base.specs.Labels.{has, least, meet, up_to, with_label, without};
 
 use std::marker::Model;
+
+/// A bit for each label.
+const LABELS: u128 = 0xFFFF_FFFF_FFFF_FFFF_FFFF;
 
 /// A wavelength of a fibre: 1 to 80.
 #[derive(Clone, Copy, Debug, PartialEq, Eq, PartialOrd, Ord, Drop)]
@@ -97,12 +100,23 @@ impl LabelSet {
     pub fn least(&self) -> Option<Label>
         ensures { result ≡ least self.now }
     {
-        for n in 1..81u8 {
-            if (self.mask >> n) & 1 == 1 {
-                return Label::new(n);
-            }
+        let labels = self.mask >> 1;
+        if labels == 0 {
+            return None;
         }
-        None
+        let lowest = labels.trailing_zeros() + 1;
+        if lowest > 80 {
+            return None;
+        }
+        Label::new(lowest as u8)
+    }
+
+    /// How many labels there are.
+    pub fn len(&self) -> usize
+        ensures count { result ≡ length self.now }
+        ensures few { result ≤ 80 }
+    {
+        ((self.mask >> 1) & LABELS).count_ones() as usize
     }
 
     /// The set and this label.
