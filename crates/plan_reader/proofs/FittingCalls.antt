@@ -9,15 +9,19 @@ use Rattle.ason_base.specs.declared.ids.CallNo.{CallNo}
 use Rattle.ason_base.specs.declared.ids.NodeId.{NodeId}
 use Rattle.mesh_rules.specs.Commands.{is_again, is_valid}
 use Rattle.plan_reader.specs.declared.lines.Line.{Line}
+use Rattle.plan_reader.specs.FoundNames.{AreFoundByName}
+use Rattle.plan_reader.specs.Names.{has_name, is_name}
 use Rattle.plan_reader.specs.PlanCalls.{CallList, calls_with, with_call}
 use Rattle.plan_reader.specs.PlanScript.{calls_with_line}
 use Rattle.plan_reader.specs.Plans.{IsPostable, calls_after, calls_after_line}
+use Rattle.plan_reader.proofs.FoundNames.{one_more_found}
 
--- every posted call number is one of them, and each has a node as its ingress
+-- every posted call number is one of them, and each has a node as its ingress, and a name by which it is found
 pub record AreFitting (t : Network) (calls : CallList) (before : List CallNo) : Type 0 where
   pub below : list_all (λ m. nat_lt m.0 (length calls.names)) before ≡ true
   pub known : list_all (λ i. is_node_id t.nodes i) calls.ingresses ≡ true
   pub counted : length calls.names ≡ length before
+  pub found : AreFoundByName calls.names
 
 -- the next number is new
 pub fresh :
@@ -47,9 +51,10 @@ and_true a b p q = rw (p, q) refl
 
 pub call_fits :
     (t : Network) (calls : CallList) (before : List CallNo) (name : List ℕ) (from : NodeId)
-    → is_node_id t.nodes from ≡ true → AreFitting t calls before
+    → is_node_id t.nodes from ≡ true → is_name name ≡ true → has_name calls.names name ≡ false
+    → AreFitting t calls before
     → AreFitting t (with_call calls name from) (before ++ (record { 0 = length calls.names }) ∷ [])
-call_fits t calls before name from is fit = record {
+call_fits t calls before name from is named absent fit = record {
   below =
       rw longer
       (list_all-append (λ m. nat_lt m.0 (length calls.names + 1)) before (this ∷ [])
@@ -58,6 +63,7 @@ call_fits t calls before name from is fit = record {
       list_all-append (λ i. is_node_id t.nodes i) calls.ingresses (from ∷ [])
       ∙ and_true _ _ fit.known (and_true (is_node_id t.nodes from) true is refl);
   counted = longer ∙ (ap (λ k. k + 1) fit.counted ∙ sym (length-append before (this ∷ [])));
+  found = one_more_found calls.names name fit.found named absent;
 }
   where
     this : CallNo

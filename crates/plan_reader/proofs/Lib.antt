@@ -2,6 +2,7 @@ pub mod Agree
 pub mod Elements
 pub mod Entries
 pub mod FittingCalls
+pub mod FoundNames
 pub mod FrameLines
 pub mod KnownNodes
 pub mod LinesRead

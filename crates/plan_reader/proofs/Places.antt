@@ -36,7 +36,7 @@ position_behind p y ys = go (p y)
     go false = behind (nat_lt place count) refl
 
 -- some item passes just where there is a place
-any_at : {X : Type 0} (p : X → Bool) (xs : List X) → list_any p xs ≡ is_some (position p xs)
+pub any_at : {X : Type 0} (p : X → Bool) (xs : List X) → list_any p xs ≡ is_some (position p xs)
 any_at p [] = refl
 any_at {X} p (y ∷ ys) = rw (position_behind p y ys, any_at p ys) (go (p y) (position p ys))
   where
@@ -46,7 +46,7 @@ any_at {X} p (y ∷ ys) = rw (position_behind p y ys, any_at p ys) (go (p y) (po
     go false (Some k) = refl
 
 -- the place in a list with one item more
-position_more :
+pub position_more :
     {X : Type 0} (p : X → Bool) (xs : List X) (x : X)
     → position p (xs ++ x ∷ []) ≡ cond (list_any p xs) (position p xs) (cond (p x) (Some (length xs)) None)
 position_more p [] x = position_behind p x []

@@ -5,7 +5,7 @@ use Rattle.std.specs.List.{list_all}
 use Rattle.std.proofs.lemmas.Bool.{and_parts, ltb-true}
 use Rattle.std.proofs.lemmas.List.Elements.{All-cons, All-nil}
 use Rattle.std.proofs.lemmas.List.Sums.{fold-append}
-use Rattle.toml.specs.Data.{Data}
+use Rattle.toml.specs.Data.{Data, table}
 use Rattle.ason_base.specs.Network.{IsTopology, Network}
 use Rattle.ason_base.specs.declared.ids.CallNo.{CallNo}
 use Rattle.ason_base.specs.declared.network.LinkSpec.{LinkSpec}
@@ -14,19 +14,21 @@ use Rattle.mesh_rules.proofs.Topologies.{topology_searchable}
 use Rattle.plan_reader.specs.declared.lines.Line.{Line}
 use Rattle.plan_reader.specs.declared.plan.Plan.{Plan}
 use Rattle.plan_reader.specs.declared.script.Script.{Script}
+use Rattle.plan_reader.specs.FoundNames.{EveryNameIsFound, EveryNetworkIsATopology, FindsByName}
 use Rattle.plan_reader.specs.PlanScript.{AddsLine, AddsWords, IsRead, IsReadWith, bytes_of, calls_with_line, line_of, no_script, put_behind}
 use Rattle.plan_reader.specs.Entries.{AndThen}
 use Rattle.plan_reader.specs.PlanTables.{NodeList, elements_at, has_strange, has_top_counts, has_top_kinds, lacks, text_of, ticks_of, top_kind}
 use Rattle.plan_reader.specs.declared.values.Shape.TheVariants.{OfTop}
 use Rattle.plan_reader.specs.PlanTexts.{words_of}
 use Rattle.plan_reader.specs.declared.faults.PlanFault.{PlanFault}
-use Rattle.plan_reader.specs.Plans.{ArePostable, HasNames, IsPlanOf, IsPlanOfParts, IsPlanOver, IsPostable, IsScriptOf, UnlessFault, calls_after_line, calls_after_lines, links_of, network_of, nodes_of, plan_over, plan_with}
+use Rattle.plan_reader.specs.Plans.{ArePostable, HasNames, IsPlanOf, IsPlanOfParts, IsPlanOver, IsPostable, IsScriptOf, PlanOf, UnlessFault, calls_after_line, calls_after_lines, links_of, network_of, nodes_of, plan_over, plan_with}
 use Rattle.plan_reader.specs.declared.faults.PlanKind.{PlanKind}
 use Rattle.plan_reader.specs.declared.faults.PlanKind.TheVariants as kinds
 use Rattle.plan_reader.proofs.Entries.{kept_as, then_next}
 use Rattle.plan_reader.proofs.SoundLinks.{is_topology}
 use Rattle.plan_reader.proofs.SoundNodes.{nodes_fit}
 use Rattle.plan_reader.proofs.FittingCalls.{AreFitting}
+use Rattle.plan_reader.proofs.FoundNames.{none_found}
 use Rattle.plan_reader.proofs.PostableLines.{line_stands}
 
 -- Scripts
@@ -84,7 +86,7 @@ script_fits t names ds script searchable h =
     (λ before after d. line_kept t names before after (words_of (text_of d)) searchable) 1 no_script ds script h nothing
   where
     nothing : ScriptFits t no_script
-    nothing = record { postable = tt; fits = record { below = refl; known = refl; counted = refl } }
+    nothing = record { postable = tt; fits = record { below = refl; known = refl; counted = refl; found = none_found } }
 
 -- Plans
 
@@ -155,19 +157,19 @@ parts_of_plan d p h = go (top_kind d) refl h
         }
     go (Some fault) top k = absurd (cc (k))
 
+topology_of_parts :
+    (d : Data) (p : Plan) (parts : HasParts d p)
+    → IsTopology (network_of (ticks_of d) parts.known parts.links)
+topology_of_parts d p parts =
+    is_topology d (ticks_of d) parts.known parts.links parts.counts parts.nodes_read parts.links_read
+
 script_of_parts :
     (d : Data) (p : Plan) (parts : HasParts d p)
     → ScriptFits (network_of (ticks_of d) parts.known parts.links) parts.script
 script_of_parts d p parts =
+    let t : Network = network_of (ticks_of d) parts.known parts.links in
     script_fits t parts.known.names (elements_at (codes "script") d) parts.script
-    (topology_searchable t topology) parts.script_read
-  where
-    t : Network
-    t = network_of (ticks_of d) parts.known parts.links
-
-    topology : IsTopology t
-    topology =
-        is_topology d (ticks_of d) parts.known parts.links parts.counts parts.nodes_read parts.links_read
+    (topology_searchable t (topology_of_parts d p parts)) parts.script_read
 
 pub plan_is_postable : (d : Data) (p : Plan) → IsPlanOf d (Ok p) → ArePostable p.topology [] p.lines
 plan_is_postable d p h =
@@ -185,3 +187,29 @@ plan_is_named d p h =
       calls = fit.counted;
       numbers = below_all (length parts.script.calls.names) (calls_after_lines [] parts.script.lines) fit.below;
     })
+
+plan_finds : (d : Data) (p : Plan) → IsPlanOf d (Ok p) → FindsByName p
+plan_finds d p h =
+    let parts = parts_of_plan d p h in
+    let nodes = nodes_fit (elements_at (codes "node") d) parts.known parts.nodes_read in
+    subst FindsByName parts.plan
+    (record { even = nodes.even; nodes = nodes.found; calls = (script_of_parts d p parts).fits.found })
+
+plan_is_valid : (d : Data) (p : Plan) → IsPlanOf d (Ok p) → IsTopology p.topology
+plan_is_valid d p h =
+    let parts = parts_of_plan d p h in
+    subst (λ (q : Plan). IsTopology q.topology) parts.plan (topology_of_parts d p parts)
+
+-- Plans that bytes spell
+
+-- what holds of the plan of each table
+spelled_has : (Has : Plan → Type 0) → ((d : Data) (p : Plan) → IsPlanOf d (Ok p) → Has p) → (bs : List ℕ)
+    (p : Plan) → PlanOf bs (Ok p) → Has p
+spelled_has Has each bs p (inl spelled) = each (table spelled.0) p spelled.3
+spelled_has Has each bs p (inr fault) = absurd (cc (fault.1))
+
+pub network_valid : EveryNetworkIsATopology
+network_valid = spelled_has (λ p. IsTopology p.topology) plan_is_valid
+
+pub names_found : EveryNameIsFound
+names_found = spelled_has FindsByName plan_finds

@@ -18,6 +18,7 @@ use Rattle.plan_reader.proofs.Entries.{both_read, passed}
 use Rattle.plan_reader.proofs.KnownNodes.{place_is_known}
 use Rattle.plan_reader.proofs.SetupRoutes.{BacksProtected, backup_way, good_are, steps_back_protected, way}
 use Rattle.plan_reader.proofs.FittingCalls.{AreFitting, CanPost, call_fits, fresh}
+use Rattle.plan_reader.proofs.SoundNodes.{not_false}
 
 all_pass :
     (from to same route backup : Bool) → from ≡ true → to ≡ true → same ≡ false → route ≡ true → backup ≡ true
@@ -28,9 +29,9 @@ over_posts :
     (t : Network) (calls : CallList) (before : List CallNo) (ws : List (List ℕ)) (protected : Bool) (ids : RouteIds)
     (from to : NodeId) (c : Command) → is_searchable t ≡ true → AreFitting t calls before
     → is_node_id t.nodes from ≡ true → is_node_id t.nodes to ≡ true
-    → BacksProtected protected (steps_given t from ids.backup)
+    → BacksProtected protected (steps_given t from ids.backup) → is_name (word_at ws 1) ≡ true
     → setup_over t calls ws protected ids from to ≡ Ok c → CanPost t calls before ws c
-over_posts t calls before ws protected ids from to c searchable fit from_known to_known backs h =
+over_posts t calls before ws protected ids from to c searchable fit from_known to_known backs named h =
     let via = steps_given t from ids.via in
     let backup = steps_given t from ids.backup in
     let other = passed (from.0 == to.0) _ _ _ h in
@@ -45,7 +46,7 @@ over_posts t calls before ws protected ids from to c searchable fit from_known t
           (way t from to via searchable good.led)
           (backup_way t from to protected via backup searchable backs good.backed),
       fresh (length calls.names) before fit.below,
-      call_fits t calls before (word_at ws 1) from from_known fit,
+      call_fits t calls before (word_at ws 1) from from_known named new.0 fit,
     )
 
 -- a setup without fault can be posted
@@ -57,16 +58,16 @@ setup_posts t names calls before ws f c searchable fit backs h =
     let read = both_read (route_ids ws f) _ c h in
     let ids = read.0 in
     let named = passed (not (is_name (word_at ws 1))) _ _ _ read.2 in
-    between ids read.1 (node_at t names ws 2) (node_at t names ws 3) refl refl named.1
+    between ids read.1 (not_false _ named.0) (node_at t names ws 2) (node_at t names ws 3) refl refl named.1
   where
     between :
-        (ids : RouteIds) → route_ids ws f ≡ Ok ids → (from to : Option NodeId) → node_at t names ws 2 ≡ from
+        (ids : RouteIds) → route_ids ws f ≡ Ok ids → is_name (word_at ws 1) ≡ true → (from to : Option NodeId) → node_at t names ws 2 ≡ from
         → node_at t names ws 3 ≡ to → setup_between t calls ws f.protected ids from to ≡ Ok c
         → CanPost t calls before ws c
-    between ids i None to e g k = absurd (cc (k))
-    between ids i (Some from) None e g k = absurd (cc (k))
-    between ids i (Some from) (Some to) e g k =
+    between ids i is None to e g k = absurd (cc (k))
+    between ids i is (Some from) None e g k = absurd (cc (k))
+    between ids i is (Some from) (Some to) e g k =
         over_posts t calls before ws f.protected ids from to c searchable fit
         (place_is_known t.nodes (place_of names (word_at ws 2)) from e)
         (place_is_known t.nodes (place_of names (word_at ws 3)) to g)
-        (steps_back_protected t from ws f ids backs i) k
+        (steps_back_protected t from ws f ids backs i) is k

@@ -1,19 +1,22 @@
--- Nodes that were read have rising ids, and each has its name.
+-- Nodes that were read have rising ids, and each has a name, by which it is found.
 use Rattle.std.proofs.Common.{◌≡◌, ℕ, Bool, true, false, not, nat_lt, arith, length, length-append, List, [], ◌∷◌, Ok, refl, ap, sym, subst, ◌∙◌, ◌+◌}
 use Rattle.std.specs.Prelude.{Option, Some, None}
 use Rattle.toml.specs.Data.{Data}
 use Rattle.ason_base.specs.Network.{node_number}
 use Rattle.ason_base.specs.declared.network.NodeSpec.{NodeSpec}
+use Rattle.plan_reader.specs.FoundNames.{AreFoundByName}
 use Rattle.plan_reader.specs.Names.{has_name, is_name}
 use Rattle.plan_reader.specs.PlanTables.{NodeList, converts, has_node_kinds, has_strange, id_in, lacks_node_key, last_node, name_of, no_nodes, with_named, with_node, with_node_of}
 use Rattle.plan_reader.specs.Plans.{nodes_of}
 use Rattle.plan_reader.specs.declared.values.Shape.TheVariants.{OfNode}
 use Rattle.plan_reader.proofs.Entries.{as_many, kept, passed}
+use Rattle.plan_reader.proofs.FoundNames.{none_found, one_more_found}
 use Rattle.plan_reader.proofs.Rising.{Rise, rise_more}
 
 pub record NodesFit (known : NodeList) : Type 0 where
   pub rise : Rise node_number known.nodes
   pub even : length known.names ≡ length known.nodes
+  pub found : AreFoundByName known.names
 
 pub not_false : (b : Bool) → not b ≡ false → b ≡ true
 not_false true h = refl
@@ -21,43 +24,51 @@ not_false false h = absurd (cc (h))
 
 node_fits :
     (before : NodeList) (name : List ℕ) (node : NodeSpec) → NodesFit before
-    → nat_lt (last_node before.nodes) node.id.0 ≡ true → NodesFit (with_named before name node)
-node_fits before name node fit above = record {
+    → nat_lt (last_node before.nodes) node.id.0 ≡ true → is_name name ≡ true → has_name before.names name ≡ false
+    → NodesFit (with_named before name node)
+node_fits before name node fit above is absent = record {
   rise = rise_more node_number before.nodes node refl fit.rise above;
   even =
       length-append before.names (name ∷ [])
       ∙ (ap (λ n. n + 1) fit.even ∙ sym (length-append before.nodes (node ∷ [])));
+  found = one_more_found before.names name fit.found is absent;
 }
 
--- a node that was read stands behind those before it, above them
+-- a node that was read stands behind those before it, above them, and its name is a new one
 node_read :
     (before after : NodeList) (d : Data) → with_node before d ≡ Ok after
     → (node : NodeSpec) × (with_named before (name_of d) node ≡ after)
-    × (nat_lt (last_node before.nodes) node.id.0 ≡ true)
-node_read before after d h = go (id_in d) tested
+    × (nat_lt (last_node before.nodes) node.id.0 ≡ true) × (is_name (name_of d) ≡ true)
+    × (has_name before.names (name_of d) ≡ false)
+node_read before after d h = go (id_in d) tested.1
   where
-    tested : with_node_of before d (id_in d) ≡ Ok after
+    tested : (not (is_name (name_of d)) ≡ false) × (with_node_of before d (id_in d) ≡ Ok after)
     tested =
         let keys = passed (has_strange OfNode d) _ _ _ h in
         let there = passed (lacks_node_key d) _ _ _ keys.1 in
         let kinds = passed (not (has_node_kinds d)) _ _ _ there.1 in
-        let named = passed (not (is_name (name_of d))) _ _ _ kinds.1 in
-        named.1
+        passed (not (is_name (name_of d))) _ _ _ kinds.1
 
     go :
         (o : Option ℕ) → with_node_of before d o ≡ Ok after
         → (node : NodeSpec) × (with_named before (name_of d) node ≡ after)
-        × (nat_lt (last_node before.nodes) node.id.0 ≡ true)
+        × (nat_lt (last_node before.nodes) node.id.0 ≡ true) × (is_name (name_of d) ≡ true)
+        × (has_name before.names (name_of d) ≡ false)
     go None e = absurd (cc (e))
     go (Some id) e =
         let above = passed (not (nat_lt (last_node before.nodes) id)) _ _ _ e in
-        let fresh = passed (has_name before.names (name_of d)) _ _ _ above.1 in
-        (record { id = record { 0 = id }; convert = converts d }, cc (fresh.1), not_false _ above.0)
+        let fresh = passed (has_name before.names (name_of d)) _ _ _ above.1 in (
+          record { id = record { 0 = id }; convert = converts d },
+          cc (fresh.1),
+          not_false _ above.0,
+          not_false _ tested.0,
+          fresh.0,
+        )
 
 node_kept : (before after : NodeList) (d : Data) → with_node before d ≡ Ok after → NodesFit before → NodesFit after
 node_kept before after d h fit =
     let read = node_read before after d h in
-    subst NodesFit read.1 (node_fits before (name_of d) read.0 fit read.2)
+    subst NodesFit read.1 (node_fits before (name_of d) read.0 fit read.2 read.3 read.4)
 
 one_node :
     (before after : NodeList) (d : Data) → with_node before d ≡ Ok after
@@ -70,7 +81,7 @@ pub nodes_fit : (ds : List Data) (known : NodeList) → nodes_of ds ≡ Ok known
 nodes_fit ds known h = kept NodesFit _ with_node node_kept 1 no_nodes ds known h nothing
   where
     nothing : NodesFit no_nodes
-    nothing = record { rise = λ k below. absurd (omega arith); even = refl }
+    nothing = record { rise = λ k below. absurd (omega arith); even = refl; found = none_found }
 
 pub as_many_nodes : (ds : List Data) (known : NodeList) → nodes_of ds ≡ Ok known → length known.nodes ≡ length ds
 as_many_nodes ds known h =

@@ -1,4 +1,5 @@
 pub mod Entries
+pub mod FoundNames
 pub mod Names
 pub mod PlanCalls
 pub mod PlanCommands

@@ -7,6 +7,7 @@ pub mod constants;
 pub mod faults;
 mod forms;
 mod frames;
+pub mod laws;
 pub mod limits;
 pub mod lines;
 mod links;
