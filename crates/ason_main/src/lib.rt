@@ -7,7 +7,6 @@ mod host;
 mod laws;
 mod runner;
 mod surveying;
-mod table_rows;
 
 pub use answers::{Status, ason};
 pub use runner::run::{Ran, run_plan};

@@ -39,7 +39,7 @@ round_grows laws t workers s a next = grown_to laws t s.lines workers s.made a.m
 
 -- Growing
 
-lines_more : (p : Deed → Bool) (n : NodeId) (ds es : List Deed) →
+pub lines_more : (p : Deed → Bool) (n : NodeId) (ds es : List Deed) →
     map (line_of n) (filter p (ds ++ es)) ≡ map (line_of n) (filter p ds) ++ map (line_of n) (filter p es)
 lines_more p n ds es =
     ap (map (line_of n)) (filter-append p ds es) ∙ map-append (line_of n) (filter p ds) (filter p es)

@@ -37,7 +37,7 @@ post_lines n (Heard s u bytes ∷ ds) = post_lines n ds
 post_lines n (Posted s c ∷ ds) = (refl, post_lines n ds)
 
 -- stamps that rise stay above where some deeds are left out
-all_above : (p : Deed → Bool) (n : NodeId) (r s : ℕ) (ds : List Deed) → r ≤ s → RisesAbove s ds →
+pub all_above : (p : Deed → Bool) (n : NodeId) (r s : ℕ) (ds : List Deed) → r ≤ s → RisesAbove s ds →
     AllByRecursion (λ (e : Entry). r < e.stamp) (map (line_of n) (filter p ds))
 all_above p n r s [] below up = tt
 all_above p n r s (d ∷ ds) below up = go (p d) (all_above p n r (stamp_of d) ds (omega (arith, below, up.0)) up.1)

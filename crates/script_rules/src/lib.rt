@@ -2,5 +2,7 @@
 #![tactic(auto)]
 
 pub mod laws;
+pub mod table_rows;
 
 pub use laws::every_script;
+pub use table_rows::sort_rows;

@@ -4,7 +4,7 @@ use Rattle.std.specs.List.Sorted.{IsSortedBy}
 use Rattle.ason_base.specs.declared.calls.LegRow.{LegRow}
 use Rattle.script_rules.specs.Tables.{leg_before}
 use Rattle.script_rules.proofs.LegOrder.{legs_in_order}
-use Rattle.ason_main.proofs.table_rows.sort_legs.Goals as goal
+use Rattle.script_rules.proofs.table_rows.sort_legs.Goals as goal
 
 pub returns-clause-sorted : goal.returns-clause-sorted
 returns-clause-sorted c =
