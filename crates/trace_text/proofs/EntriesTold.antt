@@ -1,6 +1,5 @@
 -- Lines that are written one after the other are read.
-use Rattle.std.proofs.Common.{◌≡◌, ◌∙◌, ◌+◌, ◌==◌, ℕ, suc, true, not, List, [], ◌∷◌, ◌++◌, Option, Some, None, codes, length, refl, ap, arith, append_assoc}
-use Rattle.std.proofs.lemmas.List.Folds.{list_all-append}
+use Rattle.std.proofs.Common.{◌≡◌, ◌∙◌, ◌+◌, ℕ, suc, true, List, [], ◌∷◌, ◌++◌, Option, Some, None, codes, length, refl, ap, arith, append_assoc}
 use Rattle.std.specs.Fmt.{decimal}
 use Rattle.ason_base.specs.declared.commands.Entry.{Entry}
 use Rattle.ason_base.specs.declared.commands.Event.{Event}
@@ -18,12 +17,9 @@ use Rattle.trace_text.proofs.BytesTold.{bytes_lack}
 use Rattle.trace_text.proofs.Decimals.{lacks_low}
 use Rattle.trace_text.proofs.LinesTold.{line_read}
 use Rattle.trace_text.proofs.NamesTold.{name_lacks}
-use Rattle.trace_text.proofs.TextsParted.{parted_there}
+use Rattle.trace_text.proofs.TextsParted.{lacks_both, parted_there}
 
 -- No newline stands in a line
-
-lacks_both : (xs ys : List ℕ) → lacks 10 xs ≡ true → lacks 10 ys ≡ true → lacks 10 (xs ++ ys) ≡ true
-lacks_both xs ys first second = list_all-append (λ b. not (b == 10)) xs ys ∙ rw (first, second) refl
 
 node_lacks : (p : Plan) (node : Option NodeId) → HasItsName p node → lacks 10 (node_text p node) ≡ true
 node_lacks p None named = refl
@@ -33,13 +29,13 @@ event_lacks : (p : Plan) (lines : List Line) (node : Option NodeId) (event : Eve
     Says p lines node event left → lacks 10 (event_text p event) ≡ true
 event_lacks p lines (Some n) (Deliver to from number) left (is, other, small, leaves) =
     let name = node_name p from in
-    lacks_both (name ++ codes " ") (decimal number)
-    (lacks_both name (codes " ") (name_lacks 10 name (omega arith) other.name) refl)
+    lacks_both 10 (name ++ codes " ") (decimal number)
+    (lacks_both 10 name (codes " ") (name_lacks 10 name (omega arith) other.name) refl)
     (lacks_low 10 number (omega arith) small)
 event_lacks p lines (Some n) (Noise to from bytes) left (is, other, small, leaves) =
     let name = node_name p from in
-    lacks_both (name ++ codes " ") (bytes_text bytes)
-    (lacks_both name (codes " ") (name_lacks 10 name (omega arith) other.name) refl) (bytes_lack bytes small)
+    lacks_both 10 (name ++ codes " ") (bytes_text bytes)
+    (lacks_both 10 name (codes " ") (name_lacks 10 name (omega arith) other.name) refl) (bytes_lack bytes small)
 event_lacks p lines (Some n) (Tick m) left says = refl
 event_lacks p lines (Some n) (Desk m) left says = refl
 event_lacks p lines (Some n) (Post c) left says = absurd says
@@ -52,9 +48,9 @@ event_lacks p lines None (Post c) left says = says.1
 line_lacks : (p : Plan) (lines : List Line) (e : Entry) (left : List Line) → CanBeTold p lines e left →
     lacks 10 (line_text p e) ≡ true
 line_lacks p lines e left told =
-    lacks_both (decimal e.stamp) (32 ∷ (node_text p e.node ++ 32 ∷ event_text p e.event))
+    lacks_both 10 (decimal e.stamp) (32 ∷ (node_text p e.node ++ 32 ∷ event_text p e.event))
     (lacks_low 10 e.stamp (omega arith) told.stamp)
-    (lacks_both (node_text p e.node) (32 ∷ event_text p e.event) (node_lacks p e.node told.node)
+    (lacks_both 10 (node_text p e.node) (32 ∷ event_text p e.event) (node_lacks p e.node told.node)
     (event_lacks p lines e.node e.event left told.says))
 
 -- The next line

@@ -1,7 +1,8 @@
 -- Lines that are written while their entries come.
-use Rattle.std.proofs.Common.{◌≡◌, ◌∙◌, ℕ, List, [], ◌∷◌, ◌++◌, Option, Some, length, map, take, refl, ap, sym, subst, append_assoc}
+use Rattle.std.proofs.Common.{◌≡◌, ◌∙◌, ◌<◌, ◌^◌, ℕ, List, [], ◌∷◌, ◌++◌, Option, Some, length, map, take, refl, ap, sym, subst, append_assoc}
 use Rattle.std.specs.Io.KnownBytes.{Appends}
 use Rattle.std.specs.Iterator.{Drains, Yields}
+use Rattle.std.specs.List.{AllByRecursion}
 use Rattle.std.proofs.KnownBytes.{Appends-trans}
 use Rattle.std.proofs.lemmas.List.{append-nil, length-map}
 use Rattle.ason_base.specs.declared.calls.TableRows.{TableRows}
@@ -10,6 +11,7 @@ use Rattle.log_merge.specs.Lines.{line_of}
 use Rattle.plan_reader.specs.declared.plan.Plan.{Plan}
 use Rattle.trace_text.specs.EntryLines.{entry_line}
 use Rattle.trace_text.specs.TraceText.{end_text, head_text}
+use Rattle.trace_text.specs.Widths.{EntryFits}
 use Rattle.trace_text.specs.Written.{AppendsPart, StoppedAtEnd, StoppedAtEntry, WroteEntries, WroteTrace, lines_of}
 
 -- a line more
@@ -19,6 +21,12 @@ lines_more p [] e = append-nil (entry_line p (line_of e))
 lines_more p (x ∷ es) e =
     ap (λ (l : List ℕ). entry_line p (line_of x) ++ l) (lines_more p es e)
     ∙ sym (append_assoc (entry_line p (line_of x)) (lines_of p es) (entry_line p (line_of e)))
+
+-- the numbers of a line more
+pub fits_more : (es : List EntryRef) (e : EntryRef) → AllByRecursion EntryFits (map line_of es) →
+    EntryFits (line_of e) → AllByRecursion EntryFits (map line_of (es ++ e ∷ []))
+fits_more [] e fit fits = (fits, tt)
+fits_more (x ∷ es) e fit fits = (fit.0, fits_more es e fit.1 fits)
 
 yields_more : {S A : Type 0} (gives : S → Option A → S → Type 0) (s : S) (xs : List A) (t u : S) (x : A) →
     Yields gives s xs t → gives t (Some x) u → Yields gives s (xs ++ x ∷ []) u
@@ -77,8 +85,9 @@ stopped_at_end gives items p front rows a b c d head es (n, part, written) = rec
 pub wrote_trace : {I : Type 0} (gives : I → Option EntryRef → I → Type 0) (items : I) (p : Plan) (plan_bytes : List ℕ)
     (count : ℕ) (rows : TableRows) (a b c d : Option (List ℕ)) →
     ((es : List EntryRef) → Drains gives items es → length es ≡ count) → Appends a b (head_text plan_bytes count) →
-    WroteEntries gives items p b c → Appends c d (end_text p rows) → WroteTrace gives items p plan_bytes rows a d
-wrote_trace gives items p plan_bytes count rows a b c d counted head es end =
+    WroteEntries gives items p b c → Appends c d (end_text p rows) → length plan_bytes < 2 ^ 64 → count < 2 ^ 64 →
+    WroteTrace gives items p plan_bytes rows a d
+wrote_trace gives items p plan_bytes count rows a b c d counted head es end small few =
     let many : length (map line_of es.entries) ≡ count = length-map es.entries line_of ∙ counted es.entries es.came in
     record {
       entries = es.entries;
@@ -88,4 +97,5 @@ wrote_trace gives items p plan_bytes count rows a b c d counted head es end =
           (Appends-trans a b c (head_text plan_bytes (length (map line_of es.entries))) (lines_of p es.entries)
           (subst (λ n. Appends a b (head_text plan_bytes n)) (sym many) head) es.written)
           end;
+      fits = record { plan = small; count = subst (λ n. n < 2 ^ 64) (sym many) few; entries = es.fits };
     }

@@ -1,6 +1,7 @@
 -- Texts are parted at the byte that stands between their parts.
 use Rattle.std.proofs.Common.{◌≡◌, ◌∙◌, ◌+◌, ◌==◌, ℕ, suc, nat_lt, true, not, List, [], ◌∷◌, ◌++◌, Some, length, take, drop, position, refl, ap, arith, length-append}
 use Rattle.std.proofs.lemmas.Bool.{and_parts}
+use Rattle.std.proofs.lemmas.List.Folds.{list_all-append}
 use Rattle.std.specs.List.{position_or_len}
 use Rattle.std.specs.Prelude.{bytes_eq}
 use Rattle.trace_text.specs.RoundTrip.{lacks}
@@ -21,6 +22,11 @@ rest_of (x ∷ xs) ys = rest_of xs ys
 pub same_bytes : (xs : List ℕ) → bytes_eq xs xs ≡ true
 same_bytes [] = refl
 same_bytes (x ∷ xs) = let t : (x == x) ≡ true = grind arith in rw (t, same_bytes xs) refl
+
+-- what stands in neither text stands in none
+pub lacks_both : (byte : ℕ) (xs ys : List ℕ) → lacks byte xs ≡ true → lacks byte ys ≡ true →
+    lacks byte (xs ++ ys) ≡ true
+lacks_both byte xs ys first second = list_all-append (λ b. not (b == byte)) xs ys ∙ rw (first, second) refl
 
 first_at : (at : ℕ) (xs ys : List ℕ) → lacks at xs ≡ true →
     position_or_len (λ b. b == at) (xs ++ at ∷ ys) ≡ length xs

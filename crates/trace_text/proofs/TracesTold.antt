@@ -8,7 +8,7 @@ use Rattle.ason_base.specs.declared.numerals.NumeralFault.{NumeralFault}
 use Rattle.plan_reader.specs.declared.plan.Plan.{Plan}
 use Rattle.table_text.specs.TableText.{table_text}
 use Rattle.trace_text.specs.RoundTrip.{CanAllBeTold, EveryTraceIsRead}
-use Rattle.trace_text.specs.TraceForms.{count_in, count_of, counted, events_in, form_of, head_of, number_in, of_lines, plan_behind, plan_in, plan_within, with_table}
+use Rattle.trace_text.specs.TraceForms.{count_in, count_of, form_of, head_of, lines_counted, lines_in, number_in, of_lines, or_uncounted, plan_behind, plan_in, plan_within, with_table}
 use Rattle.trace_text.specs.TraceText.{end_text, entries_text}
 use Rattle.trace_text.specs.Words.{parted}
 use Rattle.trace_text.proofs.Decimals.{lacks_low, number_read, stamp_read}
@@ -64,9 +64,12 @@ form_read p es rows small told =
     let events : List ℕ = decimal (length es) in
     let end : List ℕ = end_text p rows in
     let body : List ℕ = entries_text p es ++ end in
-    ap (events_in p) (parted_there 10 (codes "events " ++ events) body (lacks_low 10 (length es) (omega arith) small))
-    ∙ (ap (λ (o : Option (List ℕ)). counted p body (count_in o)) (word_read (codes "events ") events)
-    ∙ (ap (λ (r : Result ℕ NumeralFault). counted p body (count_of r)) (number_read (length es) small)
+    ap (λ (o : Option (List ℕ × List ℕ)). or_uncounted (lines_in p o))
+    (parted_there 10 (codes "events " ++ events) body (lacks_low 10 (length es) (omega arith) small))
+    ∙ (ap (λ (o : Option (List ℕ)). or_uncounted (lines_counted p body (count_in o)))
+    (word_read (codes "events ") events)
+    ∙ (ap (λ (r : Result ℕ NumeralFault). or_uncounted (lines_counted p body (count_of r)))
+    (number_read (length es) small)
     ∙ (ap of_lines (all_read p p.lines None es 1 end told)
     ∙ (λ i. with_table (append-nil es i) (table_read p rows i)))))
 

@@ -1,3 +1,5 @@
+pub mod Checks
+pub mod Complete
 pub mod CommandText
 pub mod EntryForms
 pub mod EntryLines
@@ -7,5 +9,6 @@ pub mod RoundTrip
 pub mod TraceForms
 pub mod TraceRead
 pub mod TraceText
+pub mod Widths
 pub mod Words
 pub mod Written

@@ -74,18 +74,27 @@ or_index entries None rest = with_table entries (table_of rest)
 abbrev pub of_lines : LinesRead → Result (List Entry × List ℕ) ℕ
 of_lines ls = or_index ls.entries ls.wrong ls.rest
 
-abbrev pub counted : Plan → List ℕ → Option ℕ → Result (List Entry × List ℕ) ℕ
-counted p body None = Err 0
-counted p body (Some count) = of_lines (lines_from p p.lines None count 1 body)
+-- so many lines, where a number says how many
+abbrev pub lines_counted : Plan → List ℕ → Option ℕ → Option LinesRead
+lines_counted p body None = None
+lines_counted p body (Some count) = Some (lines_from p p.lines None count 1 body)
 
-abbrev pub events_in : Plan → Option (List ℕ × List ℕ) → Result (List Entry × List ℕ) ℕ
-events_in p None = Err 0
-events_in p (Some (line, body)) = counted p body (count_in (behind_word (codes "events ") line))
+abbrev pub lines_in : Plan → Option (List ℕ × List ℕ) → Option LinesRead
+lines_in p None = None
+lines_in p (Some (line, body)) = lines_counted p body (count_in (behind_word (codes "events ") line))
+
+-- The entries behind a plan, up to the first line that is wrong; none where no line tells how many there are.
+abbrev pub lines_behind : Plan → List ℕ → Option LinesRead
+lines_behind p rest = lines_in p (parted 10 rest)
+
+abbrev pub or_uncounted : Option LinesRead → Result (List Entry × List ℕ) ℕ
+or_uncounted None = Err 0
+or_uncounted (Some ls) = of_lines ls
 
 -- The entries and the table behind a plan, or the first index that is wrong: 0 for the line that tells how many entries
 -- there are, the entry's number from 1, or one more than there are for what follows them.
 abbrev pub form_of : Plan → List ℕ → Result (List Entry × List ℕ) ℕ
-form_of p rest = events_in p (parted 10 rest)
+form_of p rest = or_uncounted (lines_behind p rest)
 
 -- Views
 

@@ -2,12 +2,14 @@
 use Rattle.std.specs.Prelude.{◌<◌, ◌⊎◌, ℕ, List, [], ◌∷◌, ◌++◌, Option, length, map, take}
 use Rattle.std.specs.Io.KnownBytes.{Appends}
 use Rattle.std.specs.Iterator.{Drains, Yields}
+use Rattle.std.specs.List.{AllByRecursion}
 use Rattle.ason_base.specs.declared.calls.TableRows.{TableRows}
 use Rattle.ason_base.specs.declared.commands.EntryRef.{EntryRef}
 use Rattle.log_merge.specs.Lines.{line_of}
 use Rattle.plan_reader.specs.declared.plan.Plan.{Plan}
 use Rattle.trace_text.specs.EntryLines.{entry_line}
 use Rattle.trace_text.specs.TraceText.{end_text, entries_text, head_text, trace_text}
+use Rattle.trace_text.specs.Widths.{EntryFits, TraceFits}
 
 -- a first part of the text was written, and not all of it
 abbrev pub AppendsPart : Option (List ℕ) → Option (List ℕ) → List ℕ → Type 0
@@ -17,19 +19,21 @@ AppendsPart old new text = (n : ℕ) × (n < length text) × Appends old new (ta
 abbrev pub lines_of : Plan → List EntryRef → List ℕ
 lines_of p es = entries_text p (map line_of es)
 
--- All items came, and their lines were written.
+-- All items came, and their lines were written. The numbers in them are those of their types.
 pub record WroteEntries {I : Type 0} (gives : I → Option EntryRef → I → Type 0) (items : I) (p : Plan)
     (old new : Option (List ℕ)) : Type 0 where
   pub entries : List EntryRef
   pub came : Drains gives items entries
   pub written : Appends old new (lines_of p entries)
+  pub fits : AllByRecursion EntryFits (map line_of entries)
 
--- All items came, and the whole trace of them was written.
+-- All items came, and the whole trace of them was written. The numbers in it are those of their types.
 pub record WroteTrace {I : Type 0} (gives : I → Option EntryRef → I → Type 0) (items : I) (p : Plan)
     (plan_bytes : List ℕ) (rows : TableRows) (old new : Option (List ℕ)) : Type 0 where
   pub entries : List EntryRef
   pub came : Drains gives items entries
   pub written : Appends old new (trace_text p plan_bytes (map line_of entries) rows)
+  pub fits : TraceFits plan_bytes (map line_of entries)
 
 -- Behind the front the lines of all items that came were written, the last one's in part, and no further item was asked
 -- for.

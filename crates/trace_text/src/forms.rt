@@ -3,7 +3,7 @@
 ghost use Rattle.std.specs.Prelude.{◌≡◌, ◌∷◌, [], IfOk, bytes_eq, drop, option_copied, take};
 ghost use Rattle.std.specs.Option.{option_map};
 ghost use Rattle.trace_text.specs.LinesRead.{lines_now};
-ghost use Rattle.trace_text.specs.TraceForms.{count_in, form_now, form_of, head_of, number_in, of_lines, plan_within, table_in, table_of};
+ghost use Rattle.trace_text.specs.TraceForms.{count_in, form_now, form_of, head_of, lines_behind, number_in, of_lines, plan_within, table_in, table_of};
 ghost use Rattle.trace_text.specs.Words.{both_now};
 
 use crate::entries::stamp_of;
@@ -80,8 +80,8 @@ fn table_in(body: Option<&[u8]>) -> Option<&[u8]>
     }
 }
 
-// The table, which stands between the lines `table` and `end`, and nothing after these.
-fn table_of(bytes: &[u8]) -> Option<&[u8]>
+/// The table, which stands between the lines `table` and `end`, and nothing after these.
+pub fn table_of(bytes: &[u8]) -> Option<&[u8]>
     ensures { option_map (λ b. b.now) result ≡ table_of bytes.now }
 {
     table_in(behind_word(b"table\n".as_slice(), bytes))
@@ -109,6 +109,26 @@ fn of_lines<'a>(read: ReadLines<'a>) -> Result<Form<'a>, u64>
     }
 }
 
+/// The entries behind the plan, up to the first line that is wrong; none where no line tells how many there are.
+pub fn lines_behind<'a>(
+    alloc: Global,
+    plan: &Plan,
+    rest: &'a [u8],
+) -> Result<Option<ReadLines<'a>>, OutOfMemory>
+    ensures { IfOk result (λ o. option_map lines_now o ≡ lines_behind plan.now rest.now) }
+{
+    let Some((line, body)) = parted(rest, b'\n') else {
+        return Ok(None);
+    };
+    match count_in(behind_word(b"events ".as_slice(), line)) {
+        None => Ok(None),
+        Some(count) => {
+            let read = read_lines(alloc, plan, count, body)?;
+            Ok(Some(read))
+        }
+    }
+}
+
 /// The entries and the table behind the plan's bytes, or the first index that is wrong.
 pub fn form_of<'a>(
     alloc: Global,
@@ -117,12 +137,8 @@ pub fn form_of<'a>(
 ) -> Result<Result<Form<'a>, u64>, OutOfMemory>
     ensures { IfOk result (λ f. form_now f ≡ form_of plan.now rest.now) }
 {
-    let Some((line, body)) = parted(rest, b'\n') else {
-        return Ok(Err(0));
-    };
-    let Some(count) = count_in(behind_word(b"events ".as_slice(), line)) else {
-        return Ok(Err(0));
-    };
-    let read = read_lines(alloc, plan, count, body)?;
-    Ok(of_lines(read))
+    match lines_behind(alloc, plan, rest)? {
+        None => Ok(Err(0)),
+        Some(read) => Ok(of_lines(read)),
+    }
 }

@@ -1,7 +1,8 @@
 //! The trace of a run: its plan, the event of each entry and the last table, written line by line while the entries
-//! come, and read by its form.
+//! come, read by its form, and checked to be that of a run.
 #![tactic(auto)]
 
+pub mod checking;
 mod commands;
 mod entries;
 mod forms;
@@ -13,5 +14,6 @@ mod reading;
 mod words;
 pub mod write;
 
+pub use checking::{Checked, check};
 pub use read::{Entries, Trace, TraceFault, read_trace};
 pub use write::{TraceWriteFault, write_trace};

@@ -1,10 +1,11 @@
 //! The line of an entry.
 
-ghost use Rattle.std.specs.Prelude.{OnOk};
+ghost use Rattle.std.specs.Prelude.{◌<◌, ◌^◌, All, OnOk};
 ghost use Rattle.ason_base.specs.Texts.{Appends};
 ghost use Rattle.log_merge.specs.Lines.{line_of};
 ghost use Rattle.wire_buf.specs.Hex.{byte_text, hex_text};
 ghost use Rattle.trace_text.specs.EntryLines.{bytes_text, entry_line, entry_place, event_text, node_text};
+ghost use Rattle.trace_text.specs.Widths.{EntryFits, EventFits};
 
 use crate::commands::push_command;
 use ason_base::{EntryRef, Event, NodeId, OutOfMemory};
@@ -17,7 +18,9 @@ pub fn push_entry<'a>(
     plan: &Plan,
     entry: EntryRef<'a>,
 ) -> Result<(), OutOfMemory>
-    ensures { OnOk result (Appends text.old text.new (entry_line plan.now (line_of entry.entry))) }
+    ensures text { OnOk result (Appends text.old text.new
+        (entry_line plan.now (line_of entry.entry))) }
+    ensures fits { OnOk result (EntryFits (line_of entry.entry)) }
 {
     push_place(text, plan, entry.stamp, entry.node)?;
     push_event(text, plan, entry.event)?;
@@ -32,7 +35,8 @@ fn push_place(
     stamp: u64,
     node: Option<NodeId>,
 ) -> Result<(), OutOfMemory>
-    ensures { OnOk result (Appends text.old text.new (entry_place plan.now stamp node)) }
+    ensures text { OnOk result (Appends text.old text.new (entry_place plan.now stamp node)) }
+    ensures fits { stamp < 2 ^ 64 }
 {
     let name = match node {
         None => "-",
@@ -43,7 +47,8 @@ fn push_place(
 }
 
 fn push_event(text: &mut String, plan: &Plan, event: &Event) -> Result<(), OutOfMemory>
-    ensures { OnOk result (Appends text.old text.new (event_text plan.now event.now)) }
+    ensures text { OnOk result (Appends text.old text.new (event_text plan.now event.now)) }
+    ensures fits { OnOk result (EventFits event.now) }
 {
     match event {
         Event::Deliver { from, number, .. } => {
@@ -74,7 +79,8 @@ fn push_event(text: &mut String, plan: &Plan, event: &Event) -> Result<(), OutOf
 
 // The bytes in hexadecimal, or a dash where there are none.
 fn push_bytes(text: &mut String, bytes: &[u8]) -> Result<(), OutOfMemory>
-    ensures { OnOk result (Appends text.old text.new (bytes_text bytes.now)) }
+    ensures text { OnOk result (Appends text.old text.new (bytes_text bytes.now)) }
+    ensures fits { OnOk result (All (λ b. b < 256) bytes.now) }
 {
     match bytes {
         [] => {
@@ -86,7 +92,8 @@ fn push_bytes(text: &mut String, bytes: &[u8]) -> Result<(), OutOfMemory>
 }
 
 fn push_hex(text: &mut String, bytes: &[u8]) -> Result<(), OutOfMemory>
-    ensures { OnOk result (Appends text.old text.new (hex_text bytes.now)) }
+    ensures text { OnOk result (Appends text.old text.new (hex_text bytes.now)) }
+    ensures fits { OnOk result (All (λ b. b < 256) bytes.now) }
 {
     for byte in bytes {
         push_byte(text, *byte)?;
@@ -95,7 +102,8 @@ fn push_hex(text: &mut String, bytes: &[u8]) -> Result<(), OutOfMemory>
 }
 
 fn push_byte(text: &mut String, byte: u8) -> Result<(), OutOfMemory>
-    ensures { OnOk result (Appends text.old text.new (byte_text byte)) }
+    ensures text { OnOk result (Appends text.old text.new (byte_text byte)) }
+    ensures fits { byte < 256 }
 {
     write!(text, "{byte:02X}")?;
     Ok(())

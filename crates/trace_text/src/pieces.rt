@@ -1,11 +1,12 @@
 //! Pieces of a trace as they are written.
 
-ghost use Rattle.std.specs.Prelude.{◌≡◌, ◌≤◌, IfErr, IfOk, OnErr, OnOk, string_bytes};
+ghost use Rattle.std.specs.Prelude.{◌≡◌, ◌<◌, ◌≤◌, ◌^◌, IfErr, IfOk, OnErr, OnOk, length, string_bytes};
 ghost use Rattle.std.specs.Io.KnownBytes.{Appends};
 ghost use Rattle.ason_io.specs.Faults.{Rose};
 ghost use Rattle.log_merge.specs.Lines.{line_of};
 ghost use Rattle.trace_text.specs.EntryLines.{entry_line};
 ghost use Rattle.trace_text.specs.TraceText.{end_text, events_line, head_text, plan_line};
+ghost use Rattle.trace_text.specs.Widths.{EntryFits};
 ghost use Rattle.trace_text.specs.Written.{AppendsPart};
 ghost use Rattle.trace_text.specs.declared.write.TraceWriteFault.{TraceWriteFault};
 
@@ -30,7 +31,8 @@ fn write_piece<K: Sink>(out: &mut K, piece: &[u8]) -> Result<(), TraceWriteFault
 }
 
 fn plan_line(alloc: Global, bytes: usize) -> Result<String, OutOfMemory>
-    ensures { IfOk result (λ text. string_bytes text ≡ plan_line bytes) }
+    ensures text { IfOk result (λ text. string_bytes text ≡ plan_line bytes) }
+    ensures fits { bytes < 2 ^ 64 }
 {
     let text = format!(in alloc; "ason-trace 1\nplan {bytes}\n")?;
     Ok(text)
@@ -64,6 +66,7 @@ pub fn write_head<K: Sink>(
         (head_text plan_bytes.now count)) }
     ensures part { OnErr result (AppendsPart (K.written out.old) (K.written out.new)
         (head_text plan_bytes.now count)) }
+    ensures fits { OnOk result (length plan_bytes.now < 2 ^ 64) }
     ensures failed { IfErr result (λ e. e ≡ TraceWriteFault.Failed →
         Rose (K.faults out.old) (K.faults out.new)) }
     ensures rises { K.faults out.old ≤ K.faults out.new }
@@ -86,6 +89,7 @@ pub fn write_line<'a, K: Sink>(
         (entry_line plan.now (line_of entry.entry))) }
     ensures part { OnErr result (AppendsPart (K.written out.old) (K.written out.new)
         (entry_line plan.now (line_of entry.entry))) }
+    ensures fits { OnOk result (EntryFits (line_of entry.entry)) }
     ensures failed { IfErr result (λ e. e ≡ TraceWriteFault.Failed →
         Rose (K.faults out.old) (K.faults out.new)) }
     ensures rises { K.faults out.old ≤ K.faults out.new }

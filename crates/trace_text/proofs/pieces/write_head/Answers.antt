@@ -13,7 +13,7 @@ returns-in_err-write_piece-clause-part g c =
     let b = g.K.Sink.written c.write_piece.new.out in
     let plan = c.args.plan_bytes.now in
     let line = plan_line (length plan) in
-    let first : c.as_bytes.result.now ≡ line = c.as_bytes.ensures.value ∙ c.in_ok-first.ensures in
+    let first : c.as_bytes.result.now ≡ line = c.as_bytes.ensures.value ∙ c.in_ok-first.ensures.text in
     err_has c.from_residual-in_err-write_piece.result _
     (part_first a b (line ++ plan) (events_line c.args.count)
     (part_first a b line plan (subst (AppendsPart a b) first c.in_err-write_piece.ensures.part)))
@@ -25,7 +25,7 @@ returns-in_err-write_piece-2-clause-part g c =
     let d = g.K.Sink.written c.write_piece-2.new.out in
     let plan = c.args.plan_bytes.now in
     let line = plan_line (length plan) in
-    let first : c.as_bytes.result.now ≡ line = c.as_bytes.ensures.value ∙ c.in_ok-first.ensures in
+    let first : c.as_bytes.result.now ≡ line = c.as_bytes.ensures.value ∙ c.in_ok-first.ensures.text in
     err_has c.from_residual-in_err-write_piece-2.result _
     (part_first a d (line ++ plan) (events_line c.args.count)
     (part_second a b d line plan (subst (Appends a b) first c.in_ok-write_piece.ensures.all)
@@ -39,7 +39,7 @@ returns-clause-all g c =
     let e = g.K.Sink.written c.write_piece-3.new.out in
     let plan = c.args.plan_bytes.now in
     let line = plan_line (length plan) in
-    let first : c.as_bytes.result.now ≡ line = c.as_bytes.ensures.value ∙ c.in_ok-first.ensures in
+    let first : c.as_bytes.result.now ≡ line = c.as_bytes.ensures.value ∙ c.in_ok-first.ensures.text in
     let last : c.as_bytes-2.result.now ≡ events_line c.args.count = c.as_bytes-2.ensures.value ∙ c.in_ok-last.ensures in
     let both = Appends-trans a b d line plan (subst (Appends a b) first c.in_ok-write_piece.ensures.all)
     c.in_ok-write_piece-2.ensures.all in
@@ -55,7 +55,7 @@ returns-clause-part g c =
     let e = g.K.Sink.written c.write_piece-3.new.out in
     let plan = c.args.plan_bytes.now in
     let line = plan_line (length plan) in
-    let first : c.as_bytes.result.now ≡ line = c.as_bytes.ensures.value ∙ c.in_ok-first.ensures in
+    let first : c.as_bytes.result.now ≡ line = c.as_bytes.ensures.value ∙ c.in_ok-first.ensures.text in
     let last : c.as_bytes-2.result.now ≡ events_line c.args.count = c.as_bytes-2.ensures.value ∙ c.in_ok-last.ensures in
     let both = Appends-trans a b d line plan (subst (Appends a b) first c.in_ok-write_piece.ensures.all)
     c.in_ok-write_piece-2.ensures.all in

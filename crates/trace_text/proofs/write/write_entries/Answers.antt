@@ -5,7 +5,7 @@ use Rattle.log_merge.specs.Lines.{line_of}
 use Rattle.trace_text.specs.EntryLines.{entry_line}
 use Rattle.trace_text.specs.Written.{lines_of}
 use Rattle.trace_text.proofs.Parts.{err_has}
-use Rattle.trace_text.proofs.Streaming.{lines_more, stopped}
+use Rattle.trace_text.proofs.Streaming.{fits_more, lines_more, stopped}
 use Rattle.trace_text.proofs.write.write_entries.Goals as goal
 
 pub returns-in_err-write_line-clause-part : goal.returns-in_err-write_line-clause-part
@@ -30,4 +30,5 @@ loop-entry-preserved g c =
       subst (Appends a d) (sym (lines_more p es c.in-Some.entry))
           (Appends-trans a b d (lines_of p es) line c.loop-entry.invariant.0 c.in_ok-write_line.ensures.all),
       omega (arith, before, now),
+      fits_more es c.in-Some.entry c.loop-entry.invariant.2 c.in_ok-write_line.ensures.fits,
     )

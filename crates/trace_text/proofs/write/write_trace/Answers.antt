@@ -16,10 +16,11 @@ returns-in_err-write_entries-clause-part g c =
 pub returns-clause-all : goal.returns-clause-all
 returns-clause-all g c =
     on_ok c.write_end.result _ _
-    (wrote_trace g.I.Iterator.next_gives c.args.entries c.args.plan.now c.args.plan_bytes.now c.args.count
+    (λ end. wrote_trace g.I.Iterator.next_gives c.args.entries c.args.plan.now c.args.plan_bytes.now c.args.count
     c.args.rows.now (g.K.Sink.written c.args.out.now) (g.K.Sink.written c.write_head.new.out)
     (g.K.Sink.written c.write_entries.new.out) (g.K.Sink.written c.write_end.new.out) c.requires.counted
-    c.in_ok-write_head.ensures.all c.in_ok-write_entries.ensures.all)
+    c.in_ok-write_head.ensures.all c.in_ok-write_entries.ensures.all end c.in_ok-write_head.ensures.fits
+    c.ranges.count.fits)
     c.write_end.ensures.all
 
 pub returns-clause-part : goal.returns-clause-part

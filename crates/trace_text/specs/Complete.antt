@@ -1,0 +1,105 @@
+-- What is written of a run is checked to be that run.
+use Rattle.std.specs.Prelude.{◌≡◌, ◌+◌, ◌⊎◌, ℕ, true, List, [], ◌∷◌, Result, Ok, Err, length, sum_by}
+use Rattle.std.specs.Iterator.{Drains, YieldsFirstBy}
+use Rattle.std.specs.List.{flat_map}
+use mathlib.Core.List.{IsPrefix}
+use Rattle.ason_base.specs.Network.{IsTopology, Network, is_node_id}
+use Rattle.ason_base.specs.declared.calls.TableRows.{TableRows}
+use Rattle.ason_base.specs.declared.commands.Command.{Command}
+use Rattle.ason_base.specs.declared.commands.Entry.{Entry}
+use Rattle.ason_base.specs.declared.commands.EntryRef.{EntryRef}
+use Rattle.ason_base.specs.declared.commands.Event.{Event}
+use Rattle.ason_base.specs.declared.commands.Event.TheVariants as events
+use Rattle.ason_base.specs.declared.ids.NodeId.{NodeId}
+use Rattle.log_merge.specs.declared.merging.Merging.{Merging}
+use Rattle.log_merge.specs.Lines.{line_of, lines_left}
+use Rattle.plan_reader.specs.declared.lines.Line.{Line}
+use Rattle.plan_reader.specs.declared.lines.Line.TheVariants.{Post, Disturb, Noise, Settle, Wait, Show}
+use Rattle.plan_reader.specs.declared.plan.Plan.{Plan}
+use Rattle.plan_reader.specs.Plans.{PlanOf}
+use Rattle.round_rules.specs.OneWorker.{ids_of}
+use Rattle.round_rules.specs.Records.{IsRecord, Record, log_at, posts_in, world_of}
+use Rattle.script_rules.specs.Laws.{RoundLaws}
+use Rattle.script_rules.specs.Outputs.{How, Prints, script_of}
+use Rattle.script_rules.specs.Stages.{Stage, last_of, new_stage}
+use Rattle.script_rules.specs.Tables.{IsTable}
+use Rattle.world_merge.specs.Orders.{IsMerge}
+use Rattle.world_rules.specs.Images.{image}
+use Rattle.trace_text.specs.Checks.{ChecksAs, IsChecked}
+use Rattle.trace_text.specs.RoundTrip.{IsNamed}
+use Rattle.trace_text.specs.TraceText.{trace_text}
+use Rattle.trace_text.specs.Widths.{TraceFits}
+use Rattle.trace_text.specs.declared.checking.Checked.{Checked}
+use Rattle.trace_text.specs.declared.read.TraceFault.{TraceFault}
+use Rattle.trace_text.specs.declared.read.TraceFault.TheVariants.{OutOfMemory}
+
+-- One answer
+
+-- bytes are checked with one answer alone, want of memory aside
+abbrev pub EveryCheckIsOne : Type 0
+EveryCheckIsOne =
+    (bytes : List ℕ) (r s : Result Checked TraceFault) → ChecksAs bytes r → ChecksAs bytes s →
+    (r ≡ Err OutOfMemory) ⊎ ((s ≡ Err OutOfMemory) ⊎ (r ≡ s))
+
+-- Names
+
+-- each node of a plan that bytes spell has a name, by which it is found
+abbrev pub EveryNodeIsNamed : Type 0
+EveryNodeIsNamed =
+    (bs : List ℕ) (p : Plan) (n : NodeId) → PlanOf bs (Ok p) → is_node_id p.topology.nodes n ≡ true → IsNamed p n
+
+-- Posts
+
+-- the commands that the lines of a script post, one after the other
+abbrev pub commands_of : List Line → List Command
+commands_of [] = []
+commands_of (Post c ∷ lines) = c ∷ commands_of lines
+commands_of (Disturb d ∷ lines) = commands_of lines
+commands_of (Noise from to bytes ∷ lines) = commands_of lines
+commands_of (Settle r ∷ lines) = commands_of lines
+commands_of (Wait n ∷ lines) = commands_of lines
+commands_of (Show ∷ lines) = commands_of lines
+
+abbrev pub command_in : Event → List Command
+command_in (events.Deliver to from number) = []
+command_in (events.Noise to from bytes) = []
+command_in (events.Tick n) = []
+command_in (events.Desk n) = []
+command_in (events.Post c) = c ∷ []
+
+-- the commands that were posted
+abbrev pub posted_in : List Entry → List Command
+posted_in es = flat_map (λ e. command_in e.event) es
+
+-- what a plan's script has posted are the first commands of its lines
+abbrev pub EveryScriptPosts : Type 0
+EveryScriptPosts =
+    RoundLaws → (p : Plan) (how : How) (more : List Stage) (text : List ℕ) →
+    Prints p how (script_of p) new_stage more text →
+    IsPrefix (posted_in (posts_in (last_of new_stage more).made)) (commands_of p.lines)
+
+-- The trace of a record
+
+-- The entries are the merge of what the nodes of a plan did and of what was posted. The first commands of the plan's
+-- lines were posted, in their order, and the rows are the table of the world to which all this leads.
+pub record IsMadeOf (p : Plan) (plan_bytes : List ℕ) (r : Record) (es : List Entry) (rows : TableRows) : Type 0 where
+  pub spelled : PlanOf plan_bytes (Ok p)
+  pub possible : IsRecord p.topology r
+  pub merge : IsMerge (log_at r) (posts_in r) es
+  pub posts : IsPrefix (posted_in (posts_in r)) (commands_of p.lines)
+  pub table : IsTable p.topology (image (world_of p.topology r)) rows
+
+-- the text of its trace is that of a run, with this table
+abbrev pub EveryRunIsChecked : Type 0
+EveryRunIsChecked =
+    (p : Plan) (plan_bytes : List ℕ) (r : Record) (es : List Entry) (rows : TableRows) →
+    IsMadeOf p plan_bytes r es rows → TraceFits plan_bytes es →
+    IsChecked (trace_text p plan_bytes es rows) (record { events = length es; plan = p; rows = rows })
+
+-- how many entries come of a merge of what the nodes of a network did and of what was posted
+abbrev pub EveryEntryIsCounted : Type 0
+EveryEntryIsCounted =
+    (t : Network) (r : Record) (merging : Merging) (es : List EntryRef) → IsTopology t → IsRecord t r →
+    IsMerge (log_at r) (posts_in r) (lines_left merging) →
+    Drains (YieldsFirstBy line_of lines_left) merging es →
+    length es ≡ sum_by (λ (n : NodeId). length (log_at r n.0)) (ids_of t) + length (posts_in r)
