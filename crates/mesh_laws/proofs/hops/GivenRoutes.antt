@@ -12,7 +12,7 @@ use Rattle.ason_base.specs.declared.tables.CallRec.{CallRec}
 use Rattle.mesh_rules.specs.Calls.{is_asking}
 use Rattle.mesh_rules.specs.Changes.{Answer, changed}
 use Rattle.mesh_rules.specs.Commands.{has_backup_way}
-use Rattle.mesh_rules.specs.Events.{first_route, or_route, step}
+use Rattle.mesh_rules.specs.Events.{first_route, or_route}
 use Rattle.mesh_rules.specs.FirstLegs.{first_link}
 use Rattle.mesh_rules.specs.LocalNodes.{LocalNode, local_node, own_link}
 use Rattle.mesh_rules.specs.Machine.{Mesh, commit}

@@ -12,7 +12,6 @@ use Rattle.ason_base.specs.declared.messages.Msg.TheVariants.{Path, Resv, PathTe
 use Rattle.ason_base.specs.declared.tables.Leg.{Leg}
 use Rattle.mesh_rules.specs.declared.neighbours.Neighbour.{Neighbour}
 use Rattle.mesh_rules.specs.State.{NodeState}
-use Rattle.mesh_rules.specs.Alarms.{notices}
 use Rattle.mesh_rules.specs.Changes.{Answer, nothing, to_node}
 use Rattle.mesh_rules.specs.Legs.{find_leg, following, is_closing, is_node, previous}
 use Rattle.mesh_rules.specs.LocalNodes.{LocalNode, local_node}

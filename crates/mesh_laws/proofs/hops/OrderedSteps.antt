@@ -19,7 +19,7 @@ use Rattle.mesh_rules.specs.declared.events.MeshEvent.{MeshEvent}
 use Rattle.mesh_rules.specs.Alarms.{enters}
 use Rattle.mesh_rules.specs.Calls.{find_call, is_asking}
 use Rattle.mesh_rules.specs.Changes.{Answer, changed, down_after, learns, nothing}
-use Rattle.mesh_rules.specs.Events.{on_first, on_first_item, posted}
+use Rattle.mesh_rules.specs.Events.{on_first, on_first_item}
 use Rattle.mesh_rules.specs.FirstLegs.{first_link}
 use Rattle.mesh_rules.specs.Setups.{SetupRequest, begins, next_lsp}
 use Rattle.mesh_rules.specs.Failures.{all_news, changed_news, is_cut, link_news, news, news_at, with_failed}

@@ -3,7 +3,6 @@ use Rattle.std.proofs.Common.{◌≡◌, ◌<◌, ◌≤◌, ℕ, zero, suc, fal
 use Rattle.std.specs.Prelude.{slice_get, Some, None}
 use Rattle.ason_base.specs.Labels.{least}
 use Rattle.ason_base.specs.declared.network.LinkSpec.{LinkSpec}
-use Rattle.ason_base.specs.declared.messages.Msg.TheVariants.{Path}
 use Rattle.mesh_rules.specs.State.{NodeState}
 use Rattle.mesh_rules.specs.LocalNodes.{LocalNode}
 use Rattle.mesh_rules.specs.KnownRows.{known_rows}

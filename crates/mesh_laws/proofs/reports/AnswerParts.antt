@@ -1,8 +1,7 @@
 -- Answers that touch no leg and no call of others, one after the other.
-use Rattle.std.proofs.Common.{◌≡◌, ◌+◌, Bool, true, false, cond, nat_eq, not, List, [], ◌∷◌, ◌++◌, refl, sym, ap, ◌∙◌, subst, arith}
+use Rattle.std.proofs.Common.{◌≡◌, Bool, true, false, cond, nat_eq, not, List, [], ◌∷◌, ◌++◌, refl, sym, ap, ◌∙◌, subst, arith}
 use Rattle.std.specs.Prelude.{Option, Some, None}
 use Rattle.ason_base.specs.Lsps.{same_lsp}
-use Rattle.ason_base.specs.declared.calls.Phase.TheVariants.{Asked}
 use Rattle.ason_base.specs.declared.ids.CallNo.{CallNo}
 use Rattle.ason_base.specs.declared.ids.Lsp.{Lsp}
 use Rattle.ason_base.specs.declared.messages.Msg.{Msg}

@@ -22,7 +22,7 @@ use Rattle.mesh_rules.specs.declared.limits.TheConstants.{LAST_NUMBER}
 use Rattle.mesh_rules.specs.declared.neighbours.Neighbour.{Neighbour}
 use Rattle.mesh_rules.specs.Activations.{path_to, taken_on}
 use Rattle.mesh_rules.specs.Calls.{find_call, guarded, pairing, stuck, turning, unbacked}
-use Rattle.mesh_rules.specs.Changes.{changes_calls, sends}
+use Rattle.mesh_rules.specs.Changes.{changes_calls}
 use Rattle.mesh_rules.specs.FirstLegs.{NewLsp, asks_for, first_link, is_full}
 use Rattle.mesh_rules.specs.KnownRows.{known_rows}
 use Rattle.mesh_rules.specs.Legs.{find_leg, following, is_closing, is_held, is_in_use, with_phase}

@@ -3,7 +3,7 @@ use Rattle.std.proofs.Common.{◌<◌, ℕ, ◌+◌, arith}
 use Rattle.ason_base.specs.Network.{Network}
 use Rattle.ason_base.specs.declared.ids.NodeId.{NodeId}
 use Rattle.ason_base.specs.declared.messages.Msg.{Msg}
-use Rattle.mesh_rules.specs.Changes.{Answer, nothing}
+use Rattle.mesh_rules.specs.Changes.{Answer}
 use Rattle.mesh_rules.specs.LocalNodes.{local_node}
 use Rattle.mesh_rules.specs.Machine.{Mesh}
 use Rattle.mesh_laws.proofs.hops.InParts.{leg_part}

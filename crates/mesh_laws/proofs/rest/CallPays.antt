@@ -9,7 +9,7 @@ use Rattle.ason_base.specs.declared.calls.Phase.TheVariants.{Armed, Asked, Live,
 use Rattle.ason_base.specs.declared.calls.Role.{Role}
 use Rattle.ason_base.specs.declared.calls.Role.TheVariants as role
 use Rattle.ason_base.specs.declared.messages.Msg.{Msg}
-use Rattle.ason_base.specs.declared.messages.Msg.TheVariants.{Resv, PathErr}
+use Rattle.ason_base.specs.declared.messages.Msg.TheVariants.{Resv}
 use Rattle.ason_base.specs.declared.tables.Leg.{Leg}
 use Rattle.mesh_rules.specs.declared.neighbours.Neighbour.{Neighbour}
 use Rattle.mesh_rules.specs.ActivationAnswers.{is_confirmed}

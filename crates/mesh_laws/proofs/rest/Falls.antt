@@ -11,7 +11,7 @@ use Rattle.ason_base.specs.declared.messages.Msg.{Msg}
 use Rattle.mesh_rules.specs.declared.events.MeshEvent.{MeshEvent}
 use Rattle.mesh_rules.specs.declared.events.MeshEvent.TheVariants as event
 use Rattle.mesh_rules.specs.Changes.{Answer}
-use Rattle.mesh_rules.specs.Events.{after, has_first, is_enabled, on_first, on_first_item, or_route, posted, step}
+use Rattle.mesh_rules.specs.Events.{has_first, is_enabled, on_first, on_first_item, or_route, posted, step}
 use Rattle.mesh_rules.specs.Failures.{with_group, without_group}
 use Rattle.mesh_rules.specs.Learnt.{on_link}
 use Rattle.mesh_rules.specs.Legs.{leg_of}
