@@ -42,6 +42,10 @@ NO_OPTIONS = (
     ["--stride", "--workers", "2"],
     ["--Workers", "2"],
     ["2"],
+    ["--trace", "--trace"],
+    ["--workers", "--trace"],
+    ["--trace", "1"],
+    ["--trace=1"],
 )
 
 

@@ -7,15 +7,18 @@ use Rattle.ason_io.specs.Reading.{WasReadToEnd}
 use Rattle.plan_reader.specs.declared.plan.Plan.{Plan}
 use Rattle.command_words.specs.declared.tasks.Question.{Question}
 use Rattle.ason_main.specs.declared.answers.Status.{Status}
-use Rattle.ason_main.specs.Answers.{Ask, Decode, Request, Run, Survey}
+use Rattle.ason_main.specs.Answers.{Ask, Decode, Request, Run, Survey, Trace}
+use Rattle.ason_main.specs.Answers.{EndsLoad, IsCompleteLoad, IsLoadReply, IsTraceReply, generated, request_for}
 use Rattle.ason_main.specs.Answers.{Done, EventLimit, PlanRefused, ReadFault, Reply, TooLong, Unfinished, Usage}
-use Rattle.ason_main.specs.Answers.{ComesTo, EndsTooLong, EndsWell, HasReadFew, IsAskReply, IsComplete, IsDecodeReply, IsDoneOrOutOfMemory, IsEnd, IsJudged, IsReadAndJudged, IsReply, IsReplyFor, IsReplyTo, IsRunReply, IsSurveyReply, WasGiven, printing, request_of, status_of}
+use Rattle.ason_main.specs.Answers.{ComesTo, EndsTooLong, EndsWell, HasReadFew, IsAskReply, IsComplete, IsDecodeReply, IsDoneOrOutOfMemory, IsEnd, IsJudged, IsReadAndJudged, IsReply, IsReplyFor, IsReplyTo, IsRunReply, IsSurveyReply, WasGiven, printing, status_of}
 use Rattle.ason_base.specs.declared.ids.NodeId.{NodeId}
 use Rattle.fleet.specs.Standing.{FleetState}
 use Rattle.script_rules.specs.Outputs.{How, Prints, script_of}
 use Rattle.script_rules.specs.Stages.{Stage, new_stage}
 use Rattle.script_rules.proofs.Alone.{function_end}
-use Rattle.ason_main.specs.Outputs.{end_of}
+use Rattle.load_plan.specs.declared.parts.LoadParts.{LoadParts}
+use Rattle.ason_main.specs.Outputs.{end_of, silent_on}
+use Rattle.ason_main.proofs.OneLoad.{load_ends}
 use Rattle.ason_main.specs.Surveys.{silent}
 use Rattle.plan_reader.specs.Plans.{PlanOf}
 use Rattle.plan_reader.proofs.Agree.{no_plan, one_plan}
@@ -46,17 +49,19 @@ read_few left handed ended old new bs read few = (
         told.0 ∙ (sym (append-nil bs) ∙ ap (λ zs. bs ++ zs) (sym none))
 
 -- what is answered of it
-judged_for : {S : Type 0} (left : S → Option (List ℕ)) (handed : S → List ℕ → S → Type 0) (ended : S → Type 0)
+pub judged_for : {S : Type 0} (left : S → Option (List ℕ)) (handed : S → List ℕ → S → Type 0) (ended : S → Type 0)
     (faults : S → ℕ) (old new : S) (bs : List ℕ) (k : Request) (r : Reply) (kept : Option FleetState) →
     WasReadToEnd left handed ended old new bs → length bs ≤ 4194304 → IsJudged k bs r kept →
     IsReplyFor left handed ended faults old new k r kept
 judged_for left handed ended faults old new bs k (Done text) kept read few is = (bs, read, few, is)
 judged_for left handed ended faults old new bs (Run pace) Usage kept read few is = absurd is
+judged_for left handed ended faults old new bs (Trace pace) Usage kept read few is = absurd is
 judged_for left handed ended faults old new bs Decode Usage kept read few is = absurd is.0
 judged_for left handed ended faults old new bs Survey Usage kept read few is = absurd is
 judged_for left handed ended faults old new bs (Ask question from to) Usage kept read few is = absurd is.0
 judged_for left handed ended faults old new bs k (PlanRefused text) kept read few is = (bs, read, few, is)
 judged_for left handed ended faults old new bs (Run pace) ReadFault kept read few is = absurd is
+judged_for left handed ended faults old new bs (Trace pace) ReadFault kept read few is = absurd is
 judged_for left handed ended faults old new bs Decode ReadFault kept read few is = absurd is.0
 judged_for left handed ended faults old new bs Survey ReadFault kept read few is = absurd is
 judged_for left handed ended faults old new bs (Ask question from to) ReadFault kept read few is = absurd is.0
@@ -64,17 +69,10 @@ judged_for left handed ended faults old new bs k (EventLimit text) kept read few
 judged_for left handed ended faults old new bs k (Unfinished text) kept read few is =
     (read_few left handed ended old new bs read few, inr (bs, read, few, is))
 judged_for left handed ended faults old new bs (Run pace) TooLong kept read few is = absurd is
+judged_for left handed ended faults old new bs (Trace pace) TooLong kept read few is = absurd is
 judged_for left handed ended faults old new bs Decode TooLong kept read few is = absurd is.0
 judged_for left handed ended faults old new bs Survey TooLong kept read few is = absurd is
 judged_for left handed ended faults old new bs (Ask question from to) TooLong kept read few is = absurd is.0
-
-pub judged_reply : {S : Type 0} (left : S → Option (List ℕ)) (handed : S → List ℕ → S → Type 0) (ended : S → Type 0)
-    (faults : S → ℕ) (words : List (List ℕ)) (old new : S) (bs : List ℕ) (k : Request) (r : Reply)
-    (kept : Option FleetState) → request_of words ≡ Some k → WasReadToEnd left handed ended old new bs →
-    length bs ≤ 4194304 → IsJudged k bs r kept → IsReply left handed ended faults words old new r kept
-judged_reply left handed ended faults words old new bs k r kept word read few is =
-    subst (IsReplyTo left handed ended faults old new r kept) (sym word)
-    (judged_for left handed ended faults old new bs k r kept read few is)
 
 -- where the plan's run comes to an end
 comes_to : (p : Plan) (how : How) (stop : Option NodeId) (more : List Stage) (text : List ℕ) →
@@ -111,6 +109,32 @@ judged_end workers bs p (Unfinished text) kept s plan holds is = inr (inr is)
 judged_end workers bs p Usage kept s plan holds is = absurd holds
 judged_end workers bs p ReadFault kept s plan holds is = absurd holds
 judged_end workers bs p TooLong kept s plan holds is = absurd holds
+
+-- the reply to a run of which the trace is told
+traced_end : (workers : ℕ) (bs : List ℕ) (p : Plan) (r : Reply) (kept : Option FleetState) (s : Status) →
+    PlanOf bs (Ok p) → IsTraceReply workers bs r kept → s ≡ status_of r → IsEnd p (silent_on workers) s
+traced_end workers bs p (Done text) kept s plan holds is =
+    let out = holds.2.1.is.output in
+    inl (
+      is,
+      subst (λ (q : Plan). ComesTo q (silent_on workers) None) (one_plan bs holds.0 p holds.1 plan)
+          (comes_to holds.0 (silent_on workers) None holds.2.0 [] out.printed out.ended),
+    )
+traced_end workers bs p (PlanRefused text) kept s plan holds is = absurd (no_plan bs holds.0.0 p holds.0.1 plan)
+traced_end workers bs p (EventLimit text) kept s plan holds is =
+    let out = holds.2.2.cut.output in
+    inr (inl (
+      is,
+      (
+        holds.2.0,
+        subst (λ (q : Plan). ComesTo q (silent_on workers) (Some holds.2.0)) (one_plan bs holds.0 p holds.1 plan)
+            (comes_to holds.0 (silent_on workers) (Some holds.2.0) holds.2.1 [] out.printed out.stopped),
+      ),
+    ))
+traced_end workers bs p (Unfinished text) kept s plan holds is = inr (inr is)
+traced_end workers bs p Usage kept s plan holds is = absurd holds
+traced_end workers bs p ReadFault kept s plan holds is = absurd holds
+traced_end workers bs p TooLong kept s plan holds is = absurd holds
 
 -- a survey's reply
 surveyed_end : (bs : List ℕ) (p : Plan) (r : Reply) (kept : Option FleetState) (s : Status) → PlanOf bs (Ok p) →
@@ -162,6 +186,7 @@ asked_end question from to bs p TooLong s plan holds is = absurd holds
 well_ended : (k : Request) (bs : List ℕ) (r : Reply) (kept : Option FleetState) (s : Status) →
     IsJudged k bs r kept → s ≡ status_of r → EndsWell k bs s
 well_ended (Run pace) bs r kept s holds is = λ p plan. judged_end pace.workers bs p r kept s plan holds is
+well_ended (Trace pace) bs r kept s holds is = λ p plan. traced_end pace.workers bs p r kept s plan holds is
 well_ended Decode bs r kept s holds is = decoded_end bs r s holds.0 is
 well_ended Survey bs r kept s holds is = λ p plan. surveyed_end bs p r kept s plan holds is
 well_ended (Ask question from to) bs r kept s holds is =
@@ -169,6 +194,7 @@ well_ended (Ask question from to) bs r kept s holds is =
 
 out_of_memory : (k : Request) (bs : List ℕ) (s : Status) → s ≡ Status.OutOfMemory → EndsWell k bs s
 out_of_memory (Run pace) bs s is = λ p plan. inr (inr is)
+out_of_memory (Trace pace) bs s is = λ p plan. inr (inr is)
 out_of_memory Decode bs s is = inr is
 out_of_memory Survey bs s is = λ p plan. inr (inr is)
 out_of_memory (Ask question from to) bs s is = λ p plan. inr is
@@ -229,10 +255,38 @@ pub is_complete : {S K : Type 0} (left : S → Option (List ℕ)) (handed : S �
     IsReply left handed ended faults words old new r kept → WasGiven written sink_faults sink_old sink_new r s →
     IsComplete left faults sink_faults words old new sink_old sink_new s
 is_complete left handed ended faults written sink_faults words old new sink_old sink_new r kept s reply
-    (inr failed) k word bs tells no_read no_write = absurd (no_write failed.1)
+    (inr failed) inquiry word bs tells no_read no_write = absurd (no_write failed.1)
 is_complete left handed ended faults written sink_faults words old new sink_old sink_new r kept s reply
-    (inl given) k word bs tells no_read no_write =
-    let said = subst (IsReplyTo left handed ended faults old new r kept) word reply in (
+    (inl given) inquiry word bs tells no_read no_write =
+    let k = request_for words inquiry in
+    let said = subst (IsReplyTo left handed ended faults words old new r kept) word reply in (
       λ short. replied_end left handed ended faults old new k bs r kept s tells short no_read said given.0,
       λ long. replied_too_long left handed ended faults old new k bs r kept s tells long no_read said given.0,
     )
+
+-- Loads
+
+loaded_end : (l : LoadParts) (r : Reply) (kept : Option FleetState) (s : Status) → IsLoadReply l r kept →
+    s ≡ status_of r → EndsLoad l s
+loaded_end l (Done text) kept s holds is =
+    inl (is, load_ends l holds.0 text None holds.1.is.printed holds.1.is.ended)
+loaded_end l (EventLimit text) kept s holds is =
+    let cut = holds.2.cut.is in
+    inr (inl (is, (holds.0, load_ends l holds.1 holds.2.told (Some holds.0) cut.printed cut.stopped)))
+loaded_end l (Unfinished text) kept s holds is = inr (inr is)
+loaded_end l (PlanRefused text) kept s holds is = absurd holds
+loaded_end l Usage kept s holds is = absurd holds
+loaded_end l ReadFault kept s holds is = absurd holds
+loaded_end l TooLong kept s holds is = absurd holds
+
+pub is_complete_load : {S K : Type 0} (left : S → Option (List ℕ)) (handed : S → List ℕ → S → Type 0)
+    (ended : S → Type 0) (faults : S → ℕ) (written : K → Option (List ℕ)) (sink_faults : K → ℕ)
+    (words : List (List ℕ)) (old new : S) (sink_old sink_new : K) (r : Reply) (kept : Option FleetState) (s : Status) →
+    IsReply left handed ended faults words old new r kept → WasGiven written sink_faults sink_old sink_new r s →
+    IsCompleteLoad sink_faults words sink_old sink_new s
+is_complete_load left handed ended faults written sink_faults words old new sink_old sink_new r kept s reply
+    (inr failed) load word no_write = absurd (no_write failed.1)
+is_complete_load left handed ended faults written sink_faults words old new sink_old sink_new r kept s reply
+    (inl given) load word no_write =
+    let said = subst (IsReplyTo left handed ended faults words old new r kept) word reply in
+    loaded_end (generated load) r kept s said.0 given.0

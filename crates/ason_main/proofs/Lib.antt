@@ -1,7 +1,11 @@
 pub mod Complete
 pub mod Lines
+pub mod LoadReplies
+pub mod LoadedParts
 pub mod Noises
 pub mod OneLine
+pub mod OneLoad
+pub mod OneMerge
 pub mod PlanRuns
 pub mod Printing
 pub mod Replies
@@ -9,4 +13,6 @@ pub mod Rounding
 pub mod Scripts
 pub mod Settling
 pub mod SurveyRuns
+pub mod TraceReplies
+pub mod Tracing
 pub mod Waiting

@@ -1,26 +1,26 @@
 -- The run of a plan, and what is written of it.
-use Rattle.std.proofs.Common.{◌≡◌, ◌≤◌, ℕ, List, [], ◌∷◌, ◌++◌, refl, sym, ap, ◌∙◌, subst, append-nil}
+use Rattle.std.proofs.Common.{◌≡◌, ℕ, List, [], ◌∷◌, ◌++◌, refl, sym, ap, ◌∙◌, subst}
 use Rattle.std.specs.Prelude.{Option, None, Some}
 use Rattle.std.specs.List.{AllByRecursion}
 use Rattle.ason_base.specs.declared.ids.CallNo.{CallNo}
 use Rattle.ason_base.specs.declared.ids.NodeId.{NodeId}
 use Rattle.ason_base.specs.Network.{IsTopology, Network}
 use Rattle.fleet.specs.Standing.{FleetState, StandsFor}
-use Rattle.round_rules.specs.Records.{IsRecord, log_at, new_record}
+use Rattle.round_rules.specs.Records.{new_record}
 use Rattle.plan_reader.specs.declared.lines.Line.{Line}
 use Rattle.plan_reader.specs.declared.lines.Line.TheVariants.{Settle, Show}
 use Rattle.plan_reader.specs.declared.plan.Plan.{Plan}
 use Rattle.plan_reader.specs.Plans.{ArePostable, calls_after_line}
 use Rattle.script_rules.specs.Laws.{AreSame}
 use Rattle.script_rules.specs.Lawful.{IsLawfulRecord}
-use Rattle.script_rules.specs.Outputs.{How, Prints, PrintsFirst, script_of, settling_script}
-use Rattle.script_rules.specs.Stages.{IsFull, Stage, last_of, new_stage}
+use Rattle.script_rules.specs.Outputs.{How, Prints, script_of, settling_script}
+use Rattle.script_rules.specs.Stages.{IsFull, Stage, new_stage}
 use Rattle.script_rules.proofs.Alone.{one_list}
 use Rattle.script_rules.proofs.Grows.{scripts_grow}
 use Rattle.script_rules.proofs.Stops.{stops_full}
 use Rattle.ason_main.specs.Laws.{RunLaws}
 use Rattle.ason_main.specs.Outputs.{HasBeenCut, HasEnded, IsBegun, IsCutShort, IsKept, IsOneRun, IsOutput, IsTheCut, IsTheOutput, end_of}
-use Rattle.ason_main.specs.Running.{AreBegun, AreDone, AreLed, DoesAll, EndsIn, FailsIn, HasStood, HasWritten, HasWrittenPart, RunState, StandsAt, StandsYet}
+use Rattle.ason_main.specs.Running.{AreBegun, AreLed, DoesAll, EndsIn, FailsIn, HasStood, HasWritten, HasWrittenPart, RunState, StandsAt, StandsYet}
 
 -- Lines that can be posted
 
@@ -55,7 +55,7 @@ pub record IsNew (p : Plan) (f : FleetState) : Type 0 where
 starts : (p : Plan) (f : FleetState) → IsNew p f → StandsAt p.topology f new_stage
 starts p f new = record { stands = new.stands; going = refl }
 
-one_run : RunLaws → (p : Plan) (how : How) (f : FleetState) (lines : List Line) (more : List Stage)
+pub one_run : RunLaws → (p : Plan) (how : How) (f : FleetState) (lines : List Line) (more : List Stage)
     (text : List ℕ) → IsNew p f → Prints p how lines new_stage more text →
     AllByRecursion (HasStood p.topology) more → IsOneRun p more
 one_run laws p how f lines more text new prints stood = record {
@@ -75,10 +75,13 @@ begun laws p how f new text is x = record {
 
 -- One output
 
-not_both : (o : Option NodeId) (n : NodeId) → o ≡ None → o ≡ Some n → ⊥
+pub not_both : (o : Option NodeId) (n : NodeId) → o ≡ None → o ≡ Some n → ⊥
 not_both o n none some = absurd (cc (none, some))
 
-same_end : {xs ys : List Stage} {a b : List ℕ} → AreSame xs ys a b → (end_of xs).stopped ≡ (end_of ys).stopped
+pub same_node : (o : Option NodeId) (m n : NodeId) → o ≡ Some m → o ≡ Some n → m ≡ n
+same_node o m n a b = cc (a, b)
+
+pub same_end : {xs ys : List Stage} {a b : List ℕ} → AreSame xs ys a b → (end_of xs).stopped ≡ (end_of ys).stopped
 same_end same = ap (λ ss. (end_of ss).stopped) same.stages
 
 one_output : (p : Plan) (how : How) (more others : List Stage) (text other : List ℕ) → how.workers ≡ 1 →
@@ -110,13 +113,10 @@ the_cut p how n more text is = record {
       not_both (end_of others).stopped n that.ended
       (same_end (one_output p how more others text other one that.one_run that.printed is.printed) ∙ is.stopped);
 }
-  where
-    same_node : (o : Option NodeId) (m n : NodeId) → o ≡ Some m → o ≡ Some n → m ≡ n
-    same_node o m n a b = cc (a, b)
 
 -- What was written
 
-kept : RunLaws → (p : Plan) (new : FleetState) (stop : Option NodeId) (more : List Stage) →
+pub kept : RunLaws → (p : Plan) (new : FleetState) (stop : Option NodeId) (more : List Stage) →
     AreLed p.topology new stop new_stage more → IsKept p new (end_of more)
 kept laws p new stop more led = record {
   stands = led.stands;

@@ -12,7 +12,7 @@ use Rattle.plan_reader.specs.declared.lines.Line.TheVariants as said
 use Rattle.plan_reader.specs.declared.lines.Line.TheVariants.{Noise, Post, Settle, Show, Wait}
 use Rattle.plan_reader.specs.declared.plan.Plan.{Plan}
 use Rattle.script_rules.specs.Outputs.{How, LinePrints, Prints, PrintsFirst, Shows, UnlessStopped}
-use Rattle.script_rules.specs.Stages.{LineMakes, Stage, is_stopped, last_of, with_post, world_at}
+use Rattle.script_rules.specs.Stages.{LineMakes, Stage, is_stopped, last_of, world_at}
 use Rattle.script_rules.proofs.Follows.{lines_follow}
 use Rattle.ason_main.proofs.Settling.{settles_stay}
 use Rattle.ason_main.proofs.Waiting.{waits_stay}
@@ -52,7 +52,7 @@ stopped_makes t workers (Settle rounds) s stop = settles_stay t workers rounds s
 stopped_makes t workers (Wait rounds) s stop = waits_stay t workers rounds s stop
 stopped_makes t workers Show s stop = refl
 
-prints_nothing : (p : Plan) (how : How) (lines : List Line) (s : Stage) (k : NodeId) → s.stopped ≡ Some k →
+pub prints_nothing : (p : Plan) (how : How) (lines : List Line) (s : Stage) (k : NodeId) → s.stopped ≡ Some k →
     Prints p how lines s [] []
 prints_nothing p how [] s k stopped = (refl, refl)
 prints_nothing p how (line ∷ lines) s k stopped = (

@@ -1,16 +1,18 @@
 -- What is answered to an input, of what was written.
 use Rattle.std.proofs.Common.{◌≡◌, ◌≤◌, ℕ, List, [], ◌++◌, take, inl, inr, refl, sym, subst, append-nil}
-use Rattle.std.specs.Prelude.{Option, Some, None, Ok}
+use Rattle.std.specs.Prelude.{Option, Some, None, Ok, Err}
 use Rattle.std.specs.Io.KnownBytes.{Appends}
 use Rattle.std.proofs.KnownBytes.{Appends-nil, Appends-trans}
 use Rattle.ason_base.specs.declared.ids.NodeId.{NodeId}
 use Rattle.ason_io.specs.Faults.{Rose}
 use Rattle.plan_reader.specs.declared.plan.Plan.{Plan}
 use Rattle.plan_reader.specs.Plans.{PlanOf}
+use Rattle.plan_reader.specs.declared.faults.PlanFault.{PlanFault}
+use Rattle.table_text.specs.FaultText.{refused_text}
 use Rattle.table_text.specs.TableText.{stopped_text}
 use Rattle.ason_main.specs.declared.answers.Status.{Status}
-use Rattle.ason_main.specs.Answers.{Ask, Decode, Done, EventLimit, Reply, Request, Run, Survey, Unfinished, Usage}
-use Rattle.ason_main.specs.Answers.{HasKept, IsAnswered, IsReply, IsReplyFor, IsReplyTo, MayKeep, WasTold, WasToldOrNothing, printing, request_of}
+use Rattle.ason_main.specs.Answers.{Ask, Decode, Done, EventLimit, PlanRefused, Reply, Request, Run, Survey, Trace, Unfinished}
+use Rattle.ason_main.specs.Answers.{HasKept, IsAnswered, IsJudged, IsReply, IsReplyTo, MayKeep, WasTold, WasToldOrNothing, printing}
 use Rattle.ason_main.specs.declared.runner.stops.Stop.{Stop}
 use Rattle.fleet.specs.Standing.{FleetState}
 use Rattle.script_rules.specs.Outputs.{How, script_of}
@@ -18,6 +20,8 @@ use Rattle.script_rules.specs.Stages.{Stage}
 use Rattle.ason_main.specs.Outputs.{HasBeenCut, HasEnded, IsBegun, IsKept, IsTheCut, end_of}
 use Rattle.ason_main.specs.Surveys.{StopsSurvey, TellsTheSurvey}
 use Rattle.command_words.specs.Paces.{PaceView}
+use Rattle.command_words.specs.Tasks.{task_of}
+use Rattle.command_words.specs.declared.tasks.Task.{Task}
 use Rattle.ason_main.specs.Running.{HasWritten, HasWrittenPart, StandsYet}
 use Rattle.ason_main.proofs.Printing.{part_after}
 use Rattle.ason_main.proofs.OneLine.{rose_later}
@@ -28,7 +32,7 @@ use Rattle.ason_main.proofs.OneLine.{rose_later}
 pub may_keep : (p : Plan) (f : FleetState) (o : Option FleetState) → o ≡ Some f → StandsYet p.topology f → MayKeep p o
 may_keep p f o is yet = subst (MayKeep p) (sym is) yet
 
-has_kept : (p : Plan) (f : FleetState) (o : Option FleetState) (s : Stage) → o ≡ Some f → IsKept p f s → HasKept p o s
+pub has_kept : (p : Plan) (f : FleetState) (o : Option FleetState) (s : Stage) → o ≡ Some f → IsKept p f s → HasKept p o s
 has_kept p f o s is kept = subst (λ q. HasKept p q s) (sym is) kept
 
 -- a fleet that made a stage stands for it
@@ -127,7 +131,7 @@ stopped written faults bs p pace n f kept old now new s plan keeps rises is (inr
 -- Surveys
 
 -- what was told after a run of which nothing was written
-told_after : {K : Type 0} (written : K → Option (List ℕ)) (faults : K → ℕ) (old now new : K) (text : List ℕ)
+pub told_after : {K : Type 0} (written : K → Option (List ℕ)) (faults : K → ℕ) (old now new : K) (text : List ℕ)
     (status s : Status) → Appends (written old) (written now) [] → faults old ≤ faults now →
     WasTold written faults now new text status s → WasTold written faults old new text status s
 told_after written faults old now new text status s none rises (inl told) =
@@ -177,41 +181,53 @@ pub survey_starved : {K : Type 0} (written : K → Option (List ℕ)) (faults : 
 survey_starved written faults bs p f kept old new plan keeps none yet =
     (Unfinished [], (refl, inr (p, plan, may_keep p f kept keeps yet)), inl (refl, none))
 
--- Want of memory before anything is told
+-- Before anything is told
+
+nothing_judged : (k : Request) (bs : List ℕ) (kept : Option FleetState) → kept ≡ None →
+    IsJudged k bs (Unfinished []) kept
+nothing_judged (Run pace) bs kept none = inl (refl, none)
+nothing_judged (Trace pace) bs kept none = inl (refl, inl none)
+nothing_judged Decode bs kept none = (refl, none)
+nothing_judged Survey bs kept none = (refl, inl none)
+nothing_judged (Ask question from to) bs kept none = (refl, none)
 
 pub no_memory : {K : Type 0} (written : K → Option (List ℕ)) (faults : K → ℕ) (k : Request) (bs : List ℕ) (out : K)
     (kept : Option FleetState) → kept ≡ None → IsAnswered written faults k bs out out kept Status.OutOfMemory
-no_memory written faults (Run pace) bs out kept none =
-    (Unfinished [], inl (refl, none), inl (refl, Appends-nil (written out)))
-no_memory written faults Decode bs out kept none =
-    (Unfinished [], (refl, none), inl (refl, Appends-nil (written out)))
-no_memory written faults Survey bs out kept none =
-    (Unfinished [], (refl, inl none), inl (refl, Appends-nil (written out)))
-no_memory written faults (Ask question from to) bs out kept none =
-    (Unfinished [], (refl, none), inl (refl, Appends-nil (written out)))
+no_memory written faults k bs out kept none =
+    (Unfinished [], nothing_judged k bs kept none, inl (refl, Appends-nil (written out)))
 
--- a reply where no fleet is kept
-pub kept_none : {K : Type 0} (written : K → Option (List ℕ)) (faults : K → ℕ) (k : Request) (bs : List ℕ)
-    (old new : K) (kept : Option FleetState) (s : Status) → kept ≡ None →
-    IsAnswered written faults k bs old new None s → IsAnswered written faults k bs old new kept s
-kept_none written faults k bs old new kept s none is =
-    subst (λ o. IsAnswered written faults k bs old new o s) (sym none) is
+-- a plan is asked for
+abbrev pub TakesPlan : Request → Type 0
+TakesPlan (Run pace) = Unit {0}
+TakesPlan (Trace pace) = Unit {0}
+TakesPlan Decode = ⊥
+TakesPlan Survey = Unit {0}
+TakesPlan (Ask question from to) = Unit {0}
 
--- Reading
+fault_judged : (k : Request) (bs : List ℕ) (f : PlanFault) (kept : Option FleetState) → TakesPlan k →
+    PlanOf bs (Err f) → kept ≡ None → IsJudged k bs (PlanRefused (refused_text f)) kept
+fault_judged (Run pace) bs f kept takes fault none = ((f, fault, refl), none)
+fault_judged (Trace pace) bs f kept takes fault none = ((f, fault, refl), none)
+fault_judged Decode bs f kept takes fault none = absurd takes
+fault_judged Survey bs f kept takes fault none = ((f, fault, refl), none)
+fault_judged (Ask question from to) bs f kept takes fault none = ((f, fault, refl), none)
 
--- what is said of the source, where the words have this meaning
-pub reply_read :
-    {S : Type 0} (left : S → Option (List ℕ)) (handed : S → List ℕ → S → Type 0) (ended : S → Type 0)
-    (faults : S → ℕ) (words : List (List ℕ)) (old new : S) (k : Request) (r : Reply) (kept : Option FleetState) →
-    request_of words ≡ Some k → IsReplyFor left handed ended faults old new k r kept →
+-- the fault of what is no plan is told
+pub refused : {K : Type 0} (written : K → Option (List ℕ)) (faults : K → ℕ) (k : Request) (bs : List ℕ)
+    (f : PlanFault) (old new : K) (kept : Option FleetState) (s : Status) → TakesPlan k → PlanOf bs (Err f) →
+    kept ≡ None → WasToldOrNothing written faults old new (refused_text f) Status.PlanRefused s →
+    IsAnswered written faults k bs old new kept s
+refused written faults k bs f old new kept s takes fault none (inl told) =
+    (PlanRefused (refused_text f), fault_judged k bs f kept takes fault none, told)
+refused written faults k bs f old new kept s takes fault none (inr nothing) =
+    (Unfinished [], nothing_judged k bs kept none, inl nothing)
+
+-- Words
+
+-- what is said of the words that ask for this
+pub task_reply : {S : Type 0} (left : S → Option (List ℕ)) (handed : S → List ℕ → S → Type 0) (ended : S → Type 0)
+    (faults : S → ℕ) (words : List (List ℕ)) (old new : S) (r : Reply) (kept : Option FleetState) (o : Option Task) →
+    task_of words ≡ o → IsReplyTo left handed ended faults words old new r kept o →
     IsReply left handed ended faults words old new r kept
-reply_read left handed ended faults words old new k r kept word is =
-    subst (IsReplyTo left handed ended faults old new r kept) (sym word) is
-
--- nothing is read where they have none
-pub usage_reply :
-    {S : Type 0} (left : S → Option (List ℕ)) (handed : S → List ℕ → S → Type 0) (ended : S → Type 0)
-    (faults : S → ℕ) (words : List (List ℕ)) (src : S) (kept : Option FleetState) → request_of words ≡ None →
-    kept ≡ None → IsReply left handed ended faults words src src Usage kept
-usage_reply left handed ended faults words src kept none keeps =
-    subst (IsReplyTo left handed ended faults src src Usage kept) (sym none) (refl, refl, keeps)
+task_reply left handed ended faults words old new r kept o word is =
+    subst (IsReplyTo left handed ended faults words old new r kept) (sym word) is

@@ -7,7 +7,6 @@ use Rattle.std.proofs.lemmas.List.Sorted.{Contains-permutation}
 use Rattle.ason_base.specs.declared.calls.LegRow.{LegRow}
 use Rattle.ason_base.specs.declared.calls.TableRows.{TableRows}
 use Rattle.ason_base.specs.declared.commands.Disturb.{Disturb}
-use Rattle.ason_base.specs.declared.commands.Entry.{Entry}
 use Rattle.ason_base.specs.declared.ids.NodeId.{NodeId}
 use Rattle.ason_base.specs.Network.{IsTopology, Network}
 use Rattle.ason_base.proofs.Ordered.{same_test}
@@ -34,10 +33,10 @@ use Rattle.script_rules.specs.Stages.{Stage, last_of, new_stage, world_at}
 use Rattle.script_rules.specs.Tables.{IsTable}
 use Rattle.script_rules.proofs.Lawful.{HasOneTable, lawful_table}
 use Rattle.script_rules.proofs.OneTable.{one_table}
-use Rattle.ason_main.specs.declared.runner.stops.Stop.{Stop}
-use Rattle.ason_main.specs.Outputs.{HasBeenCut, HasEnded, IsBegun, IsOneRun, IsTheCut, IsTheOutput, end_of}
+use Rattle.table_text.specs.TableText.{stopped_text}
+use Rattle.ason_main.specs.Outputs.{HasBeenCut, HasEnded, IsBegun, IsKept, IsOneRun, IsStoppedSilently, IsTheCut, IsTheOutput, end_of, silent_on}
 use Rattle.ason_main.specs.Running.{HasWritten, HasWrittenPart}
-use Rattle.ason_main.specs.Surveys.{HoldsOf, IsCalmWorld, IsSurveyOf, IsTheSurvey, StopsSurvey, TellsSurvey, TellsTheSurvey, silent}
+use Rattle.ason_main.specs.Surveys.{HoldsOf, IsCalmWorld, IsSurveyOf, IsTheSurvey, TellsSurvey, TellsTheSurvey, silent}
 use Rattle.ason_main.proofs.Lines.{AreInOrder, AreRows, sorted_table}
 
 -- Rows
@@ -79,7 +78,7 @@ last_all : (P : Stage → Type 0) (s : Stage) (more : List Stage) → AllByRecur
 last_all P s [] all = all.0
 last_all P s (a ∷ more) all = last_all P a more all.1
 
-lawful_end : (p : Plan) (more : List Stage) → IsOneRun p more → IsLawfulRecord p.topology (end_of more).made
+pub lawful_end : (p : Plan) (more : List Stage) → IsOneRun p more → IsLawfulRecord p.topology (end_of more).made
 lawful_end p more run = last_all (λ (s : Stage). IsLawfulRecord p.topology s.made) new_stage more run.laws
 
 -- where the survey tells that it is calm, this holds of all that may follow
@@ -189,7 +188,7 @@ the_survey law p more text output survey = record {
 
 -- where no tables are asked for nothing is printed
 pub nothing_printed : (p : Plan) (workers : ℕ) (lines : List Line) (s : Stage) (more : List Stage) (text : List ℕ) →
-    Prints p (record { workers = workers; tables = false }) lines s more text → text ≡ []
+    Prints p (silent_on workers) lines s more text → text ≡ []
 nothing_printed p workers [] s more text prints = prints.1
 nothing_printed p workers (line ∷ lines) s more text prints =
     prints.8 ∙ (ap (λ xs. xs ++ prints.3) prints.5
@@ -208,40 +207,43 @@ surveyed law p f old new text ended tells = record {
     none : ended.text ≡ []
     none = nothing_printed p 1 (script_of p) new_stage ended.more ended.text ended.output.output.printed
 
-pub ended_silently : (p : Plan) (f : FleetState) (old new : Option (List ℕ)) → HasEnded p silent f old new →
-    Appends old new []
-ended_silently p f old new ended =
-    subst (Appends old new) (nothing_printed p 1 (script_of p) new_stage ended.more ended.text
+pub ended_silently : (p : Plan) (workers : ℕ) (f : FleetState) (old new : Option (List ℕ)) →
+    HasEnded p (silent_on workers) f old new → Appends old new []
+ended_silently p workers f old new ended =
+    subst (Appends old new) (nothing_printed p workers (script_of p) new_stage ended.more ended.text
     ended.output.output.printed) ended.written
 
 -- or the run is stopped
-pub survey_stopped : (p : Plan) (n : NodeId) (f : FleetState) (old new : Option (List ℕ)) →
-    HasBeenCut p silent n f old new → StopsSurvey p f (Stop.AtLimit n)
-survey_stopped p n f old new cut = (
+pub stopped_silently : (p : Plan) (workers : ℕ) (n : NodeId) (f : FleetState) (old new : Option (List ℕ)) →
+    HasBeenCut p (silent_on workers) n f old new →
+    (more : List Stage) × IsStoppedSilently p workers n more (stopped_text p n) × IsKept p f (end_of more)
+stopped_silently p workers n f old new cut = (
   cut.more,
-  record { cut = subst (IsTheCut p silent n cut.more) none cut.output; told = refl },
+  record { cut = subst (IsTheCut p (silent_on workers) n cut.more) none cut.output; told = refl },
   cut.kept,
 )
   where
     none : cut.text ≡ []
-    none = nothing_printed p 1 (script_of p) new_stage cut.more cut.text cut.output.output.printed
+    none = nothing_printed p workers (script_of p) new_stage cut.more cut.text cut.output.output.printed
 
-pub cut_silently : (p : Plan) (n : NodeId) (f : FleetState) (old new : Option (List ℕ)) →
-    HasBeenCut p silent n f old new → Appends old new []
-cut_silently p n f old new cut =
-    subst (Appends old new) (nothing_printed p 1 (script_of p) new_stage cut.more cut.text cut.output.output.printed)
-    cut.written
+pub cut_silently : (p : Plan) (workers : ℕ) (n : NodeId) (f : FleetState) (old new : Option (List ℕ)) →
+    HasBeenCut p (silent_on workers) n f old new → Appends old new []
+cut_silently p workers n f old new cut =
+    subst (Appends old new) (nothing_printed p workers (script_of p) new_stage cut.more cut.text
+    cut.output.output.printed) cut.written
 
 none_below : (n : ℕ) (text : List ℕ) → text ≡ [] → n < length text → ⊥
 none_below n text none below = let few : n < 0 = subst (λ xs. n < length xs) none below in absurd (omega arith)
 
 -- no part of nothing is written
-pub never_failed : (p : Plan) (old new : Option (List ℕ)) → HasWrittenPart old new (IsBegun p silent) → ⊥
-never_failed p old new part =
-    none_below part.2.0 part.0 (nothing_printed p 1 part.1.printed.0 new_stage part.1.more part.0 part.1.printed.3)
-    part.2.1
+pub never_failed : (p : Plan) (workers : ℕ) (old new : Option (List ℕ)) →
+    HasWrittenPart old new (IsBegun p (silent_on workers)) → ⊥
+never_failed p workers old new part =
+    none_below part.2.0 part.0 (nothing_printed p workers part.1.printed.0 new_stage part.1.more part.0
+    part.1.printed.3) part.2.1
 
-pub begun_silently : (p : Plan) (old new : Option (List ℕ)) → HasWritten old new (IsBegun p silent) →
-    Appends old new []
-begun_silently p old new part =
-    subst (Appends old new) (nothing_printed p 1 part.1.printed.0 new_stage part.1.more part.0 part.1.printed.3) part.2
+pub begun_silently : (p : Plan) (workers : ℕ) (old new : Option (List ℕ)) →
+    HasWritten old new (IsBegun p (silent_on workers)) → Appends old new []
+begun_silently p workers old new part =
+    subst (Appends old new) (nothing_printed p workers part.1.printed.0 new_stage part.1.more part.0
+    part.1.printed.3) part.2

@@ -1,5 +1,5 @@
 -- What the program answers to its words and to its input.
-use Rattle.std.specs.Prelude.{◌≡◌, ◌<◌, ◌≤◌, ◌+◌, ◌⊎◌, ℕ, Bool, true, false, List, [], ◌∷◌, ◌++◌, Option, Some, None, Ok, Err, bytes_eq, codes, length, option_map, take, if◌then◌else◌}
+use Rattle.std.specs.Prelude.{◌≡◌, ◌<◌, ◌≤◌, ◌+◌, ◌⊎◌, ℕ, true, List, [], ◌++◌, Option, Some, None, Ok, Err, codes, length, take}
 use Rattle.std.specs.Io.KnownBytes.{Appends}
 use Rattle.ason_io.specs.Faults.{Rose}
 use Rattle.ason_io.specs.Reading.{HasRead, WasReadToEnd}
@@ -16,32 +16,41 @@ use Rattle.fleet.specs.Standing.{FleetState}
 use Rattle.script_rules.specs.OneWorker.{script_end}
 use Rattle.script_rules.specs.Outputs.{How, Prints, script_of}
 use Rattle.script_rules.specs.Stages.{Stage, new_stage}
-use Rattle.ason_main.specs.Outputs.{IsBegun, IsKept, IsTheOutput, IsTheStoppedOutput, end_of}
+use Rattle.ason_main.specs.Outputs.{IsBegun, IsKept, IsStoppedSilently, IsTheOutput, IsTheStoppedOutput, end_of, silent_on}
 use Rattle.command_words.specs.Paces.{PaceView}
 use Rattle.command_words.specs.Tasks.{task_of}
+use Rattle.command_words.specs.Loads.{LoadView}
+use Rattle.command_words.specs.declared.tasks.Inquiry.{Inquiry}
 use Rattle.command_words.specs.declared.tasks.Question.{Question}
 use Rattle.command_words.specs.declared.tasks.Task.{Task}
 use Rattle.ason_main.specs.Running.{StandsYet}
-use Rattle.ason_main.specs.Surveys.{IsStoppedSurvey, IsTheSurvey, silent}
+use Rattle.ason_main.specs.Loads.{IsTheLoad, IsTheStoppedLoad, load_end}
+use Rattle.ason_main.specs.Surveys.{IsTheSurvey, silent}
+use Rattle.ason_main.specs.Traces.{IsPartOfTrace, IsTheTrace}
+use Rattle.load_plan.specs.LoadParts.{load_parts_of}
+use Rattle.load_plan.specs.declared.parts.LoadParts.{LoadParts}
 use Rattle.plan_reader.specs.PlanTexts.{word_at}
 use Rattle.plan_reader.specs.Plans.{PlanOf}
 
--- what is asked for
+-- what is asked of an input
 pub data Request : Type 0 where
-  Run : (pace : PaceView) → Request  -- to run a plan so
+  Run : (pace : PaceView) → Request  -- to run a plan so, and to tell its tables
+  Trace : (pace : PaceView) → Request  -- to run a plan so, and to tell the trace of its run
   Decode : Request  -- to tell what messages say
   Survey : Request  -- to tell the survey of a plan's last table
   Ask : (question : Question) (from to : List ℕ) → Request  -- to tell this of the nodes of these names
 
--- a task with its words
-abbrev pub request_for : List (List ℕ) → Task → Request
-request_for words (Task.Run pace) = Run pace
-request_for words Task.Decode = Decode
-request_for words Task.Survey = Survey
-request_for words (Task.Ask question) = Ask question (word_at words 1) (word_at words 2)
+-- an inquiry with its words
+abbrev pub request_for : List (List ℕ) → Inquiry → Request
+request_for words (Inquiry.Run pace) = Run pace
+request_for words (Inquiry.Trace pace) = Trace pace
+request_for words Inquiry.Decode = Decode
+request_for words Inquiry.Survey = Survey
+request_for words (Inquiry.Ask question) = Ask question (word_at words 1) (word_at words 2)
 
-abbrev pub request_of : List (List ℕ) → Option Request
-request_of words = option_map (request_for words) (task_of words)
+-- what is generated
+abbrev pub generated : LoadView → LoadParts
+generated load = load_parts_of load.seed load.nodes load.calls
 
 -- Replies
 
@@ -129,6 +138,27 @@ IsRunReply workers bs Usage kept = ⊥
 IsRunReply workers bs ReadFault kept = ⊥
 IsRunReply workers bs TooLong kept = ⊥
 
+-- nothing was told, and if a fleet is kept it stands for some record
+abbrev pub IsNothing : List ℕ → List ℕ → Option FleetState → Type 0
+IsNothing bs text kept = (text ≡ []) × ((kept ≡ None) ⊎ ((p : Plan) × PlanOf bs (Ok p) × MayKeep p kept))
+
+-- what the reply to `run --trace` says of them
+abbrev pub IsTraceReply : ℕ → List ℕ → Reply → Option FleetState → Type 0
+IsTraceReply workers bs (Done text) kept =
+    (p : Plan) × PlanOf bs (Ok p)
+    × ((more : List Stage) × IsTheTrace p workers bs more text × HasKept p kept (end_of more))
+IsTraceReply workers bs (PlanRefused text) kept = IsRefused bs text kept
+IsTraceReply workers bs (EventLimit text) kept =
+    (p : Plan) × PlanOf bs (Ok p)
+    × ((n : NodeId) × (more : List Stage) × IsStoppedSilently p workers n more text × HasKept p kept (end_of more))
+IsTraceReply workers bs (Unfinished text) kept =
+    IsNothing bs text kept
+    ⊎ ((p : Plan) × PlanOf bs (Ok p)
+    × ((more : List Stage) × IsPartOfTrace p workers bs more text × HasKept p kept (end_of more)))
+IsTraceReply workers bs Usage kept = ⊥
+IsTraceReply workers bs ReadFault kept = ⊥
+IsTraceReply workers bs TooLong kept = ⊥
+
 -- what the reply to `survey` says of them
 abbrev pub IsSurveyReply : List ℕ → Reply → Option FleetState → Type 0
 IsSurveyReply bs (Done text) kept =
@@ -137,9 +167,8 @@ IsSurveyReply bs (Done text) kept =
 IsSurveyReply bs (PlanRefused text) kept = IsRefused bs text kept
 IsSurveyReply bs (EventLimit text) kept =
     (p : Plan) × PlanOf bs (Ok p)
-    × ((n : NodeId) × (more : List Stage) × IsStoppedSurvey p n more text × HasKept p kept (end_of more))
-IsSurveyReply bs (Unfinished text) kept =
-    (text ≡ []) × ((kept ≡ None) ⊎ ((p : Plan) × PlanOf bs (Ok p) × MayKeep p kept))
+    × ((n : NodeId) × (more : List Stage) × IsStoppedSilently p 1 n more text × HasKept p kept (end_of more))
+IsSurveyReply bs (Unfinished text) kept = IsNothing bs text kept
 IsSurveyReply bs Usage kept = ⊥
 IsSurveyReply bs ReadFault kept = ⊥
 IsSurveyReply bs TooLong kept = ⊥
@@ -172,9 +201,23 @@ IsAskReply question from to bs TooLong = ⊥
 -- what the reply to this says of them; a fleet is kept where a run was made alone
 abbrev pub IsJudged : Request → List ℕ → Reply → Option FleetState → Type 0
 IsJudged (Run pace) bs r kept = IsRunReply pace.workers bs r kept
+IsJudged (Trace pace) bs r kept = IsTraceReply pace.workers bs r kept
 IsJudged Decode bs r kept = IsDecodeReply bs r × (kept ≡ None)
 IsJudged Survey bs r kept = IsSurveyReply bs r kept
 IsJudged (Ask question from to) bs r kept = IsAskReply question from to bs r × (kept ≡ None)
+
+-- Loads
+
+-- what the reply to `load` says of the fleet that is kept
+abbrev pub IsLoadReply : LoadParts → Reply → Option FleetState → Type 0
+IsLoadReply l (Done text) kept = (more : List Stage) × IsTheLoad l more text × HasKept l.plan kept (end_of more)
+IsLoadReply l (EventLimit text) kept =
+    (n : NodeId) × (more : List Stage) × IsTheStoppedLoad l n more text × HasKept l.plan kept (end_of more)
+IsLoadReply l (Unfinished text) kept = (text ≡ []) × MayKeep l.plan kept
+IsLoadReply l (PlanRefused text) kept = ⊥
+IsLoadReply l Usage kept = ⊥
+IsLoadReply l ReadFault kept = ⊥
+IsLoadReply l TooLong kept = ⊥
 
 -- Reading
 
@@ -208,19 +251,22 @@ IsReplyFor left handed ended faults old new k (Unfinished text) kept =
 IsReplyFor left handed ended faults old new k TooLong kept =
     HasRead left handed old new (λ n. n ≡ 4194304 + 1) × (kept ≡ None)
 
--- where the words have no meaning the reply is the usage, and nothing is read
+-- where the words have no meaning the reply is the usage; there and for a load nothing is read
 abbrev pub IsReplyTo :
-    {S : Type 0} → (S → Option (List ℕ)) → (S → List ℕ → S → Type 0) → (S → Type 0) → (S → ℕ) → S → S →
-    Reply → Option FleetState → Option Request → Type 0
-IsReplyTo left handed ended faults old new r kept None = (r ≡ Usage) × (new ≡ old) × (kept ≡ None)
-IsReplyTo left handed ended faults old new r kept (Some k) = IsReplyFor left handed ended faults old new k r kept
+    {S : Type 0} → (S → Option (List ℕ)) → (S → List ℕ → S → Type 0) → (S → Type 0) → (S → ℕ) →
+    List (List ℕ) → S → S → Reply → Option FleetState → Option Task → Type 0
+IsReplyTo left handed ended faults words old new r kept None = (r ≡ Usage) × (new ≡ old) × (kept ≡ None)
+IsReplyTo left handed ended faults words old new r kept (Some (Task.Load load)) =
+    IsLoadReply (generated load) r kept × (new ≡ old)
+IsReplyTo left handed ended faults words old new r kept (Some (Task.Of inquiry)) =
+    IsReplyFor left handed ended faults old new (request_for words inquiry) r kept
 
 -- what the reply says of the words, the source, and the fleet that is kept
 abbrev pub IsReply :
     {S : Type 0} → (S → Option (List ℕ)) → (S → List ℕ → S → Type 0) → (S → Type 0) → (S → ℕ) →
     List (List ℕ) → S → S → Reply → Option FleetState → Type 0
 IsReply left handed ended faults words old new r kept =
-    IsReplyTo left handed ended faults old new r kept (request_of words)
+    IsReplyTo left handed ended faults words old new r kept (task_of words)
 
 -- Writing
 
@@ -245,6 +291,12 @@ abbrev pub IsAnswered : {K : Type 0} → (K → Option (List ℕ)) → (K → �
     Option FleetState → Status → Type 0
 IsAnswered written faults k bs old new kept s =
     (r : Reply) × IsJudged k bs r kept × WasGiven written faults old new r s
+
+-- a reply to `load` was given
+abbrev pub IsLoadAnswered : {K : Type 0} → (K → Option (List ℕ)) → (K → ℕ) → LoadParts → K → K →
+    Option FleetState → Status → Type 0
+IsLoadAnswered written faults l old new kept s =
+    (r : Reply) × IsLoadReply l r kept × WasGiven written faults old new r s
 
 -- How it ends
 
@@ -271,6 +323,7 @@ IsDoneOrOutOfMemory s = (s ≡ Status.Done) ⊎ (s ≡ Status.OutOfMemory)
 -- how what is asked for ends on these bytes: `decode` always, the others for a plan without fault
 abbrev pub EndsWell : Request → List ℕ → Status → Type 0
 EndsWell (Run pace) bs s = (p : Plan) → PlanOf bs (Ok p) → IsEnd p (printing pace.workers) s
+EndsWell (Trace pace) bs s = (p : Plan) → PlanOf bs (Ok p) → IsEnd p (silent_on pace.workers) s
 EndsWell Decode bs s = IsDoneOrOutOfMemory s
 EndsWell Survey bs s = (p : Plan) → PlanOf bs (Ok p) → IsEnd p silent s
 EndsWell (Ask question from to) bs s = (p : Plan) → PlanOf bs (Ok p) → IsDoneOrOutOfMemory s
@@ -279,10 +332,23 @@ EndsWell (Ask question from to) bs s = (p : Plan) → PlanOf bs (Ok p) → IsDon
 abbrev pub EndsTooLong : Status → Type 0
 EndsTooLong s = (s ≡ Status.TooLong) ⊎ (s ≡ Status.OutOfMemory)
 
--- words with a meaning, and no end that fails
+-- words that ask something of an input, and no end that fails
 abbrev pub IsComplete :
     {S K : Type 0} → (S → Option (List ℕ)) → (S → ℕ) → (K → ℕ) → List (List ℕ) → S → S → K → K → Status → Type 0
 IsComplete left faults sink_faults words old new sink_old sink_new s =
-    (k : Request) → request_of words ≡ Some k → (bs : List ℕ) → left old ≡ Some bs →
+    (inquiry : Inquiry) → task_of words ≡ Some (Task.Of inquiry) → (bs : List ℕ) → left old ≡ Some bs →
     ¬ Rose (faults old) (faults new) → ¬ Rose (sink_faults sink_old) (sink_faults sink_new) →
-    (length bs ≤ 4194304 → EndsWell k bs s) × (4194304 < length bs → EndsTooLong s)
+    (length bs ≤ 4194304 → EndsWell (request_for words inquiry) bs s) × (4194304 < length bs → EndsTooLong s)
+
+-- how a load ends: done where its script comes to the end, the event limit where it doesn't, or want of memory
+abbrev pub EndsLoad : LoadParts → Status → Type 0
+EndsLoad l s =
+    ((s ≡ Status.Done) × ((load_end l).stopped ≡ None))
+    ⊎ (((s ≡ Status.EventLimit) × ((n : NodeId) × ((load_end l).stopped ≡ Some n)))
+    ⊎ (s ≡ Status.OutOfMemory))
+
+-- words that ask for a load, and no end that fails
+abbrev pub IsCompleteLoad : {K : Type 0} → (K → ℕ) → List (List ℕ) → K → K → Status → Type 0
+IsCompleteLoad sink_faults words old new s =
+    (load : LoadView) → task_of words ≡ Some (Task.Load load) → ¬ Rose (sink_faults old) (sink_faults new) →
+    EndsLoad (generated load) s

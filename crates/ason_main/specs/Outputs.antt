@@ -1,5 +1,5 @@
 -- What the program makes and prints of a plan.
-use Rattle.std.specs.Prelude.{◌≡◌, ◌≤◌, ℕ, List, ◌∷◌, ◌++◌, Option, Some, None, length}
+use Rattle.std.specs.Prelude.{◌≡◌, ◌≤◌, ℕ, false, List, [], ◌∷◌, ◌++◌, Option, Some, None, length}
 use Rattle.std.specs.List.{AllByRecursion}
 use Rattle.ason_io.specs.Faults.{Rose}
 use Rattle.ason_base.specs.declared.ids.NodeId.{NodeId}
@@ -71,6 +71,16 @@ pub record IsTheStoppedOutput (p : Plan) (how : How) (n : NodeId) (more : List S
   pub told : List ℕ
   pub cut : IsTheCut p how n more told
   pub all : text ≡ told ++ stopped_text p n
+
+-- Runs of which nothing is printed
+
+abbrev pub silent_on : ℕ → How
+silent_on workers = record { workers = workers; tables = false }
+
+-- of a run that is stopped at the limit of this node the line of the stop is told alone
+pub record IsStoppedSilently (p : Plan) (workers : ℕ) (n : NodeId) (more : List Stage) (text : List ℕ) : Type 0 where
+  pub cut : IsTheCut p (silent_on workers) n more []
+  pub told : text ≡ stopped_text p n
 
 -- What a run leaves
 

@@ -1,5 +1,5 @@
 -- What the program tells of the last table of a plan's run: what fails together, and which calls would contend.
-use Rattle.std.specs.Prelude.{◌≡◌, ◌≢◌, ◌↔◌, ℕ, Bool, false, List, [], ◌∷◌, ◌++◌, Some, None, IsTrue}
+use Rattle.std.specs.Prelude.{◌≡◌, ◌≢◌, ◌↔◌, ℕ, Bool, List, [], ◌∷◌, ◌++◌, IsTrue}
 use Rattle.std.specs.List.{AllByRecursion, list_all}
 use Rattle.ason_base.specs.declared.calls.LegRow.{LegRow}
 use Rattle.ason_base.specs.declared.calls.TableRows.{TableRows}
@@ -30,7 +30,7 @@ use Rattle.plan_reader.specs.declared.plan.Plan.{Plan}
 use Rattle.table_text.specs.SurveyText.{survey_text}
 use Rattle.table_text.specs.TableText.{stopped_text}
 use Rattle.ason_main.specs.declared.runner.stops.Stop.{Stop}
-use Rattle.ason_main.specs.Outputs.{IsCutShort, IsKept, IsOutput, IsTheCut, end_of}
+use Rattle.ason_main.specs.Outputs.{IsCutShort, IsKept, IsOutput, IsStoppedSilently, end_of, silent_on}
 use Rattle.ason_main.specs.Running.{StandsYet}
 
 -- The text
@@ -75,7 +75,7 @@ pub record CalmHolds (t : Network) (events : List MeshEvent) (rows : TableRows) 
 
 -- a run of which nothing is printed, with one worker
 abbrev pub silent : How
-silent = record { workers = 1; tables = false }
+silent = silent_on 1
 
 -- however its logs and posts are merged, the mesh to which the record's run leads has these rows, and this holds of it
 abbrev pub HoldsOf : Network → Record → TableRows → Type 0
@@ -94,15 +94,10 @@ pub record IsTheSurvey (p : Plan) (more : List Stage) (text : List ℕ) : Type 0
   pub only : (others : List Stage) (other : List ℕ) → IsSurveyed p others other → AreSame others more other text
   pub never_stopped : (n : NodeId) (others : List Stage) → ¬ IsCutShort p silent n others []
 
--- of a run that is stopped at the limit of this node the line of the stop is told alone
-pub record IsStoppedSurvey (p : Plan) (n : NodeId) (more : List Stage) (text : List ℕ) : Type 0 where
-  pub cut : IsTheCut p silent n more []
-  pub told : text ≡ stopped_text p n
-
 -- why there is no survey
 abbrev pub StopsSurvey : Plan → FleetState → Stop → Type 0
 StopsSurvey p f (Stop.AtLimit n) =
-    (more : List Stage) × IsStoppedSurvey p n more (stopped_text p n) × IsKept p f (end_of more)
+    (more : List Stage) × IsStoppedSilently p 1 n more (stopped_text p n) × IsKept p f (end_of more)
 StopsSurvey p f Stop.Failed = ⊥
 StopsSurvey p f Stop.OutOfMemory = StandsYet p.topology f
 

@@ -1,31 +1,32 @@
-//! The top call: reads an input, and writes what a plan's network came to, the survey of its last table, its routes,
-//! its best pair of them, or what messages say.
+//! The top call: reads an input, and writes what a plan's network came to, its trace, the survey of its last table, its
+//! routes, its best pair of them, or what messages say; or runs a generated plan.
 
-ghost use Rattle.std.specs.Prelude.{◌≡◌, ℕ, List, [], None, Some, Ok, Err, IfOk, map, string_bytes};
+ghost use Rattle.std.specs.Prelude.{◌≡◌, ℕ, List, [], None, Some, Ok, IfOk, map, string_bytes};
 ghost use Rattle.ason_base.specs.Network.{IsTopology};
-ghost use Rattle.ason_main.specs.Answers.{Ask, Decode, IsAnswered, IsComplete, IsReply, IsTold, Reply, Run, Survey};
-ghost use Rattle.ason_main.specs.Answers.{WasGiven, WasTold, WasToldOrNothing, exit_status, request_for};
-ghost use Rattle.command_words.specs.Paces.{PaceView};
+ghost use Rattle.ason_main.specs.Answers.{Ask, Decode, IsAnswered, IsComplete, IsCompleteLoad, IsReply, IsReplyFor};
+ghost use Rattle.ason_main.specs.Answers.{IsTold, Reply, Run, Survey, Trace, WasGiven, exit_status, request_for};
 ghost use Rattle.plan_reader.specs.PlanTexts.{word_at};
 ghost use Rattle.plan_reader.specs.Plans.{ArePostable, PlanOf};
-ghost use Rattle.table_text.specs.TableText.{stopped_text};
 ghost use Rattle.round_rules.specs.Records.{new_record};
 ghost use Rattle.fleet.specs.Standing.{StandsFor};
 
 use crate::host::Host;
+use crate::loads::load;
 use crate::runner::run::{Ran, run_plan};
 use crate::runner::stops::Stop;
 use crate::surveying::survey_of;
-use ason_base::{NodeId, OutOfMemory};
-use ason_io::{Gate, ReadAllFault, Sink, Source, read_all, write_all};
-use command_words::{Pace, Question, Task, task_of};
+use crate::telling::{refuse, tell, tell_stop};
+use crate::traces::trace;
+use ason_base::OutOfMemory;
+use ason_io::{Gate, ReadAllFault, Sink, Source, read_all};
+use command_words::{Inquiry, Pace, Question, Task, task_of};
 use fleet::Fleet;
 use message_text::decode_text;
-use plan_reader::{Plan, PlanError, PlanFault, read_plan};
+use plan_reader::{Plan, PlanError, read_plan};
 use std::alloc::Global;
 use std::sync::Wait;
 use std::thread::Threads;
-use table_text::{best_text, refused_text, route_text, write_stopped};
+use table_text::{best_text, route_text};
 
 /// The most bytes of an input.
 const LIMIT: usize = 4_194_304;
@@ -38,7 +39,8 @@ const USAGE: &[u8] =
 /// How a command ended, with the process's exit status as its number.
 #[derive(Clone, Copy, Debug, PartialEq, Eq, Drop)]
 pub enum Status {
-    /// The plan was run and its tables written, or its survey, its routes, its best pair or what the messages say: 0.
+    /// The plan was run and its tables written, or its trace, its survey, its routes, its best pair, what the messages
+    /// say, or what became of a generated plan's calls: 0.
     Done,
     /// The words have no meaning; nothing was read: 2.
     Usage,
@@ -81,28 +83,6 @@ fn word_at(words: &[String], place: usize) -> &str
     match words.get(place) {
         None => "",
         Some(word) => word.as_str(),
-    }
-}
-
-// Writes the text. The status is this one, or that of a sink that failed.
-fn tell<K: Sink>(out: &mut K, text: &[u8], status: Status) -> Status
-    ensures { WasTold K.written K.faults out.old out.new text.now status result }
-{
-    match write_all(out, text) {
-        Ok(()) => status,
-        Err(_) => Status::WriteFault,
-    }
-}
-
-// Writes the line of the node at its limit.
-fn tell_stop<K: Sink>(alloc: Global, plan: &Plan, node: NodeId, out: &mut K) -> Status
-    ensures { WasToldOrNothing K.written K.faults out.old out.new
-        (stopped_text plan.now node) Status.EventLimit result }
-{
-    let mut text = Vec::new(alloc);
-    match write_stopped(alloc, &mut text, plan, node) {
-        Ok(()) => tell(out, &text, Status::EventLimit),
-        Err(OutOfMemory) => Status::OutOfMemory,
     }
 }
 
@@ -196,21 +176,6 @@ fn survey<R: Threads + Wait + Sync, K: Sink, G: Gate>(
     }
 }
 
-// Tells the fault of what is no plan.
-fn refuse<K: Sink>(alloc: Global, fault: PlanFault, out: &mut K) -> Status
-    ensures run { (bs : List ℕ) (pace : PaceView) → PlanOf bs (Err fault)
-        → IsAnswered K.written K.faults (Run pace) bs out.old out.new None result }
-    ensures survey { (bs : List ℕ) → PlanOf bs (Err fault)
-        → IsAnswered K.written K.faults Survey bs out.old out.new None result }
-    ensures ask { (question : Question) (bs from to : List ℕ) → PlanOf bs (Err fault)
-        → IsAnswered K.written K.faults (Ask question from to) bs out.old out.new None result }
-{
-    match refused_text(alloc, fault) {
-        Ok(text) => tell(out, &text, Status::PlanRefused),
-        Err(OutOfMemory) => Status::OutOfMemory,
-    }
-}
-
 // What `run` answers of the input.
 fn run_input<R: Threads + Wait + Sync, K: Sink, G: Gate>(
     host: &Host<R, G>,
@@ -224,6 +189,24 @@ fn run_input<R: Threads + Wait + Sync, K: Sink, G: Gate>(
 {
     match read_plan(host.alloc, bytes) {
         Ok(plan) => run(host, &plan, pace, out, kept),
+        Err(PlanError::Fault(fault)) => refuse(host.alloc, fault, out),
+        Err(PlanError::OutOfMemory) => Status::OutOfMemory,
+    }
+}
+
+// What `run --trace` answers of the input.
+fn trace_input<R: Threads + Wait + Sync, K: Sink, G: Gate>(
+    host: &Host<R, G>,
+    pace: Pace,
+    bytes: &[u8],
+    out: &mut K,
+    kept: &mut Option<Fleet>,
+) -> Status
+    requires { kept.old ≡ None }
+    ensures { IsAnswered K.written K.faults (Trace pace) bytes.now out.old out.new kept.new result }
+{
+    match read_plan(host.alloc, bytes) {
+        Ok(plan) => trace(host, &plan, bytes, pace, out, kept),
         Err(PlanError::Fault(fault)) => refuse(host.alloc, fault, out),
         Err(PlanError::OutOfMemory) => Status::OutOfMemory,
     }
@@ -315,27 +298,51 @@ fn ask_input<K: Sink>(
 fn judge<R: Threads + Wait + Sync, K: Sink, G: Gate>(
     host: &Host<R, G>,
     words: &[String],
-    task: Task,
+    inquiry: Inquiry,
     bytes: &[u8],
     out: &mut K,
     kept: &mut Option<Fleet>,
 ) -> Status
     requires { kept.old ≡ None }
-    ensures { IsAnswered K.written K.faults (request_for (map string_bytes words.now) task)
+    ensures { IsAnswered K.written K.faults (request_for (map string_bytes words.now) inquiry)
         bytes.now out.old out.new kept.new result }
 {
-    match task {
-        Task::Run(pace) => run_input(host, pace, bytes, out, kept),
-        Task::Decode => decode_input(host.alloc, bytes, out),
-        Task::Survey => survey_input(host, bytes, out, kept),
-        Task::Ask(question) => {
+    match inquiry {
+        Inquiry::Run(pace) => run_input(host, pace, bytes, out, kept),
+        Inquiry::Trace(pace) => trace_input(host, pace, bytes, out, kept),
+        Inquiry::Decode => decode_input(host.alloc, bytes, out),
+        Inquiry::Survey => survey_input(host, bytes, out, kept),
+        Inquiry::Ask(question) => {
             let from = word_at(words, 1);
             ask_input(host.alloc, question, from, word_at(words, 2), bytes, out)
         }
     }
 }
 
-// Reads the input, and answers.
+// Reads the input, and answers what is asked of it.
+fn read<R: Threads + Wait + Sync, S: Source, K: Sink, G: Gate>(
+    host: &Host<R, G>,
+    words: &[String],
+    inquiry: Inquiry,
+    src: &mut S,
+    out: &mut K,
+    kept: &mut Option<Fleet>,
+) -> Status
+    requires { kept.old ≡ None }
+    ensures { (r : Reply)
+        × IsReplyFor S.left S.handed S.ended S.faults src.old src.new
+        (request_for (map string_bytes words.now) inquiry) r kept.new
+        × WasGiven K.written K.faults out.old out.new r result }
+{
+    match read_all(host.alloc, src, LIMIT) {
+        Ok(bytes) => judge(host, words, inquiry, &bytes, out, kept),
+        Err(ReadAllFault::Failed) => Status::ReadFault,
+        Err(ReadAllFault::OutOfMemory) => Status::OutOfMemory,
+        Err(ReadAllFault::TooLong) => tell(out, b"refused input too long\n", Status::TooLong),
+    }
+}
+
+// Answers the words.
 fn answer<R: Threads + Wait + Sync, S: Source, K: Sink, G: Gate>(
     host: &Host<R, G>,
     words: &[String],
@@ -351,23 +358,24 @@ fn answer<R: Threads + Wait + Sync, S: Source, K: Sink, G: Gate>(
     let Some(task) = task_of(words) else {
         return tell(out, USAGE, Status::Usage);
     };
-    match read_all(host.alloc, src, LIMIT) {
-        Ok(bytes) => judge(host, words, task, &bytes, out, kept),
-        Err(ReadAllFault::Failed) => Status::ReadFault,
-        Err(ReadAllFault::OutOfMemory) => Status::OutOfMemory,
-        Err(ReadAllFault::TooLong) => tell(out, b"refused input too long\n", Status::TooLong),
+    match task {
+        Task::Load(what) => load(host, what, out, kept),
+        Task::Of(inquiry) => read(host, words, inquiry, src, out, kept),
     }
 }
 
 /// Answers the words, those after the program's name. `run` reads a plan, runs its script and writes what each line
-/// prints as it is done, or tells the plan's first fault. `survey` reads a plan and runs it so, prints nothing of that,
-/// and writes the survey of its last table, or the first fault. `route` and two names read a plan and write the least
-/// route between these nodes, its backup and the potentials, or the first fault. `best` and two names read one and
-/// write the pair of disjoint routes with the least total, or that there is none, and that its certificate was
-/// accepted, or the first fault. `decode` reads lines of RSVP messages in hexadecimal and writes what each says. If the
-/// sink fails the status is `WriteFault`; after that and after `OutOfMemory` a first part is written. After `Done` and
-/// `EventLimit` of `run` and of `survey` the fleet that made the run is kept, with its logs and posts; after
-/// `WriteFault` and `OutOfMemory` it is that fleet or none, and after all else none.
+/// prints as it is done, or tells the plan's first fault; with `--trace` it prints nothing of that, and writes the
+/// trace of the run in its place. `load` with a seed and how many nodes and calls reads nothing, runs the plan that is
+/// drawn from the seed, and writes after each part of its script how many calls are in each state. `survey` reads a
+/// plan and runs it so, prints nothing of that, and writes the survey of its last table, or the first fault. `route`
+/// and two names read a plan and write the least route between these nodes, its backup and the potentials, or the first
+/// fault. `best` and two names read one and write the pair of disjoint routes with the least total, or that there is
+/// none, and that its certificate was accepted, or the first fault. `decode` reads lines of RSVP messages in
+/// hexadecimal and writes what each says. If the sink fails the status is `WriteFault`; after that and after
+/// `OutOfMemory` a first part is written. After `Done` and `EventLimit` of `run`, `load` and `survey` the fleet that
+/// made the run is kept, with its logs and posts; after `WriteFault` and `OutOfMemory` it is that fleet or none, and
+/// after all else none.
 pub fn ason<R: Threads + Wait + Sync, S: Source, K: Sink, G: Gate>(
     rt: &R,
     alloc: Global,
@@ -383,6 +391,7 @@ pub fn ason<R: Threads + Wait + Sync, S: Source, K: Sink, G: Gate>(
         × WasGiven K.written K.faults out.old out.new r result }
     ensures complete { IsComplete S.left S.faults K.faults (map string_bytes words.now)
         src.old src.new out.old out.new result }
+    ensures loads { IsCompleteLoad K.faults (map string_bytes words.now) out.old out.new result }
 {
     answer(&Host { rt, alloc, gate }, words, src, out, kept)
 }

@@ -1,12 +1,16 @@
-//! What `ason` does with its words and its input: it runs plans over a fleet of stations, and tells surveys,
-//! routes and messages.
+//! What `ason` does with its words and its input: it runs plans over a fleet of stations, plans that are read and plans
+//! that it generates, and tells tables, traces, surveys, routes and messages.
 #![tactic(auto)]
 
 pub mod answers;
 mod host;
 mod laws;
+mod loading;
+mod loads;
 mod runner;
 mod surveying;
+mod telling;
+mod traces;
 
 pub use answers::{Status, ason};
 pub use runner::run::{Ran, run_plan};

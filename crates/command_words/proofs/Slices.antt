@@ -1,43 +1,31 @@
--- The first words of a slice.
-use Rattle.std.proofs.Common.{◌≡◌, ℕ, ◌-◌, ◌<◌, ◌≤◌, List, [], ◌∷◌, None, Option, Some, String, length, map}
-use Rattle.std.proofs.Common.{string_bytes, take, drop, get_or, ap, sym, ◌∙◌, arith}
-use Rattle.std.proofs.lemmas.List.{take_all}
+-- The words of a slice.
+use Rattle.std.proofs.Common.{◌≡◌, ◌∙◌, ◌<◌, ◌≤◌, List, [], ◌∷◌, None, Option, String, arith, length, map, refl, string_bytes, sym, ap}
 use Rattle.std.specs.Global.{Global}
-use Rattle.command_words.proofs.Reading.{after_options, one-more, read_words}
-use Rattle.command_words.specs.Given.{after_option}
+use Rattle.command_words.proofs.Reading.{after_options, no-more, read_words}
+use Rattle.command_words.specs.Given.{next_given}
+use Rattle.command_words.specs.Loads.{load_of}
 use Rattle.command_words.specs.declared.options.Given.{Given}
-use Rattle.command_words.specs.Paces.{PaceView}
+use Rattle.command_words.specs.declared.options.RunOptions.{RunOptions}
 
-two_words :
-    (xs : List (String Global)) (d e : String Global) → 2 ≤ length xs →
-    map string_bytes xs
-    ≡ string_bytes (get_or xs 0 d) ∷ string_bytes (get_or xs 1 e)
-    ∷ map string_bytes (take (length xs - 2) (drop 2 xs))
-two_words [] d e h = absurd (omega arith)
-two_words (x ∷ []) d e h = absurd (omega arith)
-two_words (x ∷ y ∷ xs) d e h =
-    ap (λ (ys : List (String Global)). string_bytes x ∷ string_bytes y ∷ map string_bytes ys)
-    (sym (take_all (length (x ∷ y ∷ xs) - 2) xs (omega arith)))
-
--- an option and its value are read
-pub option-read :
-    (said : Option PaceView) (xs : List (String Global)) (r v : String Global) (g h : Given) → 2 ≤ length xs →
-    r ≡ get_or xs 0 r → v ≡ get_or xs 1 v → after_option g (string_bytes r) (string_bytes v) ≡ Some h →
-    read_words (after_options (map string_bytes xs) g) ≡ said →
-    read_words (after_options (map string_bytes (take (length xs - 2) (drop 2 xs))) h) ≡ said
-option-read said xs r v g h some is_r is_v after so_far =
-    let others : List (List ℕ) = map string_bytes (take (length xs - 2) (drop 2 xs)) in
-    let head : map string_bytes xs ≡ string_bytes r ∷ string_bytes v ∷ others =
-    two_words xs r v some
-    ∙ (ap (λ (z : String Global). string_bytes z ∷ string_bytes (get_or xs 1 v) ∷ others) (sym is_r)
-    ∙ ap (λ (z : String Global). string_bytes r ∷ string_bytes z ∷ others) (sym is_v)) in
-    sym (ap read_words (ap (λ (ws : List (List ℕ)). after_options ws g) head
-    ∙ one-more (string_bytes r) (string_bytes v) others g h after)) ∙ so_far
-
--- one word that is left is no option
-pub one-left :
-    (said : Option PaceView) (xs : List (String Global)) (g : Given) → 1 ≤ length xs → length xs < 2 →
+-- words of which the first is no option have no meaning
+pub no-option :
+    (said : Option RunOptions) (xs : List (String Global)) (g : Given) → 1 ≤ length xs →
+    None ≡ next_given g (map string_bytes xs) →
     read_words (after_options (map string_bytes xs) g) ≡ said → None ≡ said
-one-left said [] g some few so_far = absurd (omega arith)
-one-left said (x ∷ []) g some few so_far = so_far
-one-left said (x ∷ y ∷ xs) g some few so_far = absurd (omega arith)
+no-option said [] g some none so_far = absurd (omega (arith, some))
+no-option said (x ∷ xs) g some none so_far =
+    sym (ap read_words (no-more (string_bytes x) (map string_bytes xs) g (sym none))) ∙ so_far
+
+-- neither fewer nor more than three words ask for a load
+pub few_words : (xs : List (String Global)) → length xs < 3 → None ≡ load_of (map string_bytes xs)
+few_words [] few = refl
+few_words (s ∷ []) few = refl
+few_words (s ∷ n ∷ []) few = refl
+few_words (s ∷ n ∷ c ∷ xs) few = absurd (omega (arith, few))
+
+pub many_words : (xs : List (String Global)) → 4 ≤ length xs → None ≡ load_of (map string_bytes xs)
+many_words [] many = absurd (omega (arith, many))
+many_words (s ∷ []) many = absurd (omega (arith, many))
+many_words (s ∷ n ∷ []) many = absurd (omega (arith, many))
+many_words (s ∷ n ∷ c ∷ []) many = absurd (omega (arith, many))
+many_words (s ∷ n ∷ c ∷ x ∷ xs) many = refl

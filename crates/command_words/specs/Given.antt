@@ -1,20 +1,24 @@
 -- What was given of the options of `run` so far.
-use Rattle.std.specs.Prelude.{ℕ, ◌≤◌, List, Option, Some, None, IfSome, bytes_eq, codes, is_some, unwrap_or}
+use Rattle.std.specs.Prelude.{ℕ, true, List, [], ◌∷◌, Option, Some, None, IfSome, bytes_eq, codes, is_some, map, string_bytes, unwrap_or}
 use Rattle.std.specs.Prelude.{if◌then◌else◌}
-use Rattle.command_words.specs.Options.{number_in}
+use Rattle.std.specs.Borrow.{Bor}
+use Rattle.std.specs.Global.{Global}
+use Rattle.std.specs.Prelude.{String}
+use Rattle.command_words.specs.Numbers.{Between, number_in}
+use Rattle.command_words.specs.Options.{is_trace}
 use Rattle.command_words.specs.declared.options.Given.{Given}
-use Rattle.command_words.specs.Paces.{PaceView}
-
-abbrev pub Between : ℕ → ℕ → ℕ → Type 0
-Between least most n = (least ≤ n) × (n ≤ most)
+use Rattle.command_words.specs.declared.options.RunOptions.{RunOptions}
 
 -- what was given is within its limits
 pub record AreGiven (g : Given) : Type 0 where
   pub workers : IfSome g.workers (Between 1 16)
   pub stride : IfSome g.stride (Between 1 64)
 
-abbrev pub pace_given : Given → PaceView
-pace_given g = record { workers = unwrap_or g.workers 1; stride = unwrap_or g.stride 1 }
+abbrev pub run_given : Given → RunOptions
+run_given g = record {
+  pace = record { workers = unwrap_or g.workers 1; stride = unwrap_or g.stride 1 };
+  trace = g.trace;
+}
 
 abbrev pub with_workers : Given → Option ℕ → Option Given
 with_workers g None = None
@@ -24,8 +28,32 @@ abbrev pub with_stride : Given → Option ℕ → Option Given
 with_stride g None = None
 with_stride g (Some n) = Some (record g { stride = Some n })
 
-abbrev pub after_option : Given → List ℕ → List ℕ → Option Given
-after_option g w v =
+abbrev pub with_trace : Given → Option Given
+with_trace g = if g.trace then None else Some (record g { trace = true })
+
+-- with an option that has a value
+abbrev pub after_value : Given → List ℕ → List ℕ → Option Given
+after_value g w v =
     if bytes_eq w (codes "--workers") then (if is_some g.workers then None else with_workers g (number_in 1 16 v))
     else if bytes_eq w (codes "--stride") then (if is_some g.stride then None else with_stride g (number_in 1 64 v))
     else None
+
+-- what is given then, and the words that are left
+abbrev pub Next : Type 0
+Next = Given × List (List ℕ)
+
+abbrev pub before_words : List (List ℕ) → Option Given → Option Next
+before_words ws None = None
+before_words ws (Some g) = Some (g, ws)
+
+-- with the first option of these words
+abbrev pub next_given : Given → List (List ℕ) → Option Next
+next_given g [] = None
+next_given g (w ∷ []) = if is_trace w then before_words [] (with_trace g) else None
+next_given g (w ∷ v ∷ ws) =
+    if is_trace w then before_words (v ∷ ws) (with_trace g) else before_words ws (after_value g w v)
+
+-- Views
+
+abbrev pub next_now : Given × Bor (List (String Global)) → Next
+next_now next = (next.0, map string_bytes next.1.now)

@@ -1,8 +1,11 @@
 //! What the words behind the program's name ask for.
 #![tactic(auto)]
 
+pub mod loads;
+mod numbers;
 pub mod options;
 pub mod tasks;
 
+pub use loads::Load;
 pub use options::Pace;
-pub use tasks::{Question, Task, task_of};
+pub use tasks::{Inquiry, Question, Task, task_of};

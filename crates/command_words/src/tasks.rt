@@ -1,15 +1,27 @@
 //! The commands.
 
 ghost use Rattle.std.specs.Prelude.{◌≡◌, map, string_bytes};
-ghost use Rattle.command_words.specs.Tasks.{asked, command_of, only_if, run_task, task_of};
+ghost use Rattle.command_words.specs.Tasks.{alone, asked, command_of, load_task, run_inquiry, run_task, task_of};
 
-use crate::options::{Pace, pace_of};
+use crate::loads::{Load, load_of};
+use crate::options::{Pace, RunOptions, run_of};
 
 /// What the words ask for.
 #[derive(Clone, Copy, Drop)]
 pub enum Task {
-    /// To run a plan.
+    /// To judge an input.
+    Of(Inquiry),
+    /// To run a generated plan, for which nothing is read.
+    Load(Load),
+}
+
+/// What is asked of an input.
+#[derive(Clone, Copy, Drop)]
+pub enum Inquiry {
+    /// To run a plan, and to tell its tables.
     Run(Pace),
+    /// To run a plan, and to tell the trace of its run.
+    Trace(Pace),
     /// To tell what messages say.
     Decode,
     /// To tell the survey of a plan's last table.
@@ -27,18 +39,41 @@ pub enum Question {
     Best,
 }
 
+fn run_inquiry(said: RunOptions) -> Inquiry
+    ensures { result ≡ run_inquiry said }
+{
+    if said.trace {
+        Inquiry::Trace(said.pace)
+    } else {
+        Inquiry::Run(said.pace)
+    }
+}
+
 // To run a plan with these options, where they have a meaning.
 fn run_task(words: &[String]) -> Option<Task>
     ensures { result ≡ run_task (map string_bytes words.now) }
 {
-    let pace = pace_of(words)?;
-    Some(Task::Run(pace))
+    let said = run_of(words)?;
+    Some(Task::Of(run_inquiry(said)))
 }
 
-fn only_if(holds: bool, task: Task) -> Option<Task>
-    ensures { result ≡ only_if holds task }
+// To run a plan that is generated so, where this has a meaning.
+fn load_task(words: &[String]) -> Option<Task>
+    ensures { result ≡ load_task (map string_bytes words.now) }
 {
-    if holds { Some(task) } else { None }
+    let load = load_of(words)?;
+    Some(Task::Load(load))
+}
+
+// This, where no words are behind.
+fn alone(words: &[String], inquiry: Inquiry) -> Option<Task>
+    ensures { result ≡ alone (map string_bytes words.now) inquiry }
+{
+    if words.is_empty() {
+        Some(Task::Of(inquiry))
+    } else {
+        None
+    }
 }
 
 // To ask this of two names.
@@ -46,7 +81,7 @@ fn asked(question: Question, names: &[String]) -> Option<Task>
     ensures { result ≡ asked question (map string_bytes names.now) }
 {
     match names {
-        [_, _] => Some(Task::Ask(question)),
+        [_, _] => Some(Task::Of(Inquiry::Ask(question))),
         _ => None,
     }
 }
@@ -57,10 +92,11 @@ fn command_of(command: &str, words: &[String]) -> Option<Task>
 {
     match command {
         "run" => run_task(words),
-        "decode" => only_if(words.is_empty(), Task::Decode),
-        "survey" => only_if(words.is_empty(), Task::Survey),
+        "decode" => alone(words, Inquiry::Decode),
+        "survey" => alone(words, Inquiry::Survey),
         "route" => asked(Question::Route, words),
         "best" => asked(Question::Best, words),
+        "load" => load_task(words),
         _ => None,
     }
 }

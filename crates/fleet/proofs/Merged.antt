@@ -18,7 +18,7 @@ use Rattle.world_merge.specs.Deeds.{Deed, Handled, Heard, Posted, Ticked, Took, 
 use Rattle.world_merge.specs.Histories.{at}
 use Rattle.world_merge.specs.Logs.{RisesAbove, is_posted, line_of, log_of, posts_of}
 use Rattle.world_merge.specs.Orders.{IsBefore, IsMerge, IsSorted, is_of, is_post}
-use Rattle.world_merge.specs.Picking.{merged_of}
+use Rattle.world_merge.specs.Picking.{merged_of, total}
 use Rattle.world_merge.proofs.Splitting.{line-stamp}
 use Rattle.round_rules.specs.OneWorker.{ids_of}
 use Rattle.round_rules.specs.Records.{IsRecord, Record, deeds_at, log_at, posts_in}
@@ -27,7 +27,7 @@ use Rattle.station_doings.specs.States.{StationState}
 use Rattle.fleet_rounds.specs.Fleets.{IsStationAt, Wires}
 use Rattle.fleet_rounds.proofs.Joined.{standing-is-a-record}
 use Rattle.fleet_rounds.proofs.Nodes.{AreApart, apart-ids}
-use Rattle.fleet.specs.Rounds.{Merges, lines_of}
+use Rattle.fleet.specs.Rounds.{Merges, entries_in, lines_of}
 use Rattle.fleet.specs.Standing.{FleetState, StandsFor}
 
 abbrev pub log_of_station : StationState → List Entry
@@ -142,6 +142,16 @@ each_sorted t lines r w (n ∷ ns) (x ∷ xs) all = (
       (sorted_lines (λ d. not (is_posted d)) n 0 (deeds_at r n.0) all.0.station.stands.sound.rises),
   each_sorted t lines r w ns xs all.1,
 )
+
+-- all lists together have as many lines as the fleet
+pub all_lines : (f : FleetState) → total (f.posts ∷ map log_of_station f.stations) ≡ entries_in f
+all_lines f =
+    let logs = log_lines f.stations in omega (arith, logs)
+  where
+    log_lines : (xs : List StationState) → total (map log_of_station xs) ≡ sum_by (λ (s : StationState). length s.log) xs
+    log_lines [] = refl
+    log_lines (x ∷ xs) =
+        ap (λ k. length x.log + k) (log_lines xs) ∙ sym (sum_by-cons (λ (s : StationState). length s.log) x xs)
 
 -- The posts and the logs of a fleet merge to a run.
 pub fleet-merges : EveryMergingMerges → (f : FleetState) →

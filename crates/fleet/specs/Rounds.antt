@@ -9,6 +9,7 @@ use Rattle.world_merge.specs.Orders.{IsMerge}
 use Rattle.round_rules.specs.OneWorker.{ids_of}
 use Rattle.round_rules.specs.Records.{Record, deeds_at, log_at, posts_in}
 use Rattle.round_rules.specs.Unfinished.{IsRoundBy, IsUnfinishedBy}
+use Rattle.station_doings.specs.States.{StationState}
 use Rattle.fleet_rounds.specs.Fleets.{HasGrown}
 use Rattle.fleet.specs.declared.fleet.RoundFault.{RoundFault}
 use Rattle.fleet.specs.declared.fleet.RoundFault.TheVariants as fault
@@ -50,6 +51,10 @@ Rounds workers old new answer =
     (t : Network) (lines : List Disturb) (r : Record) → StandsFor t lines old r → EndsRound t lines workers r new answer
 
 -- The merge
+
+-- how many lines its logs have, and how many were posted
+abbrev pub entries_in : FleetState → ℕ
+entries_in f = sum_by (λ (s : StationState). length s.log) f.stations + length f.posts
 
 -- the logs and the posts in one order, which is a run of a world
 pub record IsMerged (t : Network) (r : Record) (m : List Entry) : Type 0 where

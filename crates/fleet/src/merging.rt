@@ -5,7 +5,7 @@ ghost use Rattle.ason_base.specs.declared.commands.Disturb.{Disturb};
 ghost use Rattle.ason_base.specs.Network.{Network};
 ghost use Rattle.log_merge.specs.Lines.{line_of, lines_left, lists_of};
 ghost use Rattle.round_rules.specs.Records.{Record, posts_in};
-ghost use Rattle.fleet.specs.Rounds.{Merges, lines_of};
+ghost use Rattle.fleet.specs.Rounds.{Merges, entries_in, lines_of};
 ghost use Rattle.fleet.specs.Standing.{StandsFor};
 
 use crate::fleet::Fleet;
@@ -58,7 +58,8 @@ fn owned(alloc: Global, line: EntryRef) -> Result<Entry, OutOfMemory>
 impl Fleet {
     /// The lines of all logs and the posts in one order, one at a time: by stamp, then node, a post first.
     pub fn entries(&self, alloc: Global) -> Result<Merging<'_>, OutOfMemory>
-        ensures { IfOk result (λ m. Merges self.now (lines_left m)) }
+        ensures merges { IfOk result (λ m. Merges self.now (lines_left m)) }
+        ensures count { IfOk result (λ m. length (lines_left m) ≡ entries_in self.now) }
     {
         every_merging();
         let lists = lists_of(alloc, &self.posts, &self.stations)?;
@@ -78,7 +79,8 @@ impl Fleet {
 
     /// How many lines and posts that are.
     pub fn entry_count(&self) -> u64
-        ensures { (t : Network) (lines : List Disturb) (r : Record) → StandsFor t lines self.now r →
+        ensures count { result ≡ entries_in self.now }
+        ensures record { (t : Network) (lines : List Disturb) (r : Record) → StandsFor t lines self.now r →
             result ≡ lines_of t r + length (posts_in r) }
     {
         log_lines(&self.stations) + self.posts.len() as u64

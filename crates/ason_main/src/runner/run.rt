@@ -21,7 +21,7 @@ use std::sync::Wait;
 use std::thread::Threads;
 
 /// The most rounds before the script and after it.
-const ROUNDS: u32 = 1000;
+pub(crate) const ROUNDS: u32 = 1000;
 
 /// How a run ended.
 #[derive(Clone, Copy, Debug, PartialEq, Eq, Drop)]
@@ -64,8 +64,8 @@ fn run_line<R: Threads + Wait + Sync, K: Sink, G: Gate>(
     }
 }
 
-// Does what these lines say, one after the other.
-fn run_lines<R: Threads + Wait + Sync, K: Sink, G: Gate>(
+/// Does what these lines say, one after the other.
+pub(crate) fn run_lines<R: Threads + Wait + Sync, K: Sink, G: Gate>(
     alloc: Global,
     plan: &Plan,
     crew: &Crew<R, G>,

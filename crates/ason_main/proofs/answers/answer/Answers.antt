@@ -1,66 +1,36 @@
-use Rattle.std.proofs.Common.{[], ◌∙◌, ap, inl, map, refl, string_bytes, subst, sym}
-use Rattle.std.specs.Prelude.{Err, option_map}
-use Rattle.std.proofs.KnownBytes.{Appends-nil}
-use Rattle.ason_main.specs.Answers.{IsJudged, ReadFault, TooLong, Unfinished, Usage, request_for}
-use Rattle.ason_main.proofs.Complete.{judged_reply}
-use Rattle.ason_main.proofs.Replies.{reply_read, usage_reply}
+use Rattle.std.proofs.Common.{None, Some, ◌∙◌, ap, map, refl, string_bytes, sym}
+use Rattle.command_words.specs.declared.tasks.Task.{Task}
+use Rattle.ason_main.specs.Answers.{Usage}
+use Rattle.ason_main.proofs.Replies.{task_reply}
 use Rattle.ason_main.proofs.answers.answer.Goals as goal
 
 pub returns-in_default : goal.returns-in_default
 returns-in_default g c = (
   Usage,
-  usage_reply g.S.Source.left g.S.Source.handed g.S.Source.ended g.S.Source.faults (map string_bytes c.args.words.now)
-      c.args.src.now c.args.kept.now (ap (option_map (request_for (map string_bytes c.args.words.now)))
-      (sym c.task_of.ensures ∙ c.in_default.is)) c.requires,
+  task_reply g.S.Source.left g.S.Source.handed g.S.Source.ended g.S.Source.faults (map string_bytes c.args.words.now)
+      c.args.src.now c.args.src.now Usage c.args.kept.now None (sym c.task_of.ensures ∙ c.in_default.is)
+      (refl, refl, c.requires),
   c.tell.ensures,
 )
 
-pub returns-in-Ok : goal.returns-in-Ok
-returns-in-Ok g c =
-    let request = request_for (map string_bytes c.args.words.now) c.in-Some.task in
-    let given = c.judge.ensures in (
+pub returns-in-Load : goal.returns-in-Load
+returns-in-Load g c =
+    let given = c.load.ensures in (
       given.0,
-      judged_reply g.S.Source.left g.S.Source.handed g.S.Source.ended g.S.Source.faults
-          (map string_bytes c.args.words.now) c.args.src.now c.read_all.new.src c.in-Ok.bytes.items request given.0
-          c.judge.new.kept
-          (ap (option_map (request_for (map string_bytes c.args.words.now))) (sym c.task_of.ensures ∙ c.in-Some.is))
-          c.in-Ok.ensures.to_end c.in-Ok.ensures.within
-          (subst (λ bs. IsJudged request bs given.0 c.judge.new.kept) c.deref.ensures.value given.1),
+      task_reply g.S.Source.left g.S.Source.handed g.S.Source.ended g.S.Source.faults
+          (map string_bytes c.args.words.now) c.args.src.now c.args.src.now given.0 c.load.new.kept
+          (Some (Task.Load c.in-Load.what))
+          (sym c.task_of.ensures ∙ (c.in-Some.is ∙ ap Some c.in-Load.is)) (given.1, refl),
       given.2,
     )
 
-pub returns-in-Err-Failed : goal.returns-in-Err-Failed
-returns-in-Err-Failed g c = (
-  ReadFault,
-  reply_read g.S.Source.left g.S.Source.handed g.S.Source.ended g.S.Source.faults (map string_bytes c.args.words.now)
-      c.args.src.now c.read_all.new.src (request_for (map string_bytes c.args.words.now) c.in-Some.task) ReadFault
-      c.args.kept.now
-      (ap (option_map (request_for (map string_bytes c.args.words.now))) (sym c.task_of.ensures ∙ c.in-Some.is)) (
-        c.in-Err-Failed.ensures.failed (ap Err c.in-Err-Failed.field-0-is),
-        c.in-Err-Failed.ensures.failed_within (ap Err c.in-Err-Failed.field-0-is),
-        c.requires,
-      ),
-  inl (refl, Appends-nil (g.K.Sink.written c.args.out.now)),
-)
-
-pub returns-in-Err-OutOfMemory : goal.returns-in-Err-OutOfMemory
-returns-in-Err-OutOfMemory g c = (
-  Unfinished [],
-  reply_read g.S.Source.left g.S.Source.handed g.S.Source.ended g.S.Source.faults (map string_bytes c.args.words.now)
-      c.args.src.now c.read_all.new.src (request_for (map string_bytes c.args.words.now) c.in-Some.task) (Unfinished [])
-      c.args.kept.now
-      (ap (option_map (request_for (map string_bytes c.args.words.now))) (sym c.task_of.ensures ∙ c.in-Some.is))
-      (c.in-Err-OutOfMemory.ensures.memory_within (ap Err c.in-Err-OutOfMemory.field-0-is), inl (refl, c.requires)),
-  inl (refl, Appends-nil (g.K.Sink.written c.args.out.now)),
-)
-
-pub returns-in-Err-TooLong : goal.returns-in-Err-TooLong
-returns-in-Err-TooLong g c = (
-  TooLong,
-  reply_read g.S.Source.left g.S.Source.handed g.S.Source.ended g.S.Source.faults (map string_bytes c.args.words.now)
-      c.args.src.now c.read_all.new.src (request_for (map string_bytes c.args.words.now) c.in-Some.task) TooLong
-      c.args.kept.now
-      (ap (option_map (request_for (map string_bytes c.args.words.now))) (sym c.task_of.ensures ∙ c.in-Some.is))
-      (c.in-Err-TooLong.ensures.too_long (ap Err c.in-Err-TooLong.field-0-is), c.requires),
-  c.tell-in-Err-TooLong.ensures,
-)
+pub returns-in-Of : goal.returns-in-Of
+returns-in-Of g c =
+    let given = c.read.ensures in (
+      given.0,
+      task_reply g.S.Source.left g.S.Source.handed g.S.Source.ended g.S.Source.faults
+          (map string_bytes c.args.words.now) c.args.src.now c.read.new.src given.0 c.read.new.kept
+          (Some (Task.Of c.in-Of.inquiry))
+          (sym c.task_of.ensures ∙ (c.in-Some.is ∙ ap Some c.in-Of.is)) given.1,
+      given.2,
+    )

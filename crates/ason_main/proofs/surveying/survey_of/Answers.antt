@@ -3,7 +3,7 @@ use Rattle.ason_base.proofs.Results.{passed_on}
 use Rattle.ason_main.specs.Outputs.{end_of}
 use Rattle.ason_main.specs.Surveys.{StopsSurvey}
 use Rattle.ason_main.proofs.Replies.{made_yet}
-use Rattle.ason_main.proofs.SurveyRuns.{begun_silently, cut_silently, ended_silently, never_failed, survey_stopped, surveyed}
+use Rattle.ason_main.proofs.SurveyRuns.{begun_silently, cut_silently, ended_silently, never_failed, stopped_silently, surveyed}
 use Rattle.ason_main.proofs.surveying.survey_of.Goals as goal
 
 pub returns-in_err-text-in-Ended-clause-stops : goal.returns-in_err-text-in-Ended-clause-stops
@@ -16,13 +16,13 @@ returns-in_err-text-in-Ended-clause-stops g c =
 
 pub returns-in_err-text-in-Ended-clause-written : goal.returns-in_err-text-in-Ended-clause-written
 returns-in_err-text-in-Ended-clause-written g c =
-    ended_silently c.args.plan.now c.run_plan.new.fleet (g.K.Sink.written c.args.out.now) (g.K.Sink.written
+    ended_silently c.args.plan.now 1 c.run_plan.new.fleet (g.K.Sink.written c.args.out.now) (g.K.Sink.written
     c.run_plan.new.out)
     c.in-Ended.ensures.1
 
 pub unreachable-requires : goal.unreachable-requires
 unreachable-requires g c =
-    never_failed c.args.plan.now (g.K.Sink.written c.args.out.now) (g.K.Sink.written c.run_plan.new.out)
+    never_failed c.args.plan.now 1 (g.K.Sink.written c.args.out.now) (g.K.Sink.written c.run_plan.new.out)
     c.in-Failed.ensures.1
 
 pub returns-in_ok-text-in-Ended-clause-done : goal.returns-in_ok-text-in-Ended-clause-done
@@ -33,23 +33,23 @@ returns-in_ok-text-in-Ended-clause-done g c =
 
 pub returns-in_ok-text-in-Ended-clause-written : goal.returns-in_ok-text-in-Ended-clause-written
 returns-in_ok-text-in-Ended-clause-written g c =
-    ended_silently c.args.plan.now c.run_plan.new.fleet (g.K.Sink.written c.args.out.now) (g.K.Sink.written
+    ended_silently c.args.plan.now 1 c.run_plan.new.fleet (g.K.Sink.written c.args.out.now) (g.K.Sink.written
     c.run_plan.new.out)
     c.in-Ended.ensures.1
 
 pub returns-in-AtLimit-clause-stops : goal.returns-in-AtLimit-clause-stops
 returns-in-AtLimit-clause-stops g c =
-    survey_stopped c.args.plan.now c.in-AtLimit.node c.run_plan.new.fleet
+    stopped_silently c.args.plan.now 1 c.in-AtLimit.node c.run_plan.new.fleet
     (g.K.Sink.written c.args.out.now) (g.K.Sink.written c.run_plan.new.out)
     c.in-AtLimit.ensures.1
 
 pub returns-in-AtLimit-clause-written : goal.returns-in-AtLimit-clause-written
 returns-in-AtLimit-clause-written g c =
-    cut_silently c.args.plan.now c.in-AtLimit.node c.run_plan.new.fleet
+    cut_silently c.args.plan.now 1 c.in-AtLimit.node c.run_plan.new.fleet
     (g.K.Sink.written c.args.out.now) (g.K.Sink.written c.run_plan.new.out)
     c.in-AtLimit.ensures.1
 
 pub returns-in-OutOfMemory-clause-written : goal.returns-in-OutOfMemory-clause-written
 returns-in-OutOfMemory-clause-written g c =
-    begun_silently c.args.plan.now (g.K.Sink.written c.args.out.now) (g.K.Sink.written c.run_plan.new.out)
+    begun_silently c.args.plan.now 1 (g.K.Sink.written c.args.out.now) (g.K.Sink.written c.run_plan.new.out)
     c.in-OutOfMemory.ensures.1

@@ -14,8 +14,22 @@ log_lines-requires c =
       few-stations c.self.inside.seats.items c.self.inside.stations.items c.self.invariant,
     )
 
-pub returns : goal.returns
-returns c t lines r s =
+pub returns-clause-count : goal.returns-clause-count
+returns-clause-count c =
+    let f = c.args.self.now in
+    let logs = c.log_lines.ensures.lines
+    ∙ ap (sum_by (λ (x : StationState). length x.log)) (c.deref.ensures.value
+    ∙ ap (λ (x : FleetState). x.stations) c.self.view_is) in
+    omega (
+      arith,
+      logs,
+      c.len.ensures,
+      c.self.inside.posts.ok.0,
+      ap (λ (x : FleetState). length x.posts) c.self.view_is,
+    )
+
+pub returns-clause-record : goal.returns-clause-record
+returns-clause-record c t lines r s =
     let f = c.args.self.now in
     let logs = c.log_lines.ensures.lines
     ∙ ap (sum_by (λ (x : StationState). length x.log)) (c.deref.ensures.value

@@ -2,7 +2,7 @@ use Rattle.std.proofs.Common.{◌++◌, ap, inl, subst, ◌∙◌}
 use Rattle.ason_main.specs.declared.answers.Status.{Status}
 use Rattle.ason_main.specs.Answers.{WasTold}
 use Rattle.table_text.specs.TableText.{stopped_text}
-use Rattle.ason_main.proofs.answers.tell_stop.Goals as goal
+use Rattle.ason_main.proofs.telling.tell_stop.Goals as goal
 
 pub returns-in-Ok : goal.returns-in-Ok
 returns-in-Ok g c =

@@ -1,12 +1,12 @@
 use Rattle.std.proofs.Common.{◌≡◌, length, map, string_bytes}
 use Rattle.command_words.proofs.Reading.{after_options, read_words}
 use Rattle.command_words.specs.Given.{AreGiven}
-use Rattle.command_words.specs.Options.{pace_of}
-use Rattle.command_words.proofs.options.pace_of.Given as goal
+use Rattle.command_words.specs.Options.{run_of}
+use Rattle.command_words.proofs.options.run_of.Given as goal
 
 abbrev pub invariant-options : goal.invariant-options
 invariant-options l =
-    (read_words (after_options (map string_bytes l.rest) l.given) ≡ pace_of (map string_bytes l.initial.words))
+    (read_words (after_options (map string_bytes l.rest) l.given) ≡ run_of (map string_bytes l.initial.words))
     × AreGiven l.given
 
 abbrev pub decreases-options : goal.decreases-options

@@ -1,0 +1,203 @@
+-- The parts of a generated script, one after the other.
+use Rattle.std.proofs.Common.{◌≡◌, ◌∙◌, ℕ, List, [], ◌∷◌, ◌++◌, inl, inr, refl, sym, ap, subst, append-nil, append_assoc, arith}
+use Rattle.std.specs.Prelude.{Option, None, Some}
+use Rattle.ason_base.specs.declared.ids.NodeId.{NodeId}
+use Rattle.ason_io.specs.Faults.{Rose}
+use Rattle.fleet.specs.Standing.{FleetState, StandsFor}
+use Rattle.round_rules.specs.Records.{new_record}
+use Rattle.ason_base.specs.declared.calls.TableRows.{TableRows}
+use Rattle.load_plan.specs.LoadParts.{AreAlwaysPostable}
+use Rattle.load_plan.specs.PhaseTexts.{phase_text}
+use Rattle.load_plan.specs.declared.phases.LoadPhase.{LoadPhase}
+use Rattle.plan_reader.specs.declared.lines.Line.{Line}
+use Rattle.plan_reader.specs.declared.plan.Plan.{Plan}
+use Rattle.plan_reader.specs.Plans.{ArePostable}
+use Rattle.script_rules.specs.Outputs.{Prints, UnlessStopped}
+use Rattle.script_rules.specs.Stages.{Stage, last_of, new_stage, world_at}
+use Rattle.script_rules.proofs.Follows.{last_append}
+use Rattle.ason_main.specs.declared.runner.stops.Stop.{Stop}
+use Rattle.ason_main.specs.Loads.{AreLoaded, Part, PartsPrint, PhasePrints, ShowsPhase, StopsLoad, TellsMore, TellsPhase, part}
+use Rattle.ason_main.specs.Outputs.{silent_on}
+use Rattle.ason_main.specs.Running.{CanDoAll, DoesAll, StandsYet, StopsAll, at}
+use Rattle.ason_main.proofs.Lines.{AreInOrder, AreRows, sorted_table}
+use Rattle.ason_main.proofs.Printing.{prints_nothing}
+use Rattle.ason_main.proofs.Rounding.{led_at, led_both, led_none}
+use Rattle.ason_main.proofs.SurveyRuns.{nothing_printed}
+
+-- Parts after parts
+
+pub parts_follow : (p : Plan) (xs ys : List Part) (s : Stage) (first others : List Stage) (here later : List ℕ) →
+    PartsPrint p xs s first here → PartsPrint p ys (last_of s first) others later →
+    PartsPrint p (xs ++ ys) s (first ++ others) (here ++ later)
+parts_follow p [] ys s first others here later one two =
+    subst (λ (ss : List Stage). PartsPrint p ys s (ss ++ others) (here ++ later)) (sym one.0)
+    (subst (λ (text : List ℕ). PartsPrint p ys s others (text ++ later)) (sym one.1)
+    (subst (λ (ss : List Stage). PartsPrint p ys (last_of s ss) others later) one.0 two))
+parts_follow p (x ∷ xs) ys s first others here later one two = (
+  one.0,
+  one.1 ++ others,
+  one.2,
+  one.3 ++ later,
+  one.4,
+  one.5,
+  parts_follow p xs ys (last_of s one.0) one.1 others one.3 later one.6
+      (subst (λ (z : Stage). PartsPrint p ys z others later) (ap (last_of s) one.7 ∙ last_append s one.0 one.1) two),
+  ap (λ (ss : List Stage). ss ++ others) one.7 ∙ append_assoc one.0 one.1 others,
+  ap (λ (text : List ℕ). text ++ later) one.8 ∙ append_assoc one.2 one.3 later,
+)
+
+part_prints : (p : Plan) (x : Part) (s : Stage) (more : List Stage) (text : List ℕ) →
+    Prints p (silent_on 1) x.lines s more [] → PhasePrints p x.phase (last_of s more) text →
+    PartsPrint p (x ∷ []) s more text
+part_prints p x s more text lines phase =
+    (more, [], text, [], lines, phase, (refl, refl), sym (append-nil more), sym (append-nil text))
+
+-- once the run is stopped nothing is printed
+phase_nothing : (p : Plan) (phase : Option LoadPhase) (s : Stage) (k : NodeId) → s.stopped ≡ Some k →
+    PhasePrints p phase s []
+phase_nothing p None s k stopped = refl
+phase_nothing p (Some phase) s k stopped =
+    subst (λ o. UnlessStopped o (ShowsPhase p phase (world_at p.topology s) []) []) (sym stopped) refl
+
+parts_nothing : (p : Plan) (parts : List Part) (s : Stage) (k : NodeId) → s.stopped ≡ Some k →
+    PartsPrint p parts s [] []
+parts_nothing p [] s k stopped = (refl, refl)
+parts_nothing p (x ∷ parts) s k stopped = (
+  [],
+  [],
+  [],
+  [],
+  prints_nothing p (silent_on 1) x.lines s k stopped,
+  phase_nothing p x.phase s k stopped,
+  parts_nothing p parts s k stopped,
+  refl,
+  refl,
+)
+
+-- the rows of the stations, in order, give the line
+pub tells_phase : (p : Plan) (phase : LoadPhase) (f : FleetState) (rows sorted : TableRows) (text : List ℕ) →
+    AreRows f rows → AreInOrder rows sorted → text ≡ phase_text phase sorted.calls → TellsPhase p phase f text
+tells_phase p phase f rows sorted text are order is = record {
+  tells = λ lines r stands. (sorted, sorted_table p.topology f rows sorted are order lines r stands, is);
+}
+
+-- Parts that are done from the start on
+
+pub loaded_none : (p : Plan) (f : FleetState) (text : List ℕ) → text ≡ [] → StandsFor p.topology [] f new_record →
+    AreLoaded p [] f None text
+loaded_none p f text is stands = record {
+  more = [];
+  printed = (refl, is);
+  led = led_none p.topology f new_stage (record { stands = stands; going = refl });
+}
+
+-- the stage at which the parts end
+abbrev pub stage_of : {p : Plan} {parts : List Part} {f : FleetState} {stop : Option NodeId} {text : List ℕ} →
+    AreLoaded p parts f stop text → Stage
+stage_of x = last_of new_stage x.more
+
+-- lines that can be posted then
+abbrev pub CanFollow : (p : Plan) (parts : List Part) (f : FleetState) (text : List ℕ) →
+    AreLoaded p parts f None text → List Line → Type 0
+CanFollow p parts f text x lines = ArePostable p.topology (world_at p.topology (stage_of x)).posted lines
+
+-- at the start
+pub can_begin : (p : Plan) (f : FleetState) (text : List ℕ) (is : text ≡ []) (stands : StandsFor p.topology [] f new_record)
+    (lines : List Line) → ArePostable p.topology [] lines → CanFollow p [] f text (loaded_none p f text is stands) lines
+unfolding loaded_none
+can_begin p f text is stands lines can = can
+
+pub can_part : (p : Plan) (parts : List Part) (f : FleetState) (text : List ℕ) (lines : List Line) →
+    AreLoaded p parts f None text → AreAlwaysPostable p.topology lines → CanDoAll p.topology f lines
+can_part p parts f text lines x always = record {
+  stage = stage_of x;
+  stands = led_at p.topology f new_stage x.more x.led;
+  can = always (world_at p.topology (stage_of x)).posted;
+}
+
+-- a part more, up to a stage that is stopped so
+module _ (p : Plan) (parts : List Part) (x : Part) (a b : FleetState) (before : List ℕ)
+    (so_far : AreLoaded p parts a None before) (can : CanFollow p parts a before so_far x.lines) where
+  one_more : (stop : Option NodeId) (line : List ℕ) →
+      DoesAll p (silent_on 1) x.lines (at a None 0) (at b None 0) stop →
+      ((s : Stage) → StandsFor p.topology s.lines b s.made → s.stopped ≡ stop → PhasePrints p x.phase s line) →
+      AreLoaded p (parts ++ x ∷ []) b stop (before ++ line)
+  one_more stop line does prints =
+      let z = stage_of so_far in
+      let y = does.done z (led_at p.topology a new_stage so_far.more so_far.led) can in
+      let none = nothing_printed p 1 x.lines z y.more y.text y.printed in
+      record {
+        more = so_far.more ++ y.more;
+        printed = parts_follow p parts (x ∷ []) new_stage so_far.more y.more before line so_far.printed
+            (part_prints p x z y.more line (subst (Prints p (silent_on 1) x.lines z y.more) none y.printed)
+            (prints (last_of z y.more) y.led.stands y.led.stopped));
+        led = led_both p.topology a b None stop new_stage so_far.more y.more so_far.led y.led;
+      }
+
+  -- the run is stopped in its lines
+  cut : (n : NodeId) → DoesAll p (silent_on 1) x.lines (at a None 0) (at b None 0) (Some n) →
+      AreLoaded p (parts ++ x ∷ []) b (Some n) before
+  cut n does =
+      subst (AreLoaded p (parts ++ x ∷ []) b (Some n)) (append-nil before)
+      (one_more (Some n) [] does (λ s stands stopped. phase_nothing p x.phase s n stopped))
+
+  not_risen : Rose 0 0 → ⊥
+  not_risen (inl less) = absurd (omega (arith, less))
+  not_risen (inr last) = absurd (omega (arith, last))
+
+  -- its lines aren't done
+  pub stops_part : (e : Stop) → StopsAll p (silent_on 1) x.lines (at a None 0) (at b None 0) e →
+      StopsLoad p (parts ++ x ∷ []) b before e
+  stops_part (Stop.AtLimit n) stops = cut n stops
+  stops_part Stop.Failed stops = absurd (not_risen stops.rose)
+  stops_part Stop.OutOfMemory stops =
+      (stops.part (stage_of so_far) (led_at p.topology a new_stage so_far.more so_far.led) can).1.yet
+
+  -- they are, and memory is wanting for the line behind them
+  pub starved_part : DoesAll p (silent_on 1) x.lines (at a None 0) (at b None 0) None → StandsYet p.topology b
+  starved_part does =
+      let z = stage_of so_far in
+      let y = does.done z (led_at p.topology a new_stage so_far.more so_far.led) can in
+      record { lines = (last_of z y.more).lines; made = (last_of z y.more).made; stands = y.led.stands }
+
+  -- they are, and no line is behind them
+  pub last_part : x.phase ≡ None → DoesAll p (silent_on 1) x.lines (at a None 0) (at b None 0) None →
+      AreLoaded p (parts ++ x ∷ []) b None before
+  last_part none does =
+      subst (AreLoaded p (parts ++ x ∷ []) b None) (append-nil before)
+      (one_more None [] does (λ s stands stopped. subst (λ o. PhasePrints p o s []) (sym none) refl))
+
+-- they are, and the line of the phase is told
+pub one_part : (p : Plan) (parts : List Part) (lines : List Line) (phase : LoadPhase) (a b : FleetState)
+    (before after : List ℕ) (x : AreLoaded p parts a None before) → CanFollow p parts a before x lines →
+    DoesAll p (silent_on 1) lines (at a None 0) (at b None 0) None → TellsMore p phase b before after →
+    AreLoaded p (parts ++ part lines phase ∷ []) b None after
+one_part p parts lines phase a b before after x can does told =
+    subst (AreLoaded p (parts ++ part lines phase ∷ []) b None) (sym told.behind)
+    (one_more p parts (part lines phase) a b before x can None told.line does
+    (λ s stands stopped. subst (λ o. UnlessStopped o (ShowsPhase p phase (world_at p.topology s) told.line) told.line)
+    (sym stopped) (told.tells.tells s.lines s.made stands)))
+
+-- the stations stand for some record
+pub loaded_yet : (p : Plan) (parts : List Part) (f : FleetState) (stop : Option NodeId) (text : List ℕ) →
+    AreLoaded p parts f stop text → StandsYet p.topology f
+loaded_yet p parts f stop text x =
+    record { lines = (stage_of x).lines; made = (stage_of x).made; stands = x.led.stands }
+
+-- once the run is stopped the later parts make nothing
+pub loaded_stays : (p : Plan) (xs ys : List Part) (f : FleetState) (n : NodeId) (text : List ℕ) →
+    AreLoaded p xs f (Some n) text → AreLoaded p (xs ++ ys) f (Some n) text
+loaded_stays p xs ys f n text x = record {
+  more = x.more;
+  printed = subst (λ ss. PartsPrint p (xs ++ ys) new_stage ss text) (append-nil x.more)
+      (subst (PartsPrint p (xs ++ ys) new_stage (x.more ++ [])) (append-nil text)
+      (parts_follow p xs ys new_stage x.more [] text [] x.printed
+      (parts_nothing p ys (stage_of x) n x.led.stopped)));
+  led = x.led;
+}
+
+pub stops_stays : (p : Plan) (xs ys : List Part) (f : FleetState) (text : List ℕ) (e : Stop) →
+    StopsLoad p xs f text e → StopsLoad p (xs ++ ys) f text e
+stops_stays p xs ys f text (Stop.AtLimit n) stops = loaded_stays p xs ys f n text stops
+stops_stays p xs ys f text Stop.Failed stops = absurd stops
+stops_stays p xs ys f text Stop.OutOfMemory stops = stops

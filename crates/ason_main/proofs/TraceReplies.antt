@@ -1,0 +1,223 @@
+-- What is answered where the trace of a run is asked for.
+use Rattle.std.proofs.Common.{◌≡◌, ◌≤◌, ◌∙◌, ℕ, List, [], take, inl, inr, refl, sym, subst}
+use Rattle.std.specs.Prelude.{IfErr, OnErr, Option, Result, Some, Ok, Err, length}
+use Rattle.std.specs.Iterator.{YieldsFirstBy}
+use Rattle.std.specs.Io.KnownBytes.{Appends}
+use Rattle.std.proofs.KnownBytes.{Appends-trans}
+use Rattle.ason_base.specs.declared.ids.NodeId.{NodeId}
+use Rattle.ason_base.specs.declared.calls.TableRows.{TableRows}
+use Rattle.ason_base.specs.declared.commands.Entry.{Entry}
+use Rattle.ason_io.specs.Faults.{Rose}
+use Rattle.plan_reader.specs.declared.plan.Plan.{Plan}
+use Rattle.plan_reader.specs.Plans.{PlanOf}
+use Rattle.world_rules.specs.Images.{image}
+use Rattle.round_rules.specs.Records.{Record, log_at, posts_in, world_of}
+use Rattle.log_merge.specs.Lines.{line_of, lines_left}
+use Rattle.log_merge.specs.declared.merging.Merging.{Merging}
+use Rattle.fleet.specs.Rounds.{Merges}
+use Rattle.fleet.specs.Standing.{FleetState}
+use Rattle.table_text.specs.TableText.{stopped_text}
+use Rattle.trace_text.specs.Merges.{EveryMergeComes}
+use Rattle.trace_text.specs.TraceText.{trace_text}
+use Rattle.trace_text.specs.Written.{WrotePart, WroteTrace}
+use Rattle.trace_text.specs.declared.write.TraceWriteFault.{TraceWriteFault}
+use Rattle.command_words.specs.Paces.{PaceView}
+use Rattle.script_rules.specs.Outputs.{script_of}
+use Rattle.script_rules.specs.Stages.{Stage, new_stage}
+use Rattle.script_rules.proofs.Lawful.{HasOneTable, lawful_table}
+use Rattle.script_rules.proofs.OneTable.{one_table}
+use Rattle.ason_main.specs.declared.answers.Status.{Status}
+use Rattle.ason_main.specs.Answers.{Done, EventLimit, IsAnswered, Trace, Unfinished, WasToldOrNothing}
+use Rattle.ason_main.specs.Outputs.{HasBeenCut, HasEnded, IsBegun, IsTheOutput, end_of, silent_on}
+use Rattle.ason_main.specs.Running.{HasWritten, HasWrittenPart, StandsYet}
+use Rattle.ason_main.specs.Traces.{IsTheTrace, IsTraceOf, StopsTrace, TellsTrace}
+use Rattle.ason_main.proofs.Lines.{AreInOrder, AreRows, sorted_table}
+use Rattle.ason_main.proofs.OneLine.{rose_later}
+use Rattle.ason_main.proofs.OneMerge.{one_merge}
+use Rattle.ason_main.proofs.Replies.{made_yet, told_after}
+use Rattle.ason_main.proofs.Tracing.{part_of_trace}
+use Rattle.ason_main.proofs.SurveyRuns.{begun_silently, cut_silently, ended_silently, lawful_end, nothing_printed, stopped_silently}
+
+-- The trace
+
+-- what the stations' lines and rows give is told
+pub tells_trace : (p : Plan) (bs : List ℕ) (f : FleetState) (m : List Entry) (rows sorted : TableRows) →
+    Merges f m → AreRows f rows → AreInOrder rows sorted → TellsTrace p bs f (trace_text p bs m sorted)
+tells_trace p bs f m rows sorted merges are order = record {
+  tells = λ lines r stands. record {
+    merge = m;
+    merged = (merges p.topology lines r stands).merge;
+    rows = sorted;
+    table = sorted_table p.topology f rows sorted are order lines r stands;
+    told = refl;
+  };
+}
+
+-- the whole of it was written, or why it wasn't
+module _ (comes : EveryMergeComes) (p : Plan) (bs : List ℕ) (f : FleetState) (m : Merging) (rows sorted : TableRows)
+    (merges : Merges f (lines_left m)) (are : AreRows f rows) (order : AreInOrder rows sorted)
+    (old new : Option (List ℕ)) where
+  pub told_trace : WroteTrace (YieldsFirstBy line_of lines_left) m p bs sorted old new →
+      HasWritten old new (TellsTrace p bs f)
+  told_trace wrote = (
+    trace_text p bs (lines_left m) sorted,
+    tells_trace p bs f (lines_left m) rows sorted merges are order,
+    subst (λ es. Appends old new (trace_text p bs es sorted)) (comes m wrote.entries wrote.came) wrote.written,
+  )
+
+  part_told : (count : ℕ) → count ≡ length (lines_left m) →
+      WrotePart (YieldsFirstBy line_of lines_left) m p bs count sorted old new →
+      HasWrittenPart old new (TellsTrace p bs f)
+  part_told count many wrote = (
+    trace_text p bs (lines_left m) sorted,
+    tells_trace p bs f (lines_left m) rows sorted merges are order,
+    part_of_trace comes p bs m count sorted old new many wrote,
+  )
+
+  pub stops_trace : {T : Type 0} (count before after : ℕ) (r : Result T TraceWriteFault) →
+      count ≡ length (lines_left m) →
+      OnErr r (WrotePart (YieldsFirstBy line_of lines_left) m p bs count sorted old new) →
+      IfErr r (λ e. e ≡ TraceWriteFault.Failed → Rose before after) → IfErr r (StopsTrace p bs f old new before after)
+  stops_trace count before after (Ok x) many part rose = tt
+  stops_trace count before after (Err TraceWriteFault.Failed) many part rose =
+      (rose refl, part_told count many part)
+  stops_trace count before after (Err TraceWriteFault.OutOfMemory) many part rose = inr (part_told count many part)
+
+-- a record has one trace
+one_trace : (p : Plan) (bs : List ℕ) (r : Record) (a b : List ℕ) → HasOneTable (image (world_of p.topology r)) →
+    IsTraceOf p bs r a → IsTraceOf p bs r b → a ≡ b
+one_trace p bs r a b one this that = this.told ∙ ((λ i. trace_text p bs (merge i) (rows i)) ∙ sym that.told)
+  where
+    merge : this.merge ≡ that.merge
+    merge = one_merge (log_at r) (posts_in r) this.merge that.merge this.merged that.merged
+
+    rows : this.rows ≡ that.rows
+    rows = one_table p.topology (image (world_of p.topology r)) this.rows that.rows one.legs one.calls this.table
+        that.table
+
+the_trace : (p : Plan) (workers : ℕ) (bs : List ℕ) (more : List Stage) (text : List ℕ) →
+    IsTheOutput p (silent_on workers) more [] → IsTraceOf p bs (end_of more).made text →
+    IsTheTrace p workers bs more text
+the_trace p workers bs more text output trace = record {
+  is = record { output = output.output; trace = trace };
+  only = λ one others other that.
+      let same = output.only one others [] that.output in
+      record {
+        stages = same.stages;
+        text = one_trace p bs (end_of more).made other text
+            (lawful_table p.topology (end_of more).made (lawful_end p more output.output.one_run))
+            (subst (λ ss. IsTraceOf p bs (end_of ss).made other) same.stages that.trace) trace;
+      };
+  never_stopped = λ one n others that. output.never_stopped one n others [] that;
+}
+
+-- of the fleet that came to the script's end
+trace_of : (p : Plan) (workers : ℕ) (bs : List ℕ) (f : FleetState) (old new : Option (List ℕ)) (text : List ℕ)
+    (ended : HasEnded p (silent_on workers) f old new) → TellsTrace p bs f text →
+    IsTheTrace p workers bs ended.more text
+trace_of p workers bs f old new text ended tells =
+    the_trace p workers bs ended.more text
+    (subst (IsTheOutput p (silent_on workers) ended.more)
+    (nothing_printed p workers (script_of p) new_stage ended.more ended.text ended.output.output.printed)
+    ended.output)
+    (tells.tells (end_of ended.more).lines (end_of ended.more).made ended.kept.stands)
+
+-- Answers
+
+module _ {K : Type 0} (written : K → Option (List ℕ)) (faults : K → ℕ) (bs : List ℕ) (p : Plan) (pace : PaceView)
+    (f : FleetState) (old now new : K) (plan : PlanOf bs (Ok p)) where
+  abbrev IsTold : Status → Type 0
+  IsTold s = IsAnswered written faults (Trace pace) bs old new (Some f) s
+
+  after_run : (text : List ℕ) → HasEnded p (silent_on pace.workers) f (written old) (written now) →
+      Appends (written now) (written new) text → Appends (written old) (written new) text
+  after_run text ended more =
+      Appends-trans (written old) (written now) (written new) [] text
+      (ended_silently p pace.workers f (written old) (written now) ended) more
+
+  pub traced : HasEnded p (silent_on pace.workers) f (written old) (written now) →
+      HasWritten (written now) (written new) (TellsTrace p bs f) → IsTold Status.Done
+  traced ended told = (
+    Done told.0,
+    (
+      p,
+      plan,
+      (ended.more, trace_of p pace.workers bs f (written old) (written now) told.0 ended told.1, ended.kept),
+    ),
+    inl (refl, after_run told.0 ended told.2),
+  )
+
+  pub trace_failed : HasEnded p (silent_on pace.workers) f (written old) (written now) → faults old ≤ faults now →
+      StopsTrace p bs f (written now) (written new) (faults now) (faults new) TraceWriteFault.Failed →
+      IsTold Status.WriteFault
+  trace_failed ended rises fails =
+      let part = fails.1 in (
+        Done part.0,
+        (
+          p,
+          plan,
+          (ended.more, trace_of p pace.workers bs f (written old) (written now) part.0 ended part.1, ended.kept),
+        ),
+        inr (
+          refl,
+          rose_later (faults old) (faults now) (faults new) rises fails.0,
+          (part.2.0, part.2.1, after_run (take part.2.0 part.0) ended part.2.2),
+        ),
+      )
+
+  pub trace_starved : HasEnded p (silent_on pace.workers) f (written old) (written now) →
+      StopsTrace p bs f (written now) (written new) (faults now) (faults new) TraceWriteFault.OutOfMemory →
+      IsTold Status.OutOfMemory
+  trace_starved ended (inl none) = (
+    Unfinished [],
+    inl (refl, inr (p, plan, made_yet p f (end_of ended.more) ended.kept)),
+    inl (refl, after_run [] ended none),
+  )
+  trace_starved ended (inr part) = (
+    Unfinished (take part.2.0 part.0),
+    inr (
+      p,
+      plan,
+      (
+        ended.more,
+        (
+          part.0,
+          part.2.0,
+          trace_of p pace.workers bs f (written old) (written now) part.0 ended part.1,
+          part.2.1,
+          refl,
+        ),
+        ended.kept,
+      ),
+    ),
+    inl (refl, after_run (take part.2.0 part.0) ended part.2.2),
+  )
+
+  -- the line of the stop is all that is told
+  pub trace_stopped : (n : NodeId) (s : Status) → faults old ≤ faults now →
+      HasBeenCut p (silent_on pace.workers) n f (written old) (written now) →
+      WasToldOrNothing written faults now new (stopped_text p n) Status.EventLimit s → IsTold s
+  trace_stopped n s rises cut (inl told) =
+      let stops = stopped_silently p pace.workers n f (written old) (written now) cut in (
+        EventLimit (stopped_text p n),
+        (p, plan, (n, stops.0, stops.1, stops.2)),
+        told_after written faults old now new (stopped_text p n) Status.EventLimit s
+            (cut_silently p pace.workers n f (written old) (written now) cut) rises told,
+      )
+  trace_stopped n s rises cut (inr nothing) = (
+    Unfinished [],
+    inl (refl, inr (p, plan, made_yet p f (end_of cut.more) cut.kept)),
+    inl (
+      nothing.0,
+      Appends-trans (written old) (written now) (written new) [] []
+          (cut_silently p pace.workers n f (written old) (written now) cut) nothing.1,
+    ),
+  )
+
+  pub trace_unfinished : HasWritten (written old) (written new) (IsBegun p (silent_on pace.workers)) →
+      StandsYet p.topology f → IsTold Status.OutOfMemory
+  trace_unfinished begun yet = (
+    Unfinished [],
+    inl (refl, inr (p, plan, yet)),
+    inl (refl, begun_silently p pace.workers (written old) (written new) begun),
+  )

@@ -1,0 +1,49 @@
+use Rattle.std.proofs.Common.{Some, subst, ◌∙◌}
+use Rattle.ason_main.specs.declared.answers.Status.{Status}
+use Rattle.ason_main.specs.Answers.{WasTold}
+use Rattle.ason_main.specs.Loads.{AreLoaded, StopsLoad, parts_of}
+use Rattle.ason_main.proofs.LoadReplies.{load_starved, load_stopped, load_told}
+use Rattle.ason_main.proofs.LoadedParts.{loaded_yet}
+use Rattle.ason_main.proofs.loads.load_fleet.Goals as goal
+
+pub returns-in-Ok : goal.returns-in-Ok
+returns-in-Ok g c =
+    load_told g.K.Sink.written g.K.Sink.faults c.args.parts.now c.args.out.now c.tell.new.out c.every_law.ensures
+    c.args.fleet.now c.load_text.new.fleet c.load_text.new.text.items c.tell.result
+    (record { stands = c.requires.new; postable = c.requires.can.built }) c.in-Ok.ensures.done
+    (subst (λ text. WasTold g.K.Sink.written g.K.Sink.faults c.args.out.now c.tell.new.out text Status.Done
+    c.tell.result) c.deref.ensures.value c.tell.ensures)
+
+pub returns-in-Ok-write_stopped : goal.returns-in-Ok-write_stopped
+returns-in-Ok-write_stopped g c =
+    let l = c.args.parts.now in
+    let n = c.in-Err-AtLimit.node in
+    let f = c.load_text.new.fleet in
+    let text = c.load_text.new.text.items in
+    let cut : AreLoaded l.plan (parts_of l) f (Some n) text =
+    subst (StopsLoad l.plan (parts_of l) f text) c.in-Err-AtLimit.field-0-is c.in-Err-AtLimit.ensures.stops in
+    load_stopped g.K.Sink.written g.K.Sink.faults l c.args.out.now c.tell-in-Ok-write_stopped.new.out
+    c.every_law.ensures n c.args.fleet.now f text c.tell-in-Ok-write_stopped.result
+    (record { stands = c.requires.new; postable = c.requires.can.built }) cut
+    (subst (λ ts. WasTold g.K.Sink.written g.K.Sink.faults c.args.out.now c.tell-in-Ok-write_stopped.new.out ts
+    Status.EventLimit c.tell-in-Ok-write_stopped.result)
+    (c.deref-in-Ok-write_stopped.ensures.value ∙ c.in-Ok-write_stopped.ensures.ok)
+    c.tell-in-Ok-write_stopped.ensures)
+
+pub returns-in-Err-AtLimit : goal.returns-in-Err-AtLimit
+returns-in-Err-AtLimit g c =
+    let l = c.args.parts.now in
+    let n = c.in-Err-AtLimit.node in
+    let f = c.load_text.new.fleet in
+    let text = c.load_text.new.text.items in
+    load_starved g.K.Sink.written g.K.Sink.faults l c.args.out.now (Some f)
+    (loaded_yet l.plan (parts_of l) f (Some n) text
+    (subst (StopsLoad l.plan (parts_of l) f text) c.in-Err-AtLimit.field-0-is c.in-Err-AtLimit.ensures.stops))
+
+pub returns : goal.returns
+returns g c =
+    let l = c.args.parts.now in
+    let f = c.load_text.new.fleet in
+    load_starved g.K.Sink.written g.K.Sink.faults l c.args.out.now (Some f)
+    (subst (StopsLoad l.plan (parts_of l) f c.load_text.new.text.items) c.in-Err-OutOfMemory.field-0-is
+    c.in-Err-OutOfMemory.ensures.stops)

@@ -1,0 +1,104 @@
+"""`run --trace`: the trace of a run."""
+
+import subprocess
+import tempfile
+import unittest
+from collections import Counter
+from dataclasses import replace
+
+from ason_tools.program import DONE, EVENT_LIMIT, PLAN_REFUSED, WRITE_FAULT, program_path
+
+from .support import EXAMPLES, ason_told
+from .test_answers import A_TO_B, LONE, LOOP, PAIR, at_most_five_bytes
+from .test_restoring import triangle
+
+TWO_TICKS = """\
+script = ["wait 2"]
+[[node]]
+name = "a"
+id = 1
+"""
+TWO_TICKS_TRACE = f"""\
+ason-trace 1
+plan 47
+{TWO_TICKS}
+events 2
+1 a tick
+2 a tick
+table
+calls 0 legs 0
+end
+"""
+# A frame that is lost, one that comes twice and one that is held, and one that spells nothing.
+DISTURBED = ["lose a b 1", "repeat b c 1", "hold a c 1", "noise a b 00", "setup c1 a c"]
+
+
+class TraceTest(unittest.TestCase):
+    """Runs whose traces are told."""
+
+    def lines(self, text: str) -> list[str]:
+        """The lines of the events."""
+        behind = text.split("\nevents ", 1)[1].splitlines()
+        count = int(behind[0])
+        self.assertEqual(behind[1 + count], "table")
+        return behind[1 : 1 + count]
+
+    def test_two_ticks(self) -> None:
+        for words in (["--trace"], ["--stride", "3", "--trace", "--workers", "1"]):
+            with self.subTest(words=words):
+                ended = ason_told("run", *words, given=TWO_TICKS)
+                self.assertEqual((ended.status, ended.out), (DONE, TWO_TICKS_TRACE))
+
+    def test_a_trace_has_the_plan_and_the_last_table(self) -> None:
+        for example in ("nsfnet", "lossy", "contended"):
+            with self.subTest(example=example):
+                plan = (EXAMPLES / f"{example}.toml").read_text()
+                ended = ason_told("run", "--trace", given=plan)
+                self.assertEqual(ended.status, DONE)
+                self.assertTrue(ended.out.startswith(f"ason-trace 1\nplan {len(plan.encode())}\n{plan}\nevents "))
+                table = ended.out.rsplit("\ntable\n", 1)[1]
+                printed = ason_told("run", given=plan).out
+                self.assertTrue(printed.endswith(table.removesuffix("end\n")))
+
+    def test_events_rise(self) -> None:
+        for words in ([], ["--workers", "4"]):
+            with self.subTest(words=words):
+                ended = ason_told("run", "--trace", *words, given=triangle(DISTURBED))
+                places = [(int(stamp), node != "-", node) for stamp, node, *_ in map(str.split, self.lines(ended.out))]
+                self.assertEqual(places, sorted(set(places)))
+
+    def test_what_happens_to_frames(self) -> None:
+        """Of the frames from one node to the other the one that the line names has so many lines, each other one has one."""
+        for line, times in (("lose a b 1", 0), ("repeat a b 1", 2), ("hold a b 1", 1)):
+            with self.subTest(line=line):
+                plan = replace(PAIR, script=[line, A_TO_B]).text()
+                told = [what.split(" ")[1:] for what in self.lines(ason_told("run", "--trace", given=plan).out)]
+                taken = Counter(int(what[3]) for what in told if what[:3] == ["b", "deliver", "a"])
+                frames = [taken[number] for number in range(1, max(taken) + 1)]
+                self.assertEqual(sorted(frames), sorted([times] + [1] * (len(frames) - 1)))
+
+    def test_posts_and_noise(self) -> None:
+        lines = [line.split(" ", 1)[1] for line in self.lines(ason_told("run", "--trace", given=triangle(DISTURBED)).out)]
+        self.assertEqual([line for line in lines if " noise " in line], ["b noise a 00"])
+        self.assertEqual([line for line in lines if line.startswith("- ")], ["- post setup c1 a c"])
+
+    def test_a_run_that_stops(self) -> None:
+        plan = replace(LONE, script=["show", *["wait 10000"] * 5, "wait 1"])
+        ended = ason_told("run", "--trace", given=plan.text())
+        self.assertEqual((ended.status, ended.out), (EVENT_LIMIT, "stopped at limit a\n"))
+
+    def test_a_plan_with_a_fault(self) -> None:
+        ended = ason_told("run", "--trace", given=LOOP.text())
+        self.assertEqual((ended.status, ended.out), (PLAN_REFUSED, "refused plan link 1 ends\n"))
+
+    def test_an_output_that_fails(self) -> None:
+        with tempfile.TemporaryFile() as file:
+            command = [program_path(), "run", "--trace"]
+            plan = PAIR.text().encode()
+            ended = subprocess.run(command, input=plan, stdout=file, preexec_fn=at_most_five_bytes, check=False)
+            file.seek(0)
+            self.assertEqual((ended.returncode, file.read()), (WRITE_FAULT, b"ason-"))
+
+
+if __name__ == "__main__":
+    unittest.main()
