@@ -1,4 +1,4 @@
-"""`run --trace`: the trace of a run."""
+"""`run --trace` and `check`: the trace of a run."""
 
 import subprocess
 import tempfile
@@ -6,7 +6,7 @@ import unittest
 from collections import Counter
 from dataclasses import replace
 
-from ason_tools.program import DONE, EVENT_LIMIT, PLAN_REFUSED, WRITE_FAULT, program_path
+from ason_tools.program import DONE, EVENT_LIMIT, NOT_RUN, PLAN_REFUSED, WRITE_FAULT, program_path
 
 from .support import EXAMPLES, ason_told
 from .test_answers import A_TO_B, LONE, LOOP, PAIR, at_most_five_bytes
@@ -98,6 +98,51 @@ class TraceTest(unittest.TestCase):
             ended = subprocess.run(command, input=plan, stdout=file, preexec_fn=at_most_five_bytes, check=False)
             file.seek(0)
             self.assertEqual((ended.returncode, file.read()), (WRITE_FAULT, b"ason-"))
+
+
+class CheckTest(unittest.TestCase):
+    """Traces that are checked."""
+
+    def told(self, trace: str, status: int, text: str) -> None:
+        ended = ason_told("check", given=trace)
+        self.assertEqual((ended.status, ended.out), (status, text))
+
+    def test_two_ticks(self) -> None:
+        self.told(TWO_TICKS_TRACE, DONE, "run of 2 events\ncalls 0 legs 0\n")
+
+    def test_what_a_run_told_is_a_run(self) -> None:
+        for words in ([], ["--workers", "4"]):
+            for example in ("nsfnet", "lossy", "contended"):
+                with self.subTest(example=example, words=words):
+                    trace = ason_told("run", "--trace", *words, given=(EXAMPLES / f"{example}.toml").read_text()).out
+                    events = trace.split("\nevents ", 1)[1].split("\n", 1)[0]
+                    table = trace.rsplit("\ntable\n", 1)[1].removesuffix("end\n")
+                    self.told(trace, DONE, f"run of {events} events\n{table}")
+
+    def test_the_first_wrong_index_is_told(self) -> None:
+        for old, new, index in (
+            ("ason-trace 1", "ason-trace 2", 0),
+            ("plan 47", "plan 46", 0),
+            ("events 2", "events two", 0),
+            ("1 a tick", "1 b tick", 1),
+            ("2 a tick", "1 a tick", 2),
+            ("2 a tick", "2 a desk", 2),
+            ("events 2", "events 3", 3),
+            ("calls 0", "calls 1", 3),
+            ("end\n", "end\nend\n", 3),
+        ):
+            with self.subTest(old=old, new=new):
+                self.told(TWO_TICKS_TRACE.replace(old, new), NOT_RUN, f"not a run {index}\n")
+        self.told("", NOT_RUN, "not a run 0\n")
+
+    def test_a_frame_that_was_not_sent(self) -> None:
+        plan = PAIR.text()
+        trace = f"ason-trace 1\nplan {len(plan)}\n{plan}\nevents 1\n1 b deliver a 1\ntable\ncalls 0 legs 0\nend\n"
+        self.told(trace, NOT_RUN, "not a run 1\n")
+
+    def test_a_plan_with_a_fault(self) -> None:
+        plan = LOOP.text()
+        self.told(f"ason-trace 1\nplan {len(plan)}\n{plan}\n", PLAN_REFUSED, "refused plan link 1 ends\n")
 
 
 if __name__ == "__main__":

@@ -15,7 +15,7 @@ from .tables import Output, Refused, Stopped, Table, Unsettled
 REPOSITORY = Path(__file__).resolve().parents[2]
 """The folder that has the script `ason`."""
 
-DONE, USAGE, PLAN_REFUSED, READ_FAULT, WRITE_FAULT, EVENT_LIMIT, OUT_OF_MEMORY, TOO_LONG, NOT_BUILT = 0, *range(2, 10)
+DONE, NOT_RUN, USAGE, PLAN_REFUSED, READ_FAULT, WRITE_FAULT, EVENT_LIMIT, OUT_OF_MEMORY, TOO_LONG, NOT_BUILT = range(10)
 """The statuses of `ason`."""
 
 

@@ -9,9 +9,10 @@ use Rattle.plan_reader.specs.declared.plan.Plan.{Plan}
 use Rattle.plan_reader.specs.Plans.{PlanOf}
 use Rattle.plan_reader.specs.declared.faults.PlanFault.{PlanFault}
 use Rattle.table_text.specs.FaultText.{refused_text}
+use Rattle.trace_text.specs.TraceRead.{IsRefused as IsRefusedTrace}
 use Rattle.table_text.specs.TableText.{stopped_text}
 use Rattle.ason_main.specs.declared.answers.Status.{Status}
-use Rattle.ason_main.specs.Answers.{Ask, Decode, Done, EventLimit, PlanRefused, Reply, Request, Run, Survey, Trace, Unfinished}
+use Rattle.ason_main.specs.Answers.{Ask, Check, Decode, Done, EventLimit, PlanRefused, Reply, Request, Run, Survey, Trace, Unfinished}
 use Rattle.ason_main.specs.Answers.{HasKept, IsAnswered, IsJudged, IsReply, IsReplyTo, MayKeep, WasTold, WasToldOrNothing, printing}
 use Rattle.ason_main.specs.declared.runner.stops.Stop.{Stop}
 use Rattle.fleet.specs.Standing.{FleetState}
@@ -187,6 +188,7 @@ nothing_judged : (k : Request) (bs : List ℕ) (kept : Option FleetState) → ke
     IsJudged k bs (Unfinished []) kept
 nothing_judged (Run pace) bs kept none = inl (refl, none)
 nothing_judged (Trace pace) bs kept none = inl (refl, inl none)
+nothing_judged Check bs kept none = (refl, none)
 nothing_judged Decode bs kept none = (refl, none)
 nothing_judged Survey bs kept none = (refl, inl none)
 nothing_judged (Ask question from to) bs kept none = (refl, none)
@@ -200,6 +202,7 @@ no_memory written faults k bs out kept none =
 abbrev pub TakesPlan : Request → Type 0
 TakesPlan (Run pace) = Unit {0}
 TakesPlan (Trace pace) = Unit {0}
+TakesPlan Check = ⊥
 TakesPlan Decode = ⊥
 TakesPlan Survey = Unit {0}
 TakesPlan (Ask question from to) = Unit {0}
@@ -208,6 +211,7 @@ fault_judged : (k : Request) (bs : List ℕ) (f : PlanFault) (kept : Option Flee
     PlanOf bs (Err f) → kept ≡ None → IsJudged k bs (PlanRefused (refused_text f)) kept
 fault_judged (Run pace) bs f kept takes fault none = ((f, fault, refl), none)
 fault_judged (Trace pace) bs f kept takes fault none = ((f, fault, refl), none)
+fault_judged Check bs f kept takes fault none = absurd takes
 fault_judged Decode bs f kept takes fault none = absurd takes
 fault_judged Survey bs f kept takes fault none = ((f, fault, refl), none)
 fault_judged (Ask question from to) bs f kept takes fault none = ((f, fault, refl), none)
@@ -221,6 +225,15 @@ refused written faults k bs f old new kept s takes fault none (inl told) =
     (PlanRefused (refused_text f), fault_judged k bs f kept takes fault none, told)
 refused written faults k bs f old new kept s takes fault none (inr nothing) =
     (Unfinished [], nothing_judged k bs kept none, inl nothing)
+
+-- or that of the plan of what is no trace
+pub refused_trace : {K : Type 0} (written : K → Option (List ℕ)) (faults : K → ℕ) (bs : List ℕ) (f : PlanFault)
+    (old new : K) (s : Status) → IsRefusedTrace bs f →
+    WasToldOrNothing written faults old new (refused_text f) Status.PlanRefused s →
+    IsAnswered written faults Check bs old new None s
+refused_trace written faults bs f old new s fault (inl told) =
+    (PlanRefused (refused_text f), ((f, fault, refl), refl), told)
+refused_trace written faults bs f old new s fault (inr nothing) = (Unfinished [], (refl, refl), inl nothing)
 
 -- Words
 

@@ -26,7 +26,10 @@ use Rattle.command_words.specs.declared.tasks.Task.{Task}
 use Rattle.ason_main.specs.Running.{StandsYet}
 use Rattle.ason_main.specs.Loads.{IsTheLoad, IsTheStoppedLoad, load_end}
 use Rattle.ason_main.specs.Surveys.{IsTheSurvey, silent}
-use Rattle.ason_main.specs.Traces.{IsPartOfTrace, IsTheTrace}
+use Rattle.ason_main.specs.Traces.{IsPartOfTrace, IsTheTrace, checked_text, not_run_text}
+use Rattle.trace_text.specs.Checks.{IsChecked, IsNotRun}
+use Rattle.trace_text.specs.TraceRead.{IsRefused as IsRefusedTrace}
+use Rattle.trace_text.specs.declared.checking.Checked.{Checked}
 use Rattle.load_plan.specs.LoadParts.{load_parts_of}
 use Rattle.load_plan.specs.declared.parts.LoadParts.{LoadParts}
 use Rattle.plan_reader.specs.PlanTexts.{word_at}
@@ -36,6 +39,7 @@ use Rattle.plan_reader.specs.Plans.{PlanOf}
 pub data Request : Type 0 where
   Run : (pace : PaceView) → Request  -- to run a plan so, and to tell its tables
   Trace : (pace : PaceView) → Request  -- to run a plan so, and to tell the trace of its run
+  Check : Request  -- to tell whether it is the trace of a run
   Decode : Request  -- to tell what messages say
   Survey : Request  -- to tell the survey of a plan's last table
   Ask : (question : Question) (from to : List ℕ) → Request  -- to tell this of the nodes of these names
@@ -44,6 +48,7 @@ pub data Request : Type 0 where
 abbrev pub request_for : List (List ℕ) → Inquiry → Request
 request_for words (Inquiry.Run pace) = Run pace
 request_for words (Inquiry.Trace pace) = Trace pace
+request_for words Inquiry.Check = Check
 request_for words Inquiry.Decode = Decode
 request_for words Inquiry.Survey = Survey
 request_for words (Inquiry.Ask question) = Ask question (word_at words 1) (word_at words 2)
@@ -57,6 +62,7 @@ generated load = load_parts_of load.seed load.nodes load.calls
 -- a reply, with what is to be written of it
 pub data Reply : Type 0 where
   Done : (text : List ℕ) → Reply
+  NotRun : (text : List ℕ) → Reply
   Usage : Reply
   PlanRefused : (text : List ℕ) → Reply
   ReadFault : Reply
@@ -67,6 +73,7 @@ pub data Reply : Type 0 where
 -- the status of a reply that was written as a whole
 abbrev pub status_of : Reply → Status
 status_of (Done text) = Status.Done
+status_of (NotRun text) = Status.NotRun
 status_of Usage = Status.Usage
 status_of (PlanRefused text) = Status.PlanRefused
 status_of ReadFault = Status.ReadFault
@@ -77,6 +84,7 @@ status_of TooLong = Status.TooLong
 -- the exit status of the process
 abbrev pub exit_status : Status → ℕ
 exit_status Status.Done = 0
+exit_status Status.NotRun = 1
 exit_status Status.Usage = 2
 exit_status Status.PlanRefused = 3
 exit_status Status.ReadFault = 4
@@ -88,6 +96,7 @@ exit_status Status.TooLong = 8
 -- what is to be written
 abbrev pub text_of_reply : Reply → List ℕ
 text_of_reply (Done text) = text
+text_of_reply (NotRun text) = text
 text_of_reply Usage =
     codes "usage: ason run [--workers N] [--stride T] [--trace] | check | decode | route FROM TO "
     ++ codes "| load SEED NODES CALLS | best FROM TO | survey\n"
@@ -134,6 +143,7 @@ IsRunReply workers bs (EventLimit text) kept =
     × ((n : NodeId) × (more : List Stage) × IsTheStoppedOutput p (printing workers) n more text
     × HasKept p kept (end_of more))
 IsRunReply workers bs (Unfinished text) kept = IsFirstPart workers bs text kept
+IsRunReply workers bs (NotRun text) kept = ⊥
 IsRunReply workers bs Usage kept = ⊥
 IsRunReply workers bs ReadFault kept = ⊥
 IsRunReply workers bs TooLong kept = ⊥
@@ -155,6 +165,7 @@ IsTraceReply workers bs (Unfinished text) kept =
     IsNothing bs text kept
     ⊎ ((p : Plan) × PlanOf bs (Ok p)
     × ((more : List Stage) × IsPartOfTrace p workers bs more text × HasKept p kept (end_of more)))
+IsTraceReply workers bs (NotRun text) kept = ⊥
 IsTraceReply workers bs Usage kept = ⊥
 IsTraceReply workers bs ReadFault kept = ⊥
 IsTraceReply workers bs TooLong kept = ⊥
@@ -169,9 +180,21 @@ IsSurveyReply bs (EventLimit text) kept =
     (p : Plan) × PlanOf bs (Ok p)
     × ((n : NodeId) × (more : List Stage) × IsStoppedSilently p 1 n more text × HasKept p kept (end_of more))
 IsSurveyReply bs (Unfinished text) kept = IsNothing bs text kept
+IsSurveyReply bs (NotRun text) kept = ⊥
 IsSurveyReply bs Usage kept = ⊥
 IsSurveyReply bs ReadFault kept = ⊥
 IsSurveyReply bs TooLong kept = ⊥
+
+-- what the reply to `check` says of them
+abbrev pub IsCheckReply : List ℕ → Reply → Type 0
+IsCheckReply bs (Done text) = (c : Checked) × IsChecked bs c × (text ≡ checked_text c)
+IsCheckReply bs (NotRun text) = (i : ℕ) × IsNotRun bs i × (text ≡ not_run_text i)
+IsCheckReply bs (PlanRefused text) = (f : PlanFault) × IsRefusedTrace bs f × (text ≡ refused_text f)
+IsCheckReply bs (EventLimit text) = ⊥
+IsCheckReply bs (Unfinished text) = text ≡ []
+IsCheckReply bs Usage = ⊥
+IsCheckReply bs ReadFault = ⊥
+IsCheckReply bs TooLong = ⊥
 
 -- what the reply to `decode` says of them
 abbrev pub IsDecodeReply : List ℕ → Reply → Type 0
@@ -179,6 +202,7 @@ IsDecodeReply bs (Done text) = IsOne (IsDecodeText bs) text
 IsDecodeReply bs (PlanRefused text) = ⊥
 IsDecodeReply bs (EventLimit text) = ⊥
 IsDecodeReply bs (Unfinished text) = text ≡ []
+IsDecodeReply bs (NotRun text) = ⊥
 IsDecodeReply bs Usage = ⊥
 IsDecodeReply bs ReadFault = ⊥
 IsDecodeReply bs TooLong = ⊥
@@ -194,6 +218,7 @@ IsAskReply question from to bs (Done text) = (p : Plan) × PlanOf bs (Ok p) × I
 IsAskReply question from to bs (PlanRefused text) = (f : PlanFault) × PlanOf bs (Err f) × (text ≡ refused_text f)
 IsAskReply question from to bs (EventLimit text) = ⊥
 IsAskReply question from to bs (Unfinished text) = text ≡ []
+IsAskReply question from to bs (NotRun text) = ⊥
 IsAskReply question from to bs Usage = ⊥
 IsAskReply question from to bs ReadFault = ⊥
 IsAskReply question from to bs TooLong = ⊥
@@ -202,6 +227,7 @@ IsAskReply question from to bs TooLong = ⊥
 abbrev pub IsJudged : Request → List ℕ → Reply → Option FleetState → Type 0
 IsJudged (Run pace) bs r kept = IsRunReply pace.workers bs r kept
 IsJudged (Trace pace) bs r kept = IsTraceReply pace.workers bs r kept
+IsJudged Check bs r kept = IsCheckReply bs r × (kept ≡ None)
 IsJudged Decode bs r kept = IsDecodeReply bs r × (kept ≡ None)
 IsJudged Survey bs r kept = IsSurveyReply bs r kept
 IsJudged (Ask question from to) bs r kept = IsAskReply question from to bs r × (kept ≡ None)
@@ -215,6 +241,7 @@ IsLoadReply l (EventLimit text) kept =
     (n : NodeId) × (more : List Stage) × IsTheStoppedLoad l n more text × HasKept l.plan kept (end_of more)
 IsLoadReply l (Unfinished text) kept = (text ≡ []) × MayKeep l.plan kept
 IsLoadReply l (PlanRefused text) kept = ⊥
+IsLoadReply l (NotRun text) kept = ⊥
 IsLoadReply l Usage kept = ⊥
 IsLoadReply l ReadFault kept = ⊥
 IsLoadReply l TooLong kept = ⊥
@@ -238,6 +265,8 @@ abbrev pub IsReplyFor :
     Request → Reply → Option FleetState → Type 0
 IsReplyFor left handed ended faults old new k (Done text) kept =
     IsReadAndJudged left handed ended old new k (Done text) kept
+IsReplyFor left handed ended faults old new k (NotRun text) kept =
+    IsReadAndJudged left handed ended old new k (NotRun text) kept
 IsReplyFor left handed ended faults old new k Usage kept = ⊥
 IsReplyFor left handed ended faults old new k (PlanRefused text) kept =
     IsReadAndJudged left handed ended old new k (PlanRefused text) kept
@@ -320,10 +349,17 @@ IsEnd p how s =
 abbrev pub IsDoneOrOutOfMemory : Status → Type 0
 IsDoneOrOutOfMemory s = (s ≡ Status.Done) ⊎ (s ≡ Status.OutOfMemory)
 
--- how what is asked for ends on these bytes: `decode` always, the others for a plan without fault
+-- done just where the bytes are the trace of a run, and this status just where they are none and their plan has no
+-- fault, or want of memory
+pub record EndsCheck (bs : List ℕ) (s : Status) : Type 0 where
+  pub done : (c : Checked) → IsChecked bs c → IsDoneOrOutOfMemory s
+  pub not_run : (i : ℕ) → IsNotRun bs i → (s ≡ Status.NotRun) ⊎ (s ≡ Status.OutOfMemory)
+
+-- how what is asked for ends on these bytes: `check` and `decode` always, the others for a plan without fault
 abbrev pub EndsWell : Request → List ℕ → Status → Type 0
 EndsWell (Run pace) bs s = (p : Plan) → PlanOf bs (Ok p) → IsEnd p (printing pace.workers) s
 EndsWell (Trace pace) bs s = (p : Plan) → PlanOf bs (Ok p) → IsEnd p (silent_on pace.workers) s
+EndsWell Check bs s = EndsCheck bs s
 EndsWell Decode bs s = IsDoneOrOutOfMemory s
 EndsWell Survey bs s = (p : Plan) → PlanOf bs (Ok p) → IsEnd p silent s
 EndsWell (Ask question from to) bs s = (p : Plan) → PlanOf bs (Ok p) → IsDoneOrOutOfMemory s

@@ -1,5 +1,8 @@
 -- What the program tells of a run as a whole: its trace.
-use Rattle.std.specs.Prelude.{◌≡◌, ◌<◌, ◌⊎◌, ℕ, List, [], Option, length, take}
+use Rattle.std.specs.Prelude.{◌≡◌, ◌<◌, ◌⊎◌, ◌++◌, ℕ, List, [], Option, codes, length, take}
+use Rattle.std.specs.Fmt.{decimal}
+use Rattle.table_text.specs.TableText.{table_text}
+use Rattle.trace_text.specs.declared.checking.Checked.{Checked}
 use Rattle.ason_base.specs.declared.calls.TableRows.{TableRows}
 use Rattle.ason_base.specs.declared.commands.Disturb.{Disturb}
 use Rattle.ason_base.specs.declared.commands.Entry.{Entry}
@@ -60,3 +63,13 @@ pub record IsTheTrace (p : Plan) (workers : ℕ) (bs : List ℕ) (more : List St
 abbrev pub IsPartOfTrace : Plan → ℕ → List ℕ → List Stage → List ℕ → Type 0
 IsPartOfTrace p workers bs more text =
     (whole : List ℕ) × (n : ℕ) × IsTheTrace p workers bs more whole × (n < length whole) × (text ≡ take n whole)
+
+-- Checks
+
+-- `run of E events`, and the table
+abbrev pub checked_text : Checked → List ℕ
+checked_text c = codes "run of " ++ decimal c.events ++ codes " events\n" ++ table_text c.plan c.rows
+
+-- `not a run I`
+abbrev pub not_run_text : ℕ → List ℕ
+not_run_text i = codes "not a run " ++ decimal i ++ codes "\n"

@@ -10,6 +10,7 @@ ghost use Rattle.plan_reader.specs.Plans.{ArePostable, PlanOf};
 ghost use Rattle.round_rules.specs.Records.{new_record};
 ghost use Rattle.fleet.specs.Standing.{StandsFor};
 
+use crate::checks::check_input;
 use crate::host::Host;
 use crate::loads::load;
 use crate::runner::run::{Ran, run_plan};
@@ -27,6 +28,7 @@ use std::alloc::Global;
 use std::sync::Wait;
 use std::thread::Threads;
 use table_text::{best_text, route_text};
+use trace_text::laws::every_check;
 
 /// The most bytes of an input.
 const LIMIT: usize = 4_194_304;
@@ -42,6 +44,8 @@ pub enum Status {
     /// The plan was run and its tables written, or its trace, its survey, its routes, its best pair, what the messages
     /// say, or what became of a generated plan's calls: 0.
     Done,
+    /// The input is no trace of a run: 1.
+    NotRun,
     /// The words have no meaning; nothing was read: 2.
     Usage,
     /// The input is no plan: 3.
@@ -65,6 +69,7 @@ impl Status {
     {
         match self {
             Status::Done => 0,
+            Status::NotRun => 1,
             Status::Usage => 2,
             Status::PlanRefused => 3,
             Status::ReadFault => 4,
@@ -310,6 +315,7 @@ fn judge<R: Threads + Wait + Sync, K: Sink, G: Gate>(
     match inquiry {
         Inquiry::Run(pace) => run_input(host, pace, bytes, out, kept),
         Inquiry::Trace(pace) => trace_input(host, pace, bytes, out, kept),
+        Inquiry::Check => check_input(host.alloc, bytes, out),
         Inquiry::Decode => decode_input(host.alloc, bytes, out),
         Inquiry::Survey => survey_input(host, bytes, out, kept),
         Inquiry::Ask(question) => {
@@ -367,15 +373,16 @@ fn answer<R: Threads + Wait + Sync, S: Source, K: Sink, G: Gate>(
 /// Answers the words, those after the program's name. `run` reads a plan, runs its script and writes what each line
 /// prints as it is done, or tells the plan's first fault; with `--trace` it prints nothing of that, and writes the
 /// trace of the run in its place. `load` with a seed and how many nodes and calls reads nothing, runs the plan that is
-/// drawn from the seed, and writes after each part of its script how many calls are in each state. `survey` reads a
-/// plan and runs it so, prints nothing of that, and writes the survey of its last table, or the first fault. `route`
-/// and two names read a plan and write the least route between these nodes, its backup and the potentials, or the first
-/// fault. `best` and two names read one and write the pair of disjoint routes with the least total, or that there is
-/// none, and that its certificate was accepted, or the first fault. `decode` reads lines of RSVP messages in
-/// hexadecimal and writes what each says. If the sink fails the status is `WriteFault`; after that and after
-/// `OutOfMemory` a first part is written. After `Done` and `EventLimit` of `run`, `load` and `survey` the fleet that
-/// made the run is kept, with its logs and posts; after `WriteFault` and `OutOfMemory` it is that fleet or none, and
-/// after all else none.
+/// drawn from the seed, and writes after each part of its script how many calls are in each state. `check` reads a
+/// trace, and writes that it is one of a run, of how many events, and the run's last table; or that it is none, and the
+/// first index that is wrong; or the first fault of its plan. `survey` reads a plan and runs it so, prints nothing of
+/// that, and writes the survey of its last table, or the first fault. `route` and two names read a plan and write the
+/// least route between these nodes, its backup and the potentials, or the first fault. `best` and two names read one
+/// and write the pair of disjoint routes with the least total, or that there is none, and that its certificate was
+/// accepted, or the first fault. `decode` reads lines of RSVP messages in hexadecimal and writes what each says. If the
+/// sink fails the status is `WriteFault`; after that and after `OutOfMemory` a first part is written. After `Done` and
+/// `EventLimit` of `run`, `load` and `survey` the fleet that made the run is kept, with its logs and posts; after
+/// `WriteFault` and `OutOfMemory` it is that fleet or none, and after all else none.
 pub fn ason<R: Threads + Wait + Sync, S: Source, K: Sink, G: Gate>(
     rt: &R,
     alloc: Global,
@@ -393,5 +400,6 @@ pub fn ason<R: Threads + Wait + Sync, S: Source, K: Sink, G: Gate>(
         src.old src.new out.old out.new result }
     ensures loads { IsCompleteLoad K.faults (map string_bytes words.now) out.old out.new result }
 {
+    every_check();
     answer(&Host { rt, alloc, gate }, words, src, out, kept)
 }

@@ -3,6 +3,7 @@
 #![tactic(auto)]
 
 pub mod answers;
+mod checks;
 mod host;
 mod laws;
 mod loading;

@@ -37,6 +37,7 @@ asked question (from ∷ to ∷ w ∷ ws) = None
 abbrev pub command_of : List ℕ → List (List ℕ) → Option Task
 command_of w ws =
     if bytes_eq w (codes "run") then run_task ws
+    else if bytes_eq w (codes "check") then alone ws Inquiry.Check
     else if bytes_eq w (codes "decode") then alone ws Inquiry.Decode
     else if bytes_eq w (codes "survey") then alone ws Inquiry.Survey
     else if bytes_eq w (codes "route") then asked Question.Route ws

@@ -22,6 +22,8 @@ pub enum Inquiry {
     Run(Pace),
     /// To run a plan, and to tell the trace of its run.
     Trace(Pace),
+    /// To tell whether it is the trace of a run.
+    Check,
     /// To tell what messages say.
     Decode,
     /// To tell the survey of a plan's last table.
@@ -92,6 +94,7 @@ fn command_of(command: &str, words: &[String]) -> Option<Task>
 {
     match command {
         "run" => run_task(words),
+        "check" => alone(words, Inquiry::Check),
         "decode" => alone(words, Inquiry::Decode),
         "survey" => alone(words, Inquiry::Survey),
         "route" => asked(Question::Route, words),
