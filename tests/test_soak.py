@@ -36,7 +36,7 @@ def noise(chance: random.Random) -> bytes:
     if kind == 0:
         return WHOLE[: chance.randrange(len(WHOLE))]
     if kind == 1:
-        return bytes([chance.choice((0x00, 0xFF))]) * chance.choice((1, 2, 65_535))
+        return bytes([chance.choice((0x00, 0xFF))]) * chance.choice((1, 2, 1_500))
     return bytes([chance.choice((0, 45, 47, 88, 90, 255))]) + chance.randbytes(chance.randrange(400))
 
 
@@ -50,9 +50,10 @@ def hostile_lines(plan: Plan, chance: random.Random) -> Iterator[str]:
 
 
 def hostile_plan(plan: Plan, chance: random.Random) -> Plan:
-    """The plan with such lines among its own."""
+    """The plan with such lines among its own, and with the widest noise that a line has."""
     script = list(plan.script)
-    for line in hostile_lines(plan, chance):
+    widest = f"noise {' '.join(chance.choice(plan.links).ends)} {'00' * 65_535}"
+    for line in [*hostile_lines(plan, chance), widest]:
         script.insert(chance.randint(0, len(script)), line)
     return replace(plan, script=script)
 
