@@ -25,6 +25,7 @@ use Rattle.mesh_laws.proofs.surveyed.Calm.{calm_shown}
 use Rattle.mesh_laws.proofs.surveyed.Law.{every_contend_listed}
 use Rattle.mesh_laws.proofs.rest.Rests.{every_run_ends, every_run_rests}
 use Rattle.mesh_laws.proofs.restoration.Law.{every_hit_call}
+use Rattle.mesh_laws.proofs.sent.Law.{every_list, every_sent}
 
 pub laws_hold : EveryRunKeepsTheLaws
 laws_hold t events run =
@@ -32,6 +33,8 @@ laws_hold t events run =
     record {
       labels = every_label t events run;
       labelled = every_live t events run;
+      sent = every_sent t events run;
+      heard = every_list t events run;
       kept = every_leg_keeps t events run;
       calls = every_call t events run;
       tidy = every_tidy t events run;

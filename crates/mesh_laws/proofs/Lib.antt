@@ -7,4 +7,5 @@ pub mod nodes
 pub mod reports
 pub mod restoration
 pub mod rest
+pub mod sent
 pub mod surveyed

@@ -10,10 +10,11 @@ use Rattle.mesh_laws.specs.AloneLaw.{ActivationsAreAdmitted}
 use Rattle.mesh_laws.specs.BesideLaw.{BackupsGoBeside}
 use Rattle.mesh_laws.specs.CallLaw.{CallsAreTidy, CallsFit}
 use Rattle.mesh_laws.specs.ContendLaw.{UncontendedAreAdmitted}
+use Rattle.mesh_laws.specs.HeardLaw.{ListsAreLawful}
 use Rattle.mesh_laws.specs.HopLaw.{HasOneLegEach, LspFits}
 use Rattle.mesh_laws.specs.JoinedLaw.{CallsAreJoined}
 use Rattle.mesh_laws.specs.KnownLaw.{KnownFibresComeIn}
-use Rattle.mesh_laws.specs.LabelLaw.{LabelsAreShared, LegsKeepLabels, LiveLegsAreLabelled}
+use Rattle.mesh_laws.specs.LabelLaw.{LabelsAreShared, LegsKeepLabels, LiveLegsAreLabelled, SentLabelsAreShared}
 use Rattle.mesh_laws.specs.LearntLaw.{LearntRowsAreTrue}
 use Rattle.mesh_laws.specs.OrderLaw.{CallsAreOrdered}
 use Rattle.mesh_laws.specs.ReportLaw.{DesksTell, ReportsAreOfRoutes, ReportsTell}
@@ -31,6 +32,10 @@ pub record LawsHold (t : Network) (events : List MeshEvent) : Type 0 where
   -- leg has its labels; and each call fits its legs and its reports
   pub labels : (n : ℕ) → LabelsAreShared ((after t start events).nodes n).legs
   pub labelled : (n : ℕ) → LiveLegsAreLabelled ((after t start events).nodes n).legs
+  -- a label that is sent on a fibre is one LSP's, or backups' whose primaries have over a topology no risk in common
+  pub sent : (n : ℕ) → SentLabelsAreShared t ((after t start events).nodes n).legs
+  -- and so is one that is about to be sent, at each cut of the list of messages that give it
+  pub heard : ListsAreLawful t events
   -- a leg at a node that doesn't convert has one label, and its label in is one of its link's
   pub kept : (n : NodeId) → LegsKeepLabels t n ((after t start events).nodes n.0).legs
   pub calls : (n : ℕ) → CallsFit n ((after t start events).nodes n)

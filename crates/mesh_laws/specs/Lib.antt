@@ -2,6 +2,7 @@ pub mod AloneLaw
 pub mod BesideLaw
 pub mod CallLaw
 pub mod ContendLaw
+pub mod HeardLaw
 pub mod HopLaw
 pub mod HopShapes
 pub mod JoinedLaw

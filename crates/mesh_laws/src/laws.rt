@@ -4,10 +4,11 @@ ghost use Rattle.mesh_laws.specs.AloneLaw.{EveryActivationIsAdmitted, EveryRunSt
 ghost use Rattle.mesh_laws.specs.BesideLaw.{EveryBackupGoesBeside};
 ghost use Rattle.mesh_laws.specs.CallLaw.{EveryCallFitsItsLegs, EveryCallIsTidy};
 ghost use Rattle.mesh_laws.specs.ContendLaw.{NoContend};
+ghost use Rattle.mesh_laws.specs.HeardLaw.{EveryListIsLawful};
 ghost use Rattle.mesh_laws.specs.HopLaw.{EveryHopHasAShape};
 ghost use Rattle.mesh_laws.specs.JoinedLaw.{EveryCallIsJoined};
 ghost use Rattle.mesh_laws.specs.KnownLaw.{EveryKnownFibreComesIn};
-ghost use Rattle.mesh_laws.specs.LabelLaw.{EveryLabelIsShared, EveryLegKeepsLabels, EveryLiveLegIsLabelled};
+ghost use Rattle.mesh_laws.specs.LabelLaw.{EveryLabelIsShared, EveryLegKeepsLabels, EveryLiveLegIsLabelled, EverySentLabelIsShared};
 ghost use Rattle.mesh_laws.specs.Laws.{EveryRunKeepsTheLaws};
 ghost use Rattle.mesh_laws.specs.LearntLaw.{EveryLearntRowIsTrue, EveryNodeCanSearch};
 ghost use Rattle.mesh_laws.specs.NodeLaw.{EveryNodeSharesLawfully};
@@ -27,7 +28,11 @@ ghost use Rattle.mesh_laws.specs.WavelengthLaw.{EveryCallKeepsItsWavelengths};
 /// primaries have no risk in common, at most one of them Armed, Live or Falling (`labels`); a Live
 /// leg has a label in exactly where it has a fibre in, and a label out exactly where it has a fibre
 /// out (`labelled`); a leg with a label in and a label out has one label where the node doesn't
-/// convert, and its label in is one of the labels of its fibre's link (`kept`).
+/// convert, and its label in is one of the labels of its fibre's link (`kept`). A label is sent on a
+/// fibre by one leg alone, or by backups whose primaries, over a topology, have no risk in common;
+/// torn legs count too (`sent`). At each cut of the list of messages from the fibre's other end, two
+/// LSPs that may send one label once what comes before the cut has been taken are such backups, and
+/// a message that a leg will ignore counts too (`heard`).
 ///
 /// Calls, at each node. The state of each call that begins there fits its legs, each of which is of
 /// one call, and its reports (`calls`). A cause is kept in blocked, bare and stuck alone; ticks are
@@ -85,6 +90,8 @@ ghost use Rattle.mesh_laws.specs.WavelengthLaw.{EveryCallKeepsItsWavelengths};
 pub fn every_run()
     ensures labels { EveryLabelIsShared }
     ensures labelled { EveryLiveLegIsLabelled }
+    ensures sent { EverySentLabelIsShared }
+    ensures heard { EveryListIsLawful }
     ensures kept { EveryLegKeepsLabels }
     ensures calls { EveryCallFitsItsLegs }
     ensures tidy { EveryCallIsTidy }

@@ -47,7 +47,7 @@ found-later g legs l h above found =
     rw apart found
 
 -- what holds of the legs of two different LSPs holds of the legs at two different places
-pairs : (R : Leg → Leg → Type 0) (legs : List Leg) → LegsRise legs →
+pub pairs : (R : Leg → Leg → Type 0) (legs : List Leg) → LegsRise legs →
     ((l m : Lsp) (g h : Leg) → find_leg l legs ≡ Some g → find_leg m legs ≡ Some h → (l ≡ m → ⊥) → R g h) →
     AllPairs R legs
 pairs R [] rise fit = λ i j d less below. absurd (omega arith)

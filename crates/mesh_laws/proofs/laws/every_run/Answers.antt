@@ -16,6 +16,7 @@ use Rattle.mesh_laws.proofs.reports.Desks.{every_desk_tells}
 use Rattle.mesh_laws.proofs.reports.Laws.{every_report_tells}
 use Rattle.mesh_laws.proofs.rest.Rests.{every_rest_quiet, every_run_ends, every_run_rests}
 use Rattle.mesh_laws.proofs.restoration.Law.{every_hit_call}
+use Rattle.mesh_laws.proofs.sent.Law.{every_list, every_sent}
 use Rattle.mesh_laws.proofs.laws.every_run.Goals as goal
 
 pub returns-clause-labels : goal.returns-clause-labels
@@ -23,6 +24,12 @@ returns-clause-labels c = every_label
 
 pub returns-clause-labelled : goal.returns-clause-labelled
 returns-clause-labelled c = every_live
+
+pub returns-clause-sent : goal.returns-clause-sent
+returns-clause-sent c = every_sent
+
+pub returns-clause-heard : goal.returns-clause-heard
+returns-clause-heard c = every_list
 
 pub returns-clause-kept : goal.returns-clause-kept
 returns-clause-kept c = every_leg_keeps

@@ -1,0 +1,143 @@
+-- What a call's steps do with labels that are sent: none lets go of an LSP, and no leg sends more.
+use Rattle.std.proofs.Common.{◌≡◌, ◌≤◌, Bool, true, false, drop, nat_lt, List, refl, arith}
+use Rattle.std.specs.Prelude.{Option, Some, None, IfSome, is_some}
+use Rattle.ason_base.specs.Codes.{busy_code}
+use Rattle.ason_base.specs.Risks.{unknown_link}
+use Rattle.ason_base.specs.declared.calls.CallState.{CallState}
+use Rattle.ason_base.specs.declared.calls.CallState.TheVariants.{Asking, Bare, Blocked, Guarded, Pairing, Stuck, Turned, Turning}
+use Rattle.ason_base.specs.declared.calls.Cause.{Cause}
+use Rattle.ason_base.specs.declared.calls.Cause.TheVariants.{BackDown, Code, Full, NoBackup, Spent}
+use Rattle.ason_base.specs.declared.calls.Phase.TheVariants.{Armed, Held}
+use Rattle.ason_base.specs.declared.codes.ErrCode.{ErrCode}
+use Rattle.ason_base.specs.declared.network.LinkSpec.{LinkSpec}
+use Rattle.ason_base.specs.declared.steps.Step.{Step}
+use Rattle.ason_base.specs.declared.tables.CallRec.{CallRec}
+use Rattle.ason_base.specs.declared.tables.Leg.{Leg}
+use Rattle.mesh_rules.specs.declared.limits.TheConstants.{LAST_NUMBER}
+use Rattle.mesh_rules.specs.declared.neighbours.Neighbour.{Neighbour}
+use Rattle.mesh_rules.specs.CallSteps.{call_answered, call_contended, call_refused, call_turned}
+use Rattle.mesh_rules.specs.Calls.{bare, blocked, guarded, is_asking, is_pairing, is_turning, stuck, turned}
+use Rattle.mesh_rules.specs.Changes.{Answer, nothing}
+use Rattle.mesh_rules.specs.FirstLegs.{NewLsp, first_leg, first_link, is_full}
+use Rattle.mesh_rules.specs.KnownRows.{known_rows}
+use Rattle.mesh_rules.specs.Legs.{following, is_held, is_in_use, is_work}
+use Rattle.mesh_rules.specs.LocalNodes.{LocalNode}
+use Rattle.mesh_rules.specs.Pairs.{backup_lsp, backup_route, leaves_bare, over_backup, pair, pair_over, route_from}
+use Rattle.mesh_rules.specs.State.{NodeState}
+use Rattle.mesh_rules.specs.Turns.{activating_path, call_put, decide, decided, go_back, has_any, taking_path, turn}
+use Rattle.mesh_nodes.proofs.Cases.{if_cases}
+use Rattle.mesh_laws.proofs.sent.LegsHear.{first-sends}
+use Rattle.mesh_laws.proofs.sent.May.{Calm, Given, May, NoneRemoves, SaidFirst, idle, phased-may}
+
+module _ (p : LocalNode) (s : NodeState) (Q : Given) where
+  abbrev IsCalm : Answer → Type 0
+  IsCalm a = Calm p s Q a
+
+  abbrev IsGood : Leg → Type 0
+  IsGood g = May p s Q g
+
+  still : IsCalm nothing
+  still = idle p s Q
+
+  -- the first leg of an LSP that begins here
+  pub first-may : (n : NewLsp) → n.lsp.ingress ≡ p.id → s.lsp ≤ n.lsp.lsp → May p s Q (first_leg p (known_rows p s) n)
+  first-may n here new = record {
+    sent = λ f x h. absurd (first-sends p (known_rows p s) n f x h);
+    says = SaidFirst here new;
+    plain = refl;
+  }
+
+  -- What a call makes of its state, its backup and its working LSP, a lemma for each of the definitions
+  pub put-calm : (c : CallRec) → Calm p s Q (call_put c)
+  put-calm c = record { legs = tt; sent = tt }
+
+  activating-none : (b : Leg) (o : Option Neighbour) → IsGood b → NoneRemoves (activating_path b o)
+  activating-none b None may = tt
+  activating-none b (Some h) may = ((refl, may.plain), tt)
+
+  taking-none : (b : Leg) (o : Option Neighbour) → IsGood b → NoneRemoves (taking_path b o)
+  taking-none b None may = tt
+  taking-none b (Some h) may = ((refl, may.plain), tt)
+
+  pub turn-calm : (c : CallRec) (o : Option Leg) → IfSome o (May p s Q) → Calm p s Q (turn c o)
+  turn-calm c None may = put-calm c
+  turn-calm c (Some b) may =
+      if_cases IsCalm (is_held b.phase) _ _
+      (λ e. record { legs = (phased-may p s Q Armed b may, tt); sent = activating-none b (following b) may })
+      (λ e. put-calm c)
+
+  pub go_back-calm : (c : CallRec) (o : Option Leg) → IfSome o (May p s Q) → Calm p s Q (go_back c o)
+  go_back-calm c None may = put-calm c
+  go_back-calm c (Some b) may =
+      if_cases IsCalm (is_in_use b.phase) _ _
+      (λ e. record { legs = (phased-may p s Q Held b may, tt); sent = taking-none b (following b) may })
+      (λ e. put-calm c)
+
+  decided-calm : (c : CallRec) (o : Option Leg) (state : CallState) (works backs : Bool) → IfSome o (May p s Q) →
+      IsCalm (decided c o state works backs)
+  decided-calm c o Asking works backs may = put-calm c
+  decided-calm c o Blocked works backs may = put-calm c
+  decided-calm c o Bare works backs may = put-calm c
+  decided-calm c o Pairing works backs may = put-calm c
+  decided-calm c o Guarded true false may = turn-calm c o may
+  decided-calm c o Guarded true true may = put-calm (stuck c BackDown)
+  decided-calm c o Guarded false backs may = put-calm c
+  decided-calm c o Turning works backs may = put-calm c
+  decided-calm c o Turned true backs may = put-calm c
+  decided-calm c o Turned false true may = go_back-calm c o may
+  decided-calm c o Turned false false may = put-calm c
+  decided-calm c o Stuck true backs may = put-calm c
+  decided-calm c o Stuck false backs may = put-calm (guarded c)
+
+  pub decide-calm : (c : CallRec) (o : Option Leg) → IfSome o (May p s Q) → Calm p s Q (decide c o)
+  decide-calm c o may = decided-calm c o c.state (has_any c.work_reports) (has_any c.back_reports) may
+
+  bare-calm : (c : CallRec) (cause : Cause) → IsCalm (leaves_bare c cause)
+  bare-calm c cause = record { legs = tt; sent = tt }
+
+  -- a backup is asked for beside a working LSP that begins here
+  pub pair-calm : (c : CallRec) (w : Leg) → w.lsp.ingress ≡ p.id → Calm p s Q (pair p s c w)
+  pair-calm c w here =
+      if_cases IsCalm (is_some (unknown_link (known_rows p s) (route_from p w))) _ _ (λ e. bare-calm c NoBackup)
+      (λ e. along (backup_route p s c w))
+    where
+      over : (route : List Step) (o : Option LinkSpec) → IsCalm (over_backup p s c w route o)
+      over route None = bare-calm c NoBackup
+      over route (Some out) =
+          if_cases IsCalm (nat_lt LAST_NUMBER s.lsp) _ _ (λ e. bare-calm c Spent)
+          (λ e. if_cases IsCalm (is_full s) _ _ (λ e. bare-calm c Full)
+          (λ e. record {
+            legs = (first-may (backup_lsp p s w out (drop 1 route)) here (omega arith), tt);
+            sent = ((refl, refl), tt);
+          }))
+
+      along : (o : Option (List Step)) → IsCalm (pair_over p s c w o)
+      along None = bare-calm c NoBackup
+      along (Some route) = over route (first_link p route)
+
+  pub answered-calm : (g : Leg) (o : Option CallRec) → g.lsp.ingress ≡ p.id → May p s Q g →
+      Calm p s Q (call_answered p s g o)
+  answered-calm g None here may = still
+  answered-calm g (Some c) here may =
+      if_cases IsCalm (is_work g.role) _ _
+      (λ e. if_cases IsCalm (is_asking c.state) _ _
+      (λ e. if_cases IsCalm c.protected _ _ (λ e. pair-calm c g here) (λ e. put-calm (bare c))) (λ e. still))
+      (λ e. if_cases IsCalm (is_pairing c.state) _ _ (λ e. decide-calm (guarded c) (Some g) may) (λ e. still))
+
+  pub turned-calm : (b : Leg) (o : Option CallRec) → May p s Q b → Calm p s Q (call_turned b o)
+  turned-calm b None may = still
+  turned-calm b (Some c) may =
+      if_cases IsCalm (is_turning c.state) _ _ (λ e. decide-calm (turned c) (Some b) may) (λ e. still)
+
+  pub contended-calm : (b : Leg) (o : Option CallRec) → May p s Q b → Calm p s Q (call_contended b o)
+  contended-calm b None may = still
+  contended-calm b (Some c) may =
+      if_cases IsCalm (is_turning c.state) _ _ (λ e. decide-calm (stuck c (Code busy_code)) (Some b) may)
+      (λ e. still)
+
+  pub refused-calm : (code : ErrCode) (g : Leg) (o : Option CallRec) → Calm p s Q (call_refused code g o)
+  refused-calm code g None = still
+  refused-calm code g (Some c) =
+      if_cases IsCalm (is_work g.role) _ _
+      (λ e. if_cases IsCalm (is_asking c.state) _ _ (λ e. put-calm (blocked c (Code code))) (λ e. still))
+      (λ e. if_cases IsCalm (is_pairing c.state) _ _ (λ e. bare-calm c (Code code)) (λ e. still))

@@ -1,0 +1,144 @@
+-- What a message that is first in its list tells: a removal leaves no leg of its LSP, and what a message brings is of a
+-- fibre back over the link that it came by.
+use Rattle.std.proofs.Common.{◌≡◌, ℕ, suc, true, false, List, [], ◌∷◌, refl, sym, ap, subst, ◌∙◌, inl, inr}
+use Rattle.std.specs.Prelude.{◌⊎◌, map, Option, Some, None}
+use Rattle.ason_base.specs.Network.{Network, receiver_of, sender_of}
+use Rattle.ason_base.specs.declared.codes.ErrCode.{ErrCode}
+use Rattle.ason_base.specs.declared.ids.Fibre.{Fibre}
+use Rattle.ason_base.specs.declared.ids.Lsp.{Lsp}
+use Rattle.ason_base.specs.declared.ids.NodeId.{NodeId}
+use Rattle.ason_base.specs.declared.messages.Msg.{Msg}
+use Rattle.ason_base.specs.declared.messages.Msg.TheVariants.{Path, Resv, PathTear, PathErr, Notify}
+use Rattle.ason_base.specs.declared.steps.Step.{Step}
+use Rattle.mesh_rules.specs.Changes.{Answer}
+use Rattle.mesh_rules.specs.Legs.{find_leg, legs_changed}
+use Rattle.mesh_rules.specs.LocalNodes.{LocalNode}
+use Rattle.mesh_rules.specs.Machine.{Mesh, commit, without_first}
+use Rattle.mesh_rules.specs.Messages.{on_message}
+use Rattle.mesh_nodes.proofs.LegList.{same_lsp-refl}
+use Rattle.mesh_laws.specs.HeardLaw.{brings, lets_go}
+use Rattle.mesh_laws.specs.HopLaw.{is_message_of, is_notice, leg_at, lsp_of, mail_between, messages_of}
+use Rattle.mesh_laws.specs.HopShapes.{msg_kind}
+use Rattle.mesh_laws.proofs.hops.Chain.{OnRoute}
+use Rattle.mesh_laws.proofs.hops.Planned.{Follows, Routes}
+use Rattle.mesh_laws.proofs.hops.Plans.{Plan, node_at, plan, same, same_node}
+use Rattle.mesh_laws.proofs.hops.Purposes.{role_of}
+use Rattle.mesh_laws.proofs.hops.Rows.{no_removal_down}
+use Rattle.mesh_laws.proofs.sent.Answers.{none-down}
+use Rattle.mesh_laws.proofs.sent.Brought.{removal-goes, up-over}
+use Rattle.mesh_laws.proofs.sent.May.{IsPlain}
+use Rattle.mesh_laws.proofs.sent.Standing.{Standing, each-own, first-of}
+
+module _ (t : Network) (o w : Routes) (s : Mesh) (now : Standing t o w s) (here : LocalNode) (u d : NodeId)
+    (m : Msg) (rest : List Msg) (first : s.mail u.0 d.0 ≡ m ∷ rest) where
+  abbrev answer : Answer
+  answer = on_message here (s.nodes d.0) u m
+
+  after_removal : (l : Lsp) (e at : NodeId) (code : ErrCode) → s.mail u.0 d.0 ≡ PathErr l e at true code ∷ rest →
+      leg_at (commit (without_first s u.0 d.0) d.0 (on_message here (s.nodes d.0) u (PathErr l e at true code))) l d ≡
+      None
+  after_removal l e at code came = go (o l) (now.follows l)
+    where
+      removal : Msg
+      removal = PathErr l e at true code
+
+      later : Mesh
+      later = commit (without_first s u.0 d.0) d.0 (on_message here (s.nodes d.0) u (PathErr l e at true code))
+
+      mine : mail_between s l u d ≡ removal ∷ messages_of l rest
+      mine = first-of s l u d removal rest came (same_lsp-refl l)
+
+      go : (c : Option (List Step)) → Follows t s o l c → leg_at later l d ≡ None
+      go None f = absurd (let none = f.mail u d in cc (none, mine))
+      go (Some route) (end, q, pl) = way (pl.chain.ways u d)
+        where
+          p : Plan
+          p = plan route end
+
+          way : (mail_between s l u d ≡ []) ⊎ OnRoute p u d → leg_at later l d ≡ None
+          way (inl none) = absurd (cc (none, mine))
+          way (inr (i, small, inl (at_u, at_d))) =
+              let u_is : u ≡ node_at p i = same_node u (node_at p i) at_u in
+              let d_is : d ≡ node_at p (suc i) = same_node d (node_at p (suc i)) at_d in
+              let list : mail_between s l (node_at p i) (node_at p (suc i)) ≡ removal ∷ messages_of l rest =
+              subst (λ n. mail_between s l (node_at p i) n ≡ removal ∷ messages_of l rest) d_is
+              (subst (λ n. mail_between s l n d ≡ removal ∷ messages_of l rest) u_is mine) in
+              absurd (no_removal_down (role_of q) _ _ (map msg_kind (messages_of l rest)) _
+              (rw list at (pl.chain.each i small).shape))
+          way (inr (i, small, inr (at_u, at_d))) =
+              let u_is : u ≡ node_at p (suc i) = same_node u (node_at p (suc i)) at_u in
+              let d_is : d ≡ node_at p i = same_node d (node_at p i) at_d in
+              let list : mail_between s l (node_at p (suc i)) (node_at p i) ≡ removal ∷ messages_of l rest =
+              subst (λ n. mail_between s l (node_at p (suc i)) n ≡ removal ∷ messages_of l rest) d_is
+              (subst (λ n. mail_between s l n d ≡ removal ∷ messages_of l rest) u_is mine) in
+              let gone = removal-goes t q l p l.ingress pl.route (leg_at s l) (mail_between s l) pl.chain i small e at
+              code (messages_of l rest) (s.nodes d.0) here list (ap (λ n. leg_at s l n) (sym d_is)) in
+              rw (same d.0) (subst
+              (λ n. find_leg l (legs_changed (on_message here (s.nodes d.0) n removal).legs (s.nodes d.0).legs) ≡ None)
+              (sym u_is) gone)
+
+  of_removal : (n : Msg) → n ≡ m → lets_go n ≡ true →
+      leg_at (commit (without_first s u.0 d.0) d.0 (on_message here (s.nodes d.0) u n)) (lsp_of n) d ≡ None
+  of_removal (Path l e k route set up r) is h = absurd (cc h)
+  of_removal (Resv l e k x) is h = absurd (cc h)
+  of_removal (PathTear l e k) is h = absurd (cc h)
+  of_removal (PathErr l e at false code) is h = absurd (cc h)
+  of_removal (Notify l e at k code) is h = absurd (cc h)
+  of_removal (PathErr l e at true code) is h =
+      after_removal l e at code (first ∙ ap (λ n. n ∷ rest) (sym is))
+
+  -- a message that lets go leaves no leg of its LSP
+  pub goes : lets_go m ≡ true → leg_at (commit (without_first s u.0 d.0) d.0 answer) (lsp_of m) d ≡ None
+  goes h = of_removal m refl h
+
+  not-notice : (f : Fibre) (x : ℕ) (n : Msg) → brings f x n ≡ true → is_notice n ≡ false
+  not-notice f x (Path l e k route set up r) h = refl
+  not-notice f x (Resv l e k y) h = refl
+  not-notice f x (PathTear l e k) h = refl
+  not-notice f x (PathErr l e at gone code) h = refl
+  not-notice f x (Notify l e at k code) h = absurd (cc h)
+
+  -- what a message brings is of a fibre to its sender
+  pub over : (f : Fibre) (x : ℕ) → brings f x m ≡ true → sender_of t f ≡ Some d → receiver_of t f ≡ Some u
+  over f x h from = go (o l) (now.follows l)
+    where
+      l : Lsp
+      l = lsp_of m
+
+      own : is_message_of l m ≡ true
+      own = rw (not-notice f x m h) (same_lsp-refl l)
+
+      mine : mail_between s l u d ≡ m ∷ messages_of l rest
+      mine = first-of s l u d m rest first own
+
+      plain : IsPlain m
+      plain = let all = rw first at (now.plain u.0 d.0) in all.0
+
+      go : (c : Option (List Step)) → Follows t s o l c → receiver_of t f ≡ Some u
+      go None f' = absurd (let none = f'.mail u d in cc (none, mine))
+      go (Some route) (end, q, pl) = way (pl.chain.ways u d)
+        where
+          p : Plan
+          p = plan route end
+
+          way : (mail_between s l u d ≡ []) ⊎ OnRoute p u d → receiver_of t f ≡ Some u
+          way (inl none) = absurd (cc (none, mine))
+          way (inr (i, small, inl (at_u, at_d))) =
+              let u_is : u ≡ node_at p i = same_node u (node_at p i) at_u in
+              let d_is : d ≡ node_at p (suc i) = same_node d (node_at p (suc i)) at_d in
+              let list : mail_between s l (node_at p i) (node_at p (suc i)) ≡ m ∷ messages_of l rest =
+              subst (λ n. mail_between s l (node_at p i) n ≡ m ∷ messages_of l rest) d_is
+              (subst (λ n. mail_between s l n d ≡ m ∷ messages_of l rest) u_is mine) in
+              let shape = rw list at (pl.chain.each i small).shape in
+              let none = none-down (role_of q) _ _ f x (m ∷ messages_of l rest) _
+              (plain, each-own IsPlain l rest (let all = rw first at (now.plain u.0 d.0) in all.1)) shape in
+              absurd (let not = none.0 in cc (not, h))
+          way (inr (i, small, inr (at_u, at_d))) =
+              let u_is : u ≡ node_at p (suc i) = same_node u (node_at p (suc i)) at_u in
+              let d_is : d ≡ node_at p i = same_node d (node_at p i) at_d in
+              let list : mail_between s l (node_at p (suc i)) (node_at p i) ≡ m ∷ messages_of l rest =
+              subst (λ n. mail_between s l (node_at p (suc i)) n ≡ m ∷ messages_of l rest) d_is
+              (subst (λ n. mail_between s l n d ≡ m ∷ messages_of l rest) u_is mine) in
+              let ups = rw list at (pl.chain.each i small).rest.going_up in
+              up-over t q l p l.ingress pl.route (leg_at s l) (mail_between s l) pl.chain i small f x m ups.0 plain h
+              (from ∙ ap Some d_is) ∙ ap Some (sym u_is)

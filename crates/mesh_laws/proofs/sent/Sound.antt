@@ -1,0 +1,213 @@
+-- What holds of labels that are sent, over each event.
+use Rattle.std.proofs.Common.{◌≡◌, ℕ, true, List, [], ◌∷◌, refl, sym, ◌∙◌, inl, inr}
+use Rattle.std.specs.Prelude.{Option, Some, None}
+use Rattle.ason_base.specs.Network.{Network}
+use Rattle.ason_base.specs.declared.commands.Command.{Command}
+use Rattle.ason_base.specs.declared.commands.Command.TheVariants.{Setup, Release, Protect, Retry, Revert, Fail, Repair}
+use Rattle.ason_base.specs.declared.commands.DeskItem.{DeskItem}
+use Rattle.ason_base.specs.declared.ids.Lsp.{Lsp}
+use Rattle.ason_base.specs.declared.ids.NodeId.{NodeId}
+use Rattle.ason_base.specs.declared.messages.Msg.{Msg}
+use Rattle.ason_base.specs.declared.network.LinkSpec.{LinkSpec}
+use Rattle.ason_base.specs.declared.steps.Step.{Step}
+use Rattle.mesh_rules.specs.declared.events.MeshEvent.{MeshEvent}
+use Rattle.mesh_rules.specs.Changes.{Answer, nothing}
+use Rattle.mesh_rules.specs.Events.{has_first, on_first, on_first_item, or_route, posted}
+use Rattle.mesh_rules.specs.KnownRows.{has_row, known_rows}
+use Rattle.mesh_rules.specs.Learnt.{on_link}
+use Rattle.mesh_rules.specs.LocalNodes.{LocalNode, local_node}
+use Rattle.mesh_rules.specs.Machine.{Mesh, commit, without_first}
+use Rattle.mesh_rules.specs.Messages.{on_message}
+use Rattle.mesh_rules.specs.State.{NodeState}
+use Rattle.mesh_laws.specs.HopLaw.{leg_at}
+use Rattle.mesh_nodes.proofs.Cases.{if_cases}
+use Rattle.mesh_laws.proofs.hops.Laws.{carried}
+use Rattle.mesh_laws.proofs.hops.Planned.{Routes}
+use Rattle.mesh_laws.proofs.hops.Plans.{other, same}
+use Rattle.mesh_laws.proofs.hops.Run.{Carried, step_routes}
+use Rattle.mesh_laws.proofs.nodes.Facts.{MeshFacts, NodeFacts}
+use Rattle.mesh_laws.proofs.sent.After.{after-fit}
+use Rattle.mesh_laws.proofs.sent.Events.{leg-after, lawful-posted, lawful-quiet, lawful-taken}
+use Rattle.mesh_laws.proofs.sent.FirstMessages.{goes, over}
+use Rattle.mesh_laws.proofs.sent.ItemsHear.{item-calm}
+use Rattle.mesh_laws.proofs.sent.May.{Calm, Fine, fine, fine-plain, gift, idle, no_gift}
+use Rattle.mesh_laws.proofs.sent.MessagesHear.{message-fine}
+use Rattle.mesh_laws.proofs.sent.Standing.{MailPlain, Share, Standing, share-lasts, taken-of}
+use Rattle.mesh_laws.proofs.sent.Steps.{LawfulMesh}
+use Rattle.mesh_laws.proofs.sent.Told.{Told, gift-tells, still-told, told-step, told_now}
+use Rattle.mesh_laws.proofs.sent.Plain.{commit-plain, first-plain, posted-plain}
+
+-- The state of a run
+
+-- what is carried along a run: w has the primary of each backup, o the route of each LSP
+pub record Sound (t : Network) (o w : Routes) (s : Mesh) : Type 0 where
+  pub carried : Carried t s o
+  pub facts : MeshFacts t s
+  pub told : Told o w s
+  pub plain : MailPlain s
+  pub lawful : LawfulMesh t (Share t w) s
+
+-- in it each LSP stands as it was told
+pub standing : (t : Network) (o w : Routes) (s : Mesh) → Sound t o w s → Standing t o w s
+standing t o w s now =
+    record { follows = now.carried.follows; facts = now.facts; told = now.told; plain = now.plain }
+
+lawful-share : (t : Network) (w w' : Routes) (s : Mesh) →
+    ((l : Lsp) (r : List Step) → w l ≡ Some r → w' l ≡ Some r) → LawfulMesh t (Share t w) s →
+    LawfulMesh t (Share t w') s
+lawful-share t w w' s lasts lawful f x u d apart from to before since is l m this that =
+    elim (lawful f x u d apart from to before since is l m this that) [
+      | inl same ↦ inl same
+      | inr shares ↦ inr (share-lasts t w w' lasts l m shares)
+    ]
+
+or-lasts : (a b : Option (List Step)) (r : List Step) → a ≡ Some r → or_route a b ≡ Some r
+or-lasts None b r e = absurd (cc e)
+or-lasts (Some x) b r e = e
+
+-- what has nothing after it had nothing before
+pub or-first : (a b : Option (List Step)) → or_route a b ≡ None → a ≡ None
+or-first None b e = refl
+or-first (Some x) b e = absurd (cc e)
+
+none-before : (l : Lsp) (o : Routes) (v : Option (List Step)) → or_route (o l) v ≡ None → o l ≡ None
+none-before l o v e = or-first (o l) v e
+
+lasts-now : (s' : Mesh) (w : Routes) (l : Lsp) (r : List Step) → w l ≡ Some r → told_now s' w l ≡ Some r
+lasts-now s' w l r e = or-lasts (w l) _ r e
+
+-- Each event
+
+-- the first item of a desk
+pub first_item-calm : (t : Network) (n : NodeId) (s : NodeState) → NodeFacts n.0 s → (items : List DeskItem) →
+    Calm (local_node t n) s no_gift (on_first_item (local_node t n) s items)
+first_item-calm t n s facts [] = idle (local_node t n) s no_gift
+first_item-calm t n s facts (i ∷ items) = item-calm (local_node t n) s no_gift facts i
+
+-- a link that is learnt
+pub link-calm : (p : LocalNode) (s : NodeState) (o : Option LinkSpec) → Calm p s no_gift (on_link p s o)
+link-calm p s None = idle p s no_gift
+link-calm p s (Some l) =
+    if_cases (Calm p s no_gift) (has_row (known_rows p s) l.id) nothing _ (λ e. idle p s no_gift)
+    (λ e. record { legs = tt; sent = tt })
+
+posted-legs : (t : Network) (s : Mesh) (c : Command) (l : Lsp) (k : NodeId) →
+    leg_at (posted t s c) l k ≡ leg_at s l k
+posted-legs t s (Setup n from to protected two via backup) l k = refl
+posted-legs t s (Release n from) l k = refl
+posted-legs t s (Protect n from) l k = refl
+posted-legs t s (Retry n from) l k = refl
+posted-legs t s (Revert n from) l k = refl
+posted-legs t s (Fail g) l k = refl
+posted-legs t s (Repair g) l k = refl
+
+module _ (t : Network) (o w : Routes) (s : Mesh) (now : Sound t o w s) where
+  -- with these desks
+  abbrev with_desks : (ℕ → List DeskItem) → Mesh
+  with_desks desks = record s { desks = desks }
+
+  -- Nothing is heard: the node n answers an item of its desk, or a tick.
+  pub quiet_sound : (desks : ℕ → List DeskItem) (n : NodeId) (a : Answer) (o' : Routes) →
+      Calm (local_node t n) (s.nodes n.0) no_gift a → ((l : Lsp) → o' l ≡ None → o l ≡ None) →
+      Carried t (commit (with_desks desks) n.0 a) o' → MeshFacts t (commit (with_desks desks) n.0 a) →
+      Sound t o' (told_now (commit (with_desks desks) n.0 a) w) (commit (with_desks desks) n.0 a)
+  quiet_sound desks n a o' calm grow carried facts =
+      record { carried = carried; facts = facts; told = told; plain = plain; lawful = lawful }
+    where
+      p : LocalNode
+      p = local_node t n
+
+      s' : Mesh
+      s' = commit (with_desks desks) n.0 a
+
+      told : Told o' (told_now s' w) s'
+      told =
+          told-step t s s' o o' w now.carried.follows carried.follows grow now.told n no_gift
+          (λ l r never. absurd never) (λ l k apart. rw (other k.0 n.0 apart) refl)
+          (λ l g here. (after-fit p (s.nodes n.0) no_gift a.legs calm.legs l g
+          (sym (leg-after (with_desks desks) n a l) ∙ here)).says)
+
+      plain : MailPlain s'
+      plain =
+          commit-plain (with_desks desks) n.0 a now.plain
+          (fine-plain p (s.nodes n.0) no_gift a (fine p (s.nodes n.0) no_gift a calm))
+
+      lawful : LawfulMesh t (Share t (told_now s' w)) s'
+      lawful =
+          lawful-quiet t (Share t (told_now s' w)) (with_desks desks) p n a calm
+          (taken-of t o' (told_now s' w) s'
+          (record { follows = carried.follows; facts = facts; told = told; plain = plain }))
+          (lawful-share t w (told_now s' w) s (lasts-now s' w) now.lawful)
+
+  -- A message is taken.
+  taken_sound : (d u : NodeId) (o' : Routes) (m : Msg) (rest : List Msg) → s.mail u.0 d.0 ≡ m ∷ rest →
+      ((l : Lsp) → o' l ≡ None → o l ≡ None) →
+      Carried t (commit (without_first s u.0 d.0) d.0 (on_message (local_node t d) (s.nodes d.0) u m)) o' →
+      MeshFacts t (commit (without_first s u.0 d.0) d.0 (on_message (local_node t d) (s.nodes d.0) u m)) →
+      Sound t o' (told_now (commit (without_first s u.0 d.0) d.0 (on_message (local_node t d) (s.nodes d.0) u m)) w)
+      (commit (without_first s u.0 d.0) d.0 (on_message (local_node t d) (s.nodes d.0) u m))
+  taken_sound d u o' m rest first grow carried facts =
+      record { carried = carried; facts = facts; told = told; plain = plain; lawful = lawful }
+    where
+      p : LocalNode
+      p = local_node t d
+
+      a : Answer
+      a = on_message (local_node t d) (s.nodes d.0) u m
+
+      s' : Mesh
+      s' = commit (without_first s u.0 d.0) d.0 a
+
+      may : Fine p (s.nodes d.0) (gift m) a
+      may = message-fine p (s.nodes d.0) (now.facts.node d.0) u m
+
+      told : Told o' (told_now s' w) s'
+      told =
+          told-step t s s' o o' w now.carried.follows carried.follows grow now.told d (gift m)
+          (gift-tells t s o w now.carried.follows now.told u d m rest first)
+          (λ l k apart. rw (other k.0 d.0 apart) refl)
+          (λ l g here. (after-fit p (s.nodes d.0) (gift m) a.legs may.legs l g
+          (sym (leg-after (without_first s u.0 d.0) d a l) ∙ here)).says)
+
+      plain : MailPlain s'
+      plain =
+          commit-plain (without_first s u.0 d.0) d.0 a (first-plain s u.0 d.0 now.plain)
+          (fine-plain p (s.nodes d.0) (gift m) a may)
+
+      lawful : LawfulMesh t (Share t (told_now s' w)) s'
+      lawful =
+          lawful-taken t (Share t (told_now s' w)) s p d u m rest first a may
+          (goes t o w s (standing t o w s now) p u d m rest first)
+          (over t o w s (standing t o w s now) p u d m rest first)
+          (taken-of t o' (told_now s' w) s'
+          (record { follows = carried.follows; facts = facts; told = told; plain = plain }))
+          (lawful-share t w (told_now s' w) s (lasts-now s' w) now.lawful)
+
+  -- the first message of a list
+  pub first_sound : (d u : NodeId) (o' : Routes) (ms : List Msg) → s.mail u.0 d.0 ≡ ms → has_first ms ≡ true →
+      ((l : Lsp) → o' l ≡ None → o l ≡ None) →
+      Carried t (commit (without_first s u.0 d.0) d.0 (on_first (local_node t d) (s.nodes d.0) u ms)) o' →
+      MeshFacts t (commit (without_first s u.0 d.0) d.0 (on_first (local_node t d) (s.nodes d.0) u ms)) →
+      Sound t o' (told_now (commit (without_first s u.0 d.0) d.0 (on_first (local_node t d) (s.nodes d.0) u ms)) w)
+      (commit (without_first s u.0 d.0) d.0 (on_first (local_node t d) (s.nodes d.0) u ms))
+  first_sound d u o' [] first enabled grow carried facts = absurd (cc enabled)
+  first_sound d u o' (m ∷ rest) first enabled grow carried facts =
+      taken_sound d u o' m rest first grow carried facts
+
+  -- A command is posted.
+  pub posted_sound : (c : Command) (o' : Routes) → ((l : Lsp) → o' l ≡ None → o l ≡ None) →
+      Carried t (posted t s c) o' →
+      MeshFacts t (posted t s c) → Sound t o' (told_now (posted t s c) w) (posted t s c)
+  posted_sound c o' grow carried facts = record {
+    carried = carried;
+    facts = facts;
+    told = still-told t s (posted t s c) o o' w now.carried.follows carried.follows grow now.told
+        (λ l k g here. now.told.legs l k g (sym (posted-legs t s c l k) ∙ here));
+    plain = posted-plain t s c now.plain;
+    lawful = lawful-posted t (Share t (told_now (posted t s c) w)) s c
+        (lawful-share t w (told_now (posted t s c) w) s (lasts-now (posted t s c) w) now.lawful);
+  }
+
+  -- no event takes a route away
+  pub grows : (e : MeshEvent) (l : Lsp) → step_routes t s e o l ≡ None → o l ≡ None
+  grows e l none = or-first (o l) _ none
