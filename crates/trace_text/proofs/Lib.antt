@@ -1,7 +1,6 @@
 mod BytesTold
 mod Decimals
 mod Digits
-mod EntriesCounted
 mod EntriesTold
 mod LinesChecked
 mod LinesTold

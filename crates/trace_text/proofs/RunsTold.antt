@@ -44,14 +44,14 @@ channel_known : (t : Network) (u d : NodeId) → is_channel t u d ≡ true → i
 channel_known t u d on = (and_parts (is_node_id t.nodes u) _ (and_parts _ _ (and_parts _ _ on).0).0).0
 
 -- the nodes of an event are those of the network
-abbrev pub AreKnown : Network → Event → Type 0
+abbrev AreKnown : Network → Event → Type 0
 AreKnown t (Deliver d u k) = (is_node_id t.nodes d ≡ true) × (is_node_id t.nodes u ≡ true)
 AreKnown t (Noise d u bytes) = (is_node_id t.nodes d ≡ true) × (is_node_id t.nodes u ≡ true)
 AreKnown t (Tick n) = is_node_id t.nodes n ≡ true
 AreKnown t (Desk n) = is_node_id t.nodes n ≡ true
 AreKnown t (Post c) = Unit {0}
 
-pub enabled_known : (t : Network) (w : World) (e : Event) → IsEnabled t w e → AreKnown t e
+enabled_known : (t : Network) (w : World) (e : Event) → IsEnabled t w e → AreKnown t e
 enabled_known t w (Deliver d u k) on =
     let there = and_parts (may_act t w d && is_channel t u d) (is_some (frame_at w u d k)) on in
     let (acts, joined) = and_parts (may_act t w d) (is_channel t u d) there.0 in

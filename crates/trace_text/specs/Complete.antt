@@ -1,23 +1,18 @@
 -- What is written of a run is checked to be that run.
-use Rattle.std.specs.Prelude.{◌≡◌, ◌+◌, ◌⊎◌, ℕ, true, List, [], ◌∷◌, Result, Ok, Err, length, sum_by}
-use Rattle.std.specs.Iterator.{Drains, YieldsFirstBy}
+use Rattle.std.specs.Prelude.{◌≡◌, ◌⊎◌, ℕ, true, List, [], ◌∷◌, Result, Ok, Err, length}
 use Rattle.std.specs.List.{flat_map}
 use mathlib.Core.List.{IsPrefix}
-use Rattle.ason_base.specs.Network.{IsTopology, Network, is_node_id}
+use Rattle.ason_base.specs.Network.{is_node_id}
 use Rattle.ason_base.specs.declared.calls.TableRows.{TableRows}
 use Rattle.ason_base.specs.declared.commands.Command.{Command}
 use Rattle.ason_base.specs.declared.commands.Entry.{Entry}
-use Rattle.ason_base.specs.declared.commands.EntryRef.{EntryRef}
 use Rattle.ason_base.specs.declared.commands.Event.{Event}
 use Rattle.ason_base.specs.declared.commands.Event.TheVariants as events
 use Rattle.ason_base.specs.declared.ids.NodeId.{NodeId}
-use Rattle.log_merge.specs.declared.merging.Merging.{Merging}
-use Rattle.log_merge.specs.Lines.{line_of, lines_left}
 use Rattle.plan_reader.specs.declared.lines.Line.{Line}
 use Rattle.plan_reader.specs.declared.lines.Line.TheVariants.{Post, Disturb, Noise, Settle, Wait, Show}
 use Rattle.plan_reader.specs.declared.plan.Plan.{Plan}
 use Rattle.plan_reader.specs.Plans.{PlanOf}
-use Rattle.round_rules.specs.OneWorker.{ids_of}
 use Rattle.round_rules.specs.Records.{IsRecord, Record, log_at, posts_in, world_of}
 use Rattle.script_rules.specs.Laws.{RoundLaws}
 use Rattle.script_rules.specs.Outputs.{How, Prints, script_of}
@@ -95,11 +90,3 @@ EveryRunIsChecked =
     (p : Plan) (plan_bytes : List ℕ) (r : Record) (es : List Entry) (rows : TableRows) →
     IsMadeOf p plan_bytes r es rows → TraceFits plan_bytes es →
     IsChecked (trace_text p plan_bytes es rows) (record { events = length es; plan = p; rows = rows })
-
--- how many entries come of a merge of what the nodes of a network did and of what was posted
-abbrev pub EveryEntryIsCounted : Type 0
-EveryEntryIsCounted =
-    (t : Network) (r : Record) (merging : Merging) (es : List EntryRef) → IsTopology t → IsRecord t r →
-    IsMerge (log_at r) (posts_in r) (lines_left merging) →
-    Drains (YieldsFirstBy line_of lines_left) merging es →
-    length es ≡ sum_by (λ (n : NodeId). length (log_at r n.0)) (ids_of t) + length (posts_in r)
