@@ -1,34 +1,21 @@
 -- Words with a meaning, a plan without fault and no end that fails.
 use Rattle.std.proofs.Common.{◌≡◌, ◌∙◌, ◌≤◌, ◌<◌, ◌+◌, ◌++◌, ℕ, List, append-nil, inl, inr, length, sym, ap, subst, arith, length-append, []}
-use Rattle.std.specs.Prelude.{◌⊎◌, Option, Some, None, IfSome, Result, Ok, Err}
+use Rattle.std.specs.Prelude.{◌⊎◌, Option, Some, None, IfSome}
 use Rattle.std.specs.Io.KnownBytes.{Consumes}
+use Rattle.std.proofs.lemmas.Bool.{cases_lt}
 use Rattle.ason_io.specs.Faults.{Rose}
 use Rattle.ason_io.specs.Reading.{WasReadToEnd}
-use Rattle.plan_reader.specs.declared.plan.Plan.{Plan}
-use Rattle.command_words.specs.declared.tasks.Question.{Question}
-use Rattle.ason_main.specs.declared.answers.Status.{Status}
-use Rattle.ason_main.specs.Answers.{Ask, Decode, Request, Run, Survey, Trace}
-use Rattle.ason_main.specs.Answers.{Check, EndsCheck, IsCheckReply, NotRun}
-use Rattle.trace_text.specs.Checks.{IsChecked, IsNotRun}
-use Rattle.trace_text.specs.Complete.{EveryCheckIsOne}
-use Rattle.trace_text.specs.TraceRead.{IsRefused as IsRefusedTrace}
-use Rattle.trace_text.specs.declared.checking.Checked.{Checked}
-use Rattle.trace_text.specs.declared.read.TraceFault.{TraceFault}
-use Rattle.plan_reader.specs.declared.faults.PlanFault.{PlanFault}
-use Rattle.ason_main.specs.Answers.{EndsLoad, IsCompleteLoad, IsLoadReply, IsTraceReply, generated, request_for}
-use Rattle.ason_main.specs.Answers.{Done, EventLimit, PlanRefused, ReadFault, Reply, TooLong, Unfinished, Usage}
-use Rattle.ason_main.specs.Answers.{ComesTo, EndsTooLong, EndsWell, HasReadFew, IsAskReply, IsComplete, IsDecodeReply, IsDoneOrOutOfMemory, IsEnd, IsJudged, IsReadAndJudged, IsReply, IsReplyFor, IsReplyTo, IsRunReply, IsSurveyReply, WasGiven, printing, status_of}
-use Rattle.ason_base.specs.declared.ids.NodeId.{NodeId}
+use Rattle.command_words.specs.declared.tasks.Task.{Task}
 use Rattle.fleet.specs.Standing.{FleetState}
-use Rattle.script_rules.specs.Outputs.{How, Prints, script_of}
-use Rattle.script_rules.specs.Stages.{Stage, new_stage}
-use Rattle.script_rules.proofs.Alone.{function_end}
 use Rattle.load_plan.specs.declared.parts.LoadParts.{LoadParts}
-use Rattle.ason_main.specs.Outputs.{end_of, silent_on}
+use Rattle.trace_text.specs.Complete.{EveryCheckIsOne}
+use Rattle.ason_main.specs.declared.answers.Status.{Status}
+use Rattle.ason_main.specs.Answers.{Ask, Check, Decode, Request, Run, Survey, Trace}
+use Rattle.ason_main.specs.Answers.{Done, EventLimit, NotRun, PlanRefused, ReadFault, Reply, TooLong, Unfinished, Usage}
+use Rattle.ason_main.specs.Answers.{EndsLoad, EndsTooLong, EndsWell, HasReadFew, IsCheckedTrace, IsComplete, IsCompleteLoad, IsDoneOrOutOfMemory, IsJudged, IsLoadReply, IsReadAndJudged, IsReply, IsReplyFor, IsReplyTo, PassesCheck, TellsItsRun, TellsRun, TellsRunFor, WasGiven, generated, request_for, status_of, text_of_reply}
+use Rattle.ason_main.specs.Traces.{IsTraceOfRun}
+use Rattle.ason_main.proofs.Ends.{out_of_memory, well_ended}
 use Rattle.ason_main.proofs.OneLoad.{load_ends}
-use Rattle.ason_main.specs.Surveys.{silent}
-use Rattle.plan_reader.specs.Plans.{PlanOf}
-use Rattle.plan_reader.proofs.Agree.{no_plan, one_plan}
 
 -- no more is consumed than was there
 consumed : (all bs : List ℕ) (rest : Option (List ℕ)) → Consumes (Some all) rest bs → length bs ≤ length all
@@ -85,177 +72,6 @@ judged_for left handed ended faults old new bs Decode TooLong kept read few is =
 judged_for left handed ended faults old new bs Survey TooLong kept read few is = absurd is
 judged_for left handed ended faults old new bs (Ask question from to) TooLong kept read few is = absurd is.0
 
--- where the plan's run comes to an end
-comes_to : (p : Plan) (how : How) (stop : Option NodeId) (more : List Stage) (text : List ℕ) →
-    Prints p how (script_of p) new_stage more text → (end_of more).stopped ≡ stop → ComesTo p how stop
-comes_to p how stop more text printed stopped = record {
-  more = more;
-  text = text;
-  printed = printed;
-  stopped = stopped;
-  one = λ one. sym (ap (λ (s : Stage). s.stopped) (function_end p how (script_of p) new_stage more text one printed))
-      ∙ stopped;
-}
-
--- a plan's reply
-judged_end : (workers : ℕ) (bs : List ℕ) (p : Plan) (r : Reply) (kept : Option FleetState) (s : Status) →
-    PlanOf bs (Ok p) → IsRunReply workers bs r kept → s ≡ status_of r → IsEnd p (printing workers) s
-judged_end workers bs p (Done text) kept s plan holds is = inl (
-  is,
-  subst (λ (q : Plan). ComesTo q (printing workers) None) (one_plan bs holds.0 p holds.1 plan)
-      (comes_to holds.0 (printing workers) None holds.2.0 text holds.2.1.output.printed holds.2.1.output.ended),
-)
-judged_end workers bs p (PlanRefused text) kept s plan holds is = absurd (no_plan bs holds.0.0 p holds.0.1 plan)
-judged_end workers bs p (EventLimit text) kept s plan holds is =
-    let out = holds.2.2.cut.output in
-    inr (inl (
-      is,
-      (
-        holds.2.0,
-        subst (λ (q : Plan). ComesTo q (printing workers) (Some holds.2.0)) (one_plan bs holds.0 p holds.1 plan)
-            (comes_to holds.0 (printing workers) (Some holds.2.0) holds.2.1 holds.2.2.told out.printed out.stopped),
-      ),
-    ))
-judged_end workers bs p (Unfinished text) kept s plan holds is = inr (inr is)
-judged_end workers bs p (NotRun text) kept s plan holds is = absurd holds
-judged_end workers bs p Usage kept s plan holds is = absurd holds
-judged_end workers bs p ReadFault kept s plan holds is = absurd holds
-judged_end workers bs p TooLong kept s plan holds is = absurd holds
-
--- the reply to a run of which the trace is told
-traced_end : (workers : ℕ) (bs : List ℕ) (p : Plan) (r : Reply) (kept : Option FleetState) (s : Status) →
-    PlanOf bs (Ok p) → IsTraceReply workers bs r kept → s ≡ status_of r → IsEnd p (silent_on workers) s
-traced_end workers bs p (Done text) kept s plan holds is =
-    let out = holds.2.1.is.output in
-    inl (
-      is,
-      subst (λ (q : Plan). ComesTo q (silent_on workers) None) (one_plan bs holds.0 p holds.1 plan)
-          (comes_to holds.0 (silent_on workers) None holds.2.0 [] out.printed out.ended),
-    )
-traced_end workers bs p (PlanRefused text) kept s plan holds is = absurd (no_plan bs holds.0.0 p holds.0.1 plan)
-traced_end workers bs p (EventLimit text) kept s plan holds is =
-    let out = holds.2.2.cut.output in
-    inr (inl (
-      is,
-      (
-        holds.2.0,
-        subst (λ (q : Plan). ComesTo q (silent_on workers) (Some holds.2.0)) (one_plan bs holds.0 p holds.1 plan)
-            (comes_to holds.0 (silent_on workers) (Some holds.2.0) holds.2.1 [] out.printed out.stopped),
-      ),
-    ))
-traced_end workers bs p (Unfinished text) kept s plan holds is = inr (inr is)
-traced_end workers bs p (NotRun text) kept s plan holds is = absurd holds
-traced_end workers bs p Usage kept s plan holds is = absurd holds
-traced_end workers bs p ReadFault kept s plan holds is = absurd holds
-traced_end workers bs p TooLong kept s plan holds is = absurd holds
-
--- a survey's reply
-surveyed_end : (bs : List ℕ) (p : Plan) (r : Reply) (kept : Option FleetState) (s : Status) → PlanOf bs (Ok p) →
-    IsSurveyReply bs r kept → s ≡ status_of r → IsEnd p silent s
-surveyed_end bs p (Done text) kept s plan holds is =
-    let out = holds.2.1.is.output in
-    inl (
-      is,
-      subst (λ (q : Plan). ComesTo q silent None) (one_plan bs holds.0 p holds.1 plan)
-          (comes_to holds.0 silent None holds.2.0 [] out.printed out.ended),
-    )
-surveyed_end bs p (PlanRefused text) kept s plan holds is = absurd (no_plan bs holds.0.0 p holds.0.1 plan)
-surveyed_end bs p (EventLimit text) kept s plan holds is =
-    let out = holds.2.2.cut.output in
-    inr (inl (
-      is,
-      (
-        holds.2.0,
-        subst (λ (q : Plan). ComesTo q silent (Some holds.2.0)) (one_plan bs holds.0 p holds.1 plan)
-            (comes_to holds.0 silent (Some holds.2.0) holds.2.1 [] out.printed out.stopped),
-      ),
-    ))
-surveyed_end bs p (Unfinished text) kept s plan holds is = inr (inr is)
-surveyed_end bs p (NotRun text) kept s plan holds is = absurd holds
-surveyed_end bs p Usage kept s plan holds is = absurd holds
-surveyed_end bs p ReadFault kept s plan holds is = absurd holds
-surveyed_end bs p TooLong kept s plan holds is = absurd holds
-
--- a reply to `check`: bytes have one answer, so two others exclude each other
-are_apart : (r s : Result Checked TraceFault) → (r ≡ Err TraceFault.OutOfMemory → ⊥) →
-    (s ≡ Err TraceFault.OutOfMemory → ⊥) → (r ≡ s → ⊥) →
-    (r ≡ Err TraceFault.OutOfMemory) ⊎ ((s ≡ Err TraceFault.OutOfMemory) ⊎ (r ≡ s)) → ⊥
-are_apart r s first second differ (inl e) = first e
-are_apart r s first second differ (inr (inl e)) = second e
-are_apart r s first second differ (inr (inr e)) = differ e
-
-run_apart : EveryCheckIsOne → (bs : List ℕ) (c : Checked) (i : ℕ) → IsChecked bs c → IsNotRun bs i → ⊥
-run_apart law bs c i is not =
-    are_apart (Ok c) (Err (TraceFault.NotRun i)) (λ e. absurd (cc (e))) (λ e. absurd (cc (e))) (λ e. absurd (cc (e)))
-    (law bs (Ok c) (Err (TraceFault.NotRun i)) is not)
-
-run_refused : EveryCheckIsOne → (bs : List ℕ) (c : Checked) (f : PlanFault) → IsChecked bs c → IsRefusedTrace bs f → ⊥
-run_refused law bs c f is refused =
-    are_apart (Ok c) (Err (TraceFault.Plan f)) (λ e. absurd (cc (e))) (λ e. absurd (cc (e))) (λ e. absurd (cc (e)))
-    (law bs (Ok c) (Err (TraceFault.Plan f)) is refused)
-
-not_refused : EveryCheckIsOne → (bs : List ℕ) (i : ℕ) (f : PlanFault) → IsNotRun bs i → IsRefusedTrace bs f → ⊥
-not_refused law bs i f not refused =
-    are_apart (Err (TraceFault.NotRun i)) (Err (TraceFault.Plan f)) (λ e. absurd (cc (e))) (λ e. absurd (cc (e)))
-    (λ e. absurd (cc (e))) (law bs (Err (TraceFault.NotRun i)) (Err (TraceFault.Plan f)) not refused)
-
-checked_end : EveryCheckIsOne → (bs : List ℕ) (r : Reply) (s : Status) → IsCheckReply bs r → s ≡ status_of r →
-    EndsCheck bs s
-checked_end law bs (Done text) s holds is =
-    record { done = λ c of. inl is; not_run = λ i not. absurd (run_apart law bs holds.0 i holds.1 not) }
-checked_end law bs (NotRun text) s holds is =
-    record { done = λ c of. absurd (run_apart law bs c holds.0 of holds.1); not_run = λ i not. inl is }
-checked_end law bs (PlanRefused text) s holds is = record {
-  done = λ c of. absurd (run_refused law bs c holds.0 of holds.1);
-  not_run = λ i not. absurd (not_refused law bs i holds.0 not holds.1);
-}
-checked_end law bs (EventLimit text) s holds is = absurd holds
-checked_end law bs (Unfinished text) s holds is = record { done = λ c of. inr is; not_run = λ i not. inr is }
-checked_end law bs Usage s holds is = absurd holds
-checked_end law bs ReadFault s holds is = absurd holds
-checked_end law bs TooLong s holds is = absurd holds
-
--- a reply to `decode`
-decoded_end : (bs : List ℕ) (r : Reply) (s : Status) → IsDecodeReply bs r → s ≡ status_of r → EndsWell Decode bs s
-decoded_end bs (Done text) s holds is = inl is
-decoded_end bs (PlanRefused text) s holds is = absurd holds
-decoded_end bs (EventLimit text) s holds is = absurd holds
-decoded_end bs (Unfinished text) s holds is = inr is
-decoded_end bs (NotRun text) s holds is = absurd holds
-decoded_end bs Usage s holds is = absurd holds
-decoded_end bs ReadFault s holds is = absurd holds
-decoded_end bs TooLong s holds is = absurd holds
-
--- a reply to a question about two nodes
-asked_end : (question : Question) (from to bs : List ℕ) (p : Plan) (r : Reply) (s : Status) → PlanOf bs (Ok p) →
-    IsAskReply question from to bs r → s ≡ status_of r → IsDoneOrOutOfMemory s
-asked_end question from to bs p (Done text) s plan holds is = inl is
-asked_end question from to bs p (PlanRefused text) s plan holds is = absurd (no_plan bs holds.0 p holds.1 plan)
-asked_end question from to bs p (EventLimit text) s plan holds is = absurd holds
-asked_end question from to bs p (Unfinished text) s plan holds is = inr is
-asked_end question from to bs p (NotRun text) s plan holds is = absurd holds
-asked_end question from to bs p Usage s plan holds is = absurd holds
-asked_end question from to bs p ReadFault s plan holds is = absurd holds
-asked_end question from to bs p TooLong s plan holds is = absurd holds
-
-well_ended : EveryCheckIsOne → (k : Request) (bs : List ℕ) (r : Reply) (kept : Option FleetState) (s : Status) →
-    IsJudged k bs r kept → s ≡ status_of r → EndsWell k bs s
-well_ended law (Run pace) bs r kept s holds is = λ p plan. judged_end pace.workers bs p r kept s plan holds is
-well_ended law (Trace pace) bs r kept s holds is = λ p plan. traced_end pace.workers bs p r kept s plan holds is
-well_ended law Check bs r kept s holds is = checked_end law bs r s holds.0 is
-well_ended law Decode bs r kept s holds is = decoded_end bs r s holds.0 is
-well_ended law Survey bs r kept s holds is = λ p plan. surveyed_end bs p r kept s plan holds is
-well_ended law (Ask question from to) bs r kept s holds is =
-    λ p plan. asked_end question from to bs p r s plan holds.0 is
-
-out_of_memory : (k : Request) (bs : List ℕ) (s : Status) → s ≡ Status.OutOfMemory → EndsWell k bs s
-out_of_memory (Run pace) bs s is = λ p plan. inr (inr is)
-out_of_memory (Trace pace) bs s is = λ p plan. inr (inr is)
-out_of_memory Check bs s is = record { done = λ c of. inr is; not_run = λ i not. inr is }
-out_of_memory Decode bs s is = inr is
-out_of_memory Survey bs s is = λ p plan. inr (inr is)
-out_of_memory (Ask question from to) bs s is = λ p plan. inr is
-
 too_many : (n m : ℕ) → n ≡ 4194304 + 1 → m ≤ 4194304 → n ≤ m → ⊥
 too_many n m a b c = grind arith
 
@@ -265,8 +81,9 @@ all_read : {S : Type 0} (left : S → Option (List ℕ)) (old new : S) (bs read 
 all_read left old new bs read tells told = sym (subst (λ l. IfSome l (λ all. (all ≡ read) ×
     (left new ≡ Some []))) tells told).0
 
-replied_end : EveryCheckIsOne → {S : Type 0} (left : S → Option (List ℕ)) (handed : S → List ℕ → S → Type 0) (ended : S → Type 0)
-    (faults : S → ℕ) (old new : S) (k : Request) (bs : List ℕ) (r : Reply) (kept : Option FleetState) (s : Status) →
+replied_end : EveryCheckIsOne → {S : Type 0} (left : S → Option (List ℕ)) (handed : S → List ℕ → S → Type 0)
+    (ended : S → Type 0) (faults : S → ℕ) (old new : S) (k : Request) (bs : List ℕ) (r : Reply)
+    (kept : Option FleetState) (s : Status) →
     left old ≡ Some bs → length bs ≤ 4194304 → ¬ Rose (faults old) (faults new) →
     IsReplyFor left handed ended faults old new k r kept → s ≡ status_of r → EndsWell k bs s
 replied_end law left handed ended faults old new k bs r kept s tells short no_read = go r
@@ -308,8 +125,8 @@ replied_too_long left handed ended faults old new k bs r kept s tells long no_re
     go (Unfinished text) holds is = inr is
     go TooLong holds is = inl is
 
-pub is_complete : EveryCheckIsOne → {S K : Type 0} (left : S → Option (List ℕ)) (handed : S → List ℕ → S → Type 0) (ended : S →
-    Type 0) (faults : S → ℕ) (written : K → Option (List ℕ)) (sink_faults : K → ℕ)
+pub is_complete : EveryCheckIsOne → {S K : Type 0} (left : S → Option (List ℕ)) (handed : S → List ℕ → S → Type 0)
+    (ended : S → Type 0) (faults : S → ℕ) (written : K → Option (List ℕ)) (sink_faults : K → ℕ)
     (words : List (List ℕ)) (old new : S) (sink_old sink_new : K) (r : Reply) (kept : Option FleetState) (s : Status) →
     IsReply left handed ended faults words old new r kept → WasGiven written sink_faults sink_old sink_new r s →
     IsComplete left faults sink_faults words old new sink_old sink_new s
@@ -322,6 +139,31 @@ is_complete law left handed ended faults written sink_faults words old new sink_
       λ short. replied_end law left handed ended faults old new k bs r kept s tells short no_read said given.0,
       λ long. replied_too_long left handed ended faults old new k bs r kept s tells long no_read said given.0,
     )
+
+-- Traces that are checked
+
+too_long : (n : ℕ) (s : Status) → 4194304 < n → EndsTooLong s →
+    IsDoneOrOutOfMemory s ⊎ ((s ≡ Status.TooLong) × (4194304 < n))
+too_long n s long (inl is) = inr (is, long)
+too_long n s long (inr is) = inl (inr is)
+
+-- the trace of a run passes `check`
+passes : (text : List ℕ) → IsTraceOfRun text → PassesCheck text
+passes text run s ends = by_length (cases_lt 4194304 (length text))
+  where
+    by_length : (4194304 < length text) ⊎ (length text ≤ 4194304) →
+        IsDoneOrOutOfMemory s ⊎ ((s ≡ Status.TooLong) × (4194304 < length text))
+    by_length (inl long) = too_long (length text) s long (ends.1 long)
+    by_length (inr short) = inl ((ends.0 short).done run.0 run.1)
+
+pub is_checked_trace : {K : Type 0} (written : K → Option (List ℕ)) (faults : K → ℕ) (words : List (List ℕ))
+    (old new : K) (r : Reply) (s : Status) → WasGiven written faults old new r s → TellsItsRun words r s →
+    IsCheckedTrace written words old new s
+is_checked_trace written faults words old new r s (inr failed) tells pace word done =
+    let fault : Status.WriteFault ≡ Status.Done = sym failed.0 ∙ done in absurd (cc (fault))
+is_checked_trace written faults words old new r s (inl given) tells pace word done =
+    let run : TellsRun (Trace pace) r s = subst (λ (o : Option Task). TellsRunFor words o r s) word tells in
+    (text_of_reply r, passes (text_of_reply r) (run done), given.1)
 
 -- Loads
 

@@ -1,4 +1,5 @@
 pub mod Complete
+pub mod Ends
 pub mod Lines
 pub mod LoadReplies
 pub mod LoadedParts

@@ -1,5 +1,5 @@
 -- What is answered to an input, of what was written.
-use Rattle.std.proofs.Common.{◌≡◌, ◌≤◌, ℕ, List, [], ◌++◌, take, inl, inr, refl, sym, subst, append-nil}
+use Rattle.std.proofs.Common.{◌≡◌, ◌≤◌, ◌∙◌, ℕ, List, [], ◌++◌, take, inl, inr, refl, sym, subst, append-nil}
 use Rattle.std.specs.Prelude.{Option, Some, None, Ok, Err}
 use Rattle.std.specs.Io.KnownBytes.{Appends}
 use Rattle.std.proofs.KnownBytes.{Appends-nil, Appends-trans}
@@ -13,7 +13,7 @@ use Rattle.trace_text.specs.TraceRead.{IsRefused as IsRefusedTrace}
 use Rattle.table_text.specs.TableText.{stopped_text}
 use Rattle.ason_main.specs.declared.answers.Status.{Status}
 use Rattle.ason_main.specs.Answers.{Ask, Check, Decode, Done, EventLimit, PlanRefused, Reply, Request, Run, Survey, Trace, Unfinished}
-use Rattle.ason_main.specs.Answers.{HasKept, IsAnswered, IsJudged, IsReply, IsReplyTo, MayKeep, WasTold, WasToldOrNothing, printing}
+use Rattle.ason_main.specs.Answers.{HasKept, IsAnswered, IsJudged, IsReply, IsReplyTo, MayKeep, TellsItsRun, TellsRun, TellsRunFor, WasTold, WasToldOrNothing, printing}
 use Rattle.ason_main.specs.declared.runner.stops.Stop.{Stop}
 use Rattle.fleet.specs.Standing.{FleetState}
 use Rattle.script_rules.specs.Outputs.{How, script_of}
@@ -48,6 +48,7 @@ ended written faults bs p pace f kept old new plan keeps is = (
   Done is.text,
   (p, plan, (is.more, is.output, has_kept p f kept (end_of is.more) keeps is.kept)),
   inl (refl, is.written),
+  tt,
 )
 
 pub failed : {K : Type 0} (written : K → Option (List ℕ)) (faults : K → ℕ) (bs : List ℕ) (p : Plan) (pace : PaceView)
@@ -56,14 +57,14 @@ pub failed : {K : Type 0} (written : K → Option (List ℕ)) (faults : K → �
     HasWrittenPart (written old) (written new) (IsBegun p (printing pace.workers)) → StandsYet p.topology f →
     IsAnswered written faults (Run pace) bs old new kept Status.WriteFault
 failed written faults bs p pace f kept old new plan keeps rose is yet =
-    (Unfinished is.0, inr (p, plan, is.1, may_keep p f kept keeps yet), inr (refl, rose, is.2))
+    (Unfinished is.0, inr (p, plan, is.1, may_keep p f kept keeps yet), inr (refl, rose, is.2), tt)
 
 pub unfinished : {K : Type 0} (written : K → Option (List ℕ)) (faults : K → ℕ) (bs : List ℕ) (p : Plan)
     (pace : PaceView) (f : FleetState) (kept : Option FleetState) (old new : K) → PlanOf bs (Ok p) → kept ≡ Some f →
     HasWritten (written old) (written new) (IsBegun p (printing pace.workers)) → StandsYet p.topology f →
     IsAnswered written faults (Run pace) bs old new kept Status.OutOfMemory
 unfinished written faults bs p pace f kept old new plan keeps is yet =
-    (Unfinished is.0, inr (p, plan, is.1, may_keep p f kept keeps yet), inl (refl, is.2))
+    (Unfinished is.0, inr (p, plan, is.1, may_keep p f kept keeps yet), inl (refl, is.2), tt)
 
 -- what was told before the stop is begun
 cut_begun : (p : Plan) (how : How) (n : NodeId) (more : List Stage) (text : List ℕ) → IsTheCut p how n more text →
@@ -94,6 +95,7 @@ stopped written faults bs p pace n f kept old now new s plan keeps rises is (inl
     ),
   ),
   inl (told.0, Appends-trans (written old) (written now) (written new) is.text (stopped_text p n) is.written told.1),
+  tt,
 )
 stopped written faults bs p pace n f kept old now new s plan keeps rises is (inl (inr part)) = (
   EventLimit (is.text ++ stopped_text p n),
@@ -113,6 +115,7 @@ stopped written faults bs p pace n f kept old now new s plan keeps rises is (inl
     part_after (written old) (written now) (written new) is.text (stopped_text p n) part.2.0 part.2.1 is.written
         part.2.2,
   ),
+  tt,
 )
 stopped written faults bs p pace n f kept old now new s plan keeps rises is (inr none) = (
   Unfinished is.text,
@@ -127,6 +130,7 @@ stopped written faults bs p pace n f kept old now new s plan keeps rises is (inr
     subst (Appends (written old) (written new)) (append-nil is.text)
         (Appends-trans (written old) (written now) (written new) is.text [] is.written none.1),
   ),
+  tt,
 )
 
 -- Surveys
@@ -155,6 +159,7 @@ surveyed written faults bs p f kept old now new text s plan keeps none rises tel
   Done text,
   (p, plan, (tells.more, tells.survey, has_kept p f kept (end_of tells.more) keeps tells.kept)),
   told_after written faults old now new text Status.Done s none rises told,
+  tt,
 )
 
 -- the line of the stop is all that is told
@@ -167,11 +172,13 @@ stopped_survey written faults bs p n f kept old now new s plan keeps none rises 
   EventLimit (stopped_text p n),
   (p, plan, (n, stops.0, stops.1, has_kept p f kept (end_of stops.0) keeps stops.2)),
   told_after written faults old now new (stopped_text p n) Status.EventLimit s none rises told,
+  tt,
 )
 stopped_survey written faults bs p n f kept old now new s plan keeps none rises stops (inr nothing) = (
   Unfinished [],
   (refl, inr (p, plan, may_keep p f kept keeps (made_yet p f (end_of stops.0) stops.2))),
   inl (nothing.0, Appends-trans (written old) (written now) (written new) [] [] none nothing.1),
+  tt,
 )
 
 -- memory was wanting, and nothing was written
@@ -180,9 +187,27 @@ pub survey_starved : {K : Type 0} (written : K → Option (List ℕ)) (faults : 
     Appends (written old) (written new) [] → StandsYet p.topology f →
     IsAnswered written faults Survey bs old new kept Status.OutOfMemory
 survey_starved written faults bs p f kept old new plan keeps none yet =
-    (Unfinished [], (refl, inr (p, plan, may_keep p f kept keeps yet)), inl (refl, none))
+    (Unfinished [], (refl, inr (p, plan, may_keep p f kept keeps yet)), inl (refl, none), tt)
 
 -- Before anything is told
+
+-- another status than done
+pub other_status : (k : Request) (r : Reply) (s status : Status) → s ≡ status → ¬ (status ≡ Status.Done) →
+    TellsRun k r s
+other_status (Run pace) r s status is other = tt
+other_status (Trace pace) r s status is other = λ done. absurd (other (sym is ∙ done))
+other_status Check r s status is other = tt
+other_status Decode r s status is other = tt
+other_status Survey r s status is other = tt
+other_status (Ask question from to) r s status is other = tt
+
+-- what is told with one
+pub told_other : {K : Type 0} (written : K → Option (List ℕ)) (faults : K → ℕ) (k : Request) (r : Reply) (old new : K)
+    (text : List ℕ) (status s : Status) → ¬ (status ≡ Status.Done) → WasTold written faults old new text status s →
+    TellsRun k r s
+told_other written faults k r old new text status s other (inl told) = other_status k r s status told.0 other
+told_other written faults k r old new text status s other (inr part) =
+    other_status k r s Status.WriteFault part.0 (λ e. absurd (cc (e)))
 
 nothing_judged : (k : Request) (bs : List ℕ) (kept : Option FleetState) → kept ≡ None →
     IsJudged k bs (Unfinished []) kept
@@ -195,8 +220,12 @@ nothing_judged (Ask question from to) bs kept none = (refl, none)
 
 pub no_memory : {K : Type 0} (written : K → Option (List ℕ)) (faults : K → ℕ) (k : Request) (bs : List ℕ) (out : K)
     (kept : Option FleetState) → kept ≡ None → IsAnswered written faults k bs out out kept Status.OutOfMemory
-no_memory written faults k bs out kept none =
-    (Unfinished [], nothing_judged k bs kept none, inl (refl, Appends-nil (written out)))
+no_memory written faults k bs out kept none = (
+  Unfinished [],
+  nothing_judged k bs kept none,
+  inl (refl, Appends-nil (written out)),
+  other_status k (Unfinished []) Status.OutOfMemory Status.OutOfMemory refl (λ e. absurd (cc (e))),
+)
 
 -- a plan is asked for
 abbrev pub TakesPlan : Request → Type 0
@@ -221,10 +250,19 @@ pub refused : {K : Type 0} (written : K → Option (List ℕ)) (faults : K → �
     (f : PlanFault) (old new : K) (kept : Option FleetState) (s : Status) → TakesPlan k → PlanOf bs (Err f) →
     kept ≡ None → WasToldOrNothing written faults old new (refused_text f) Status.PlanRefused s →
     IsAnswered written faults k bs old new kept s
-refused written faults k bs f old new kept s takes fault none (inl told) =
-    (PlanRefused (refused_text f), fault_judged k bs f kept takes fault none, told)
-refused written faults k bs f old new kept s takes fault none (inr nothing) =
-    (Unfinished [], nothing_judged k bs kept none, inl nothing)
+refused written faults k bs f old new kept s takes fault none (inl told) = (
+  PlanRefused (refused_text f),
+  fault_judged k bs f kept takes fault none,
+  told,
+  told_other written faults k (PlanRefused (refused_text f)) old new (refused_text f) Status.PlanRefused s
+      (λ e. absurd (cc (e))) told,
+)
+refused written faults k bs f old new kept s takes fault none (inr nothing) = (
+  Unfinished [],
+  nothing_judged k bs kept none,
+  inl nothing,
+  other_status k (Unfinished []) s Status.OutOfMemory nothing.0 (λ e. absurd (cc (e))),
+)
 
 -- or that of the plan of what is no trace
 pub refused_trace : {K : Type 0} (written : K → Option (List ℕ)) (faults : K → ℕ) (bs : List ℕ) (f : PlanFault)
@@ -232,8 +270,8 @@ pub refused_trace : {K : Type 0} (written : K → Option (List ℕ)) (faults : K
     WasToldOrNothing written faults old new (refused_text f) Status.PlanRefused s →
     IsAnswered written faults Check bs old new None s
 refused_trace written faults bs f old new s fault (inl told) =
-    (PlanRefused (refused_text f), ((f, fault, refl), refl), told)
-refused_trace written faults bs f old new s fault (inr nothing) = (Unfinished [], (refl, refl), inl nothing)
+    (PlanRefused (refused_text f), ((f, fault, refl), refl), told, tt)
+refused_trace written faults bs f old new s fault (inr nothing) = (Unfinished [], (refl, refl), inl nothing, tt)
 
 -- Words
 
@@ -244,3 +282,8 @@ pub task_reply : {S : Type 0} (left : S → Option (List ℕ)) (handed : S → L
     IsReply left handed ended faults words old new r kept
 task_reply left handed ended faults words old new r kept o word is =
     subst (IsReplyTo left handed ended faults words old new r kept) (sym word) is
+
+-- and of their trace
+pub task_tells : (words : List (List ℕ)) (r : Reply) (s : Status) (o : Option Task) → task_of words ≡ o →
+    TellsRunFor words o r s → TellsItsRun words r s
+task_tells words r s o word is = subst (λ (q : Option Task). TellsRunFor words q r s) (sym word) is

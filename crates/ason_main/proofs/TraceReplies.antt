@@ -1,11 +1,12 @@
 -- What is answered where the trace of a run is asked for.
-use Rattle.std.proofs.Common.{◌≡◌, ◌≤◌, ◌∙◌, ℕ, List, [], take, inl, inr, refl, sym, subst}
+use Rattle.std.proofs.Common.{◌≡◌, ◌≤◌, ◌∙◌, ℕ, List, [], map, take, inl, inr, refl, sym, subst}
 use Rattle.std.specs.Prelude.{IfErr, OnErr, Option, Result, Some, Ok, Err, length}
 use Rattle.std.specs.Iterator.{YieldsFirstBy}
 use Rattle.std.specs.Io.KnownBytes.{Appends}
 use Rattle.std.proofs.KnownBytes.{Appends-trans}
 use Rattle.ason_base.specs.declared.ids.NodeId.{NodeId}
 use Rattle.ason_base.specs.declared.calls.TableRows.{TableRows}
+use Rattle.ason_base.specs.declared.commands.Disturb.{Disturb}
 use Rattle.ason_base.specs.declared.commands.Entry.{Entry}
 use Rattle.ason_io.specs.Faults.{Rose}
 use Rattle.plan_reader.specs.declared.plan.Plan.{Plan}
@@ -15,55 +16,68 @@ use Rattle.round_rules.specs.Records.{Record, log_at, posts_in, world_of}
 use Rattle.log_merge.specs.Lines.{line_of, lines_left}
 use Rattle.log_merge.specs.declared.merging.Merging.{Merging}
 use Rattle.fleet.specs.Rounds.{Merges}
-use Rattle.fleet.specs.Standing.{FleetState}
+use Rattle.fleet.specs.Standing.{FleetState, StandsFor}
 use Rattle.table_text.specs.TableText.{stopped_text}
+use Rattle.trace_text.specs.Checks.{IsChecked}
+use Rattle.trace_text.specs.Complete.{EveryRunIsChecked, EveryScriptPosts}
 use Rattle.trace_text.specs.Merges.{EveryMergeComes}
 use Rattle.trace_text.specs.TraceText.{trace_text}
+use Rattle.trace_text.specs.Widths.{TraceFits}
 use Rattle.trace_text.specs.Written.{WrotePart, WroteTrace}
+use Rattle.trace_text.specs.declared.checking.Checked.{Checked}
 use Rattle.trace_text.specs.declared.write.TraceWriteFault.{TraceWriteFault}
 use Rattle.command_words.specs.Paces.{PaceView}
-use Rattle.script_rules.specs.Outputs.{script_of}
+use Rattle.script_rules.specs.Laws.{RoundLaws}
+use Rattle.script_rules.specs.Outputs.{How, Prints, script_of}
 use Rattle.script_rules.specs.Stages.{Stage, new_stage}
 use Rattle.script_rules.proofs.Lawful.{HasOneTable, lawful_table}
 use Rattle.script_rules.proofs.OneTable.{one_table}
 use Rattle.ason_main.specs.declared.answers.Status.{Status}
 use Rattle.ason_main.specs.Answers.{Done, EventLimit, IsAnswered, Trace, Unfinished, WasToldOrNothing}
-use Rattle.ason_main.specs.Outputs.{HasBeenCut, HasEnded, IsBegun, IsTheOutput, end_of, silent_on}
+use Rattle.ason_main.specs.Outputs.{HasBeenCut, HasEnded, IsBegun, IsOneRun, IsTheOutput, end_of, silent_on}
 use Rattle.ason_main.specs.Running.{HasWritten, HasWrittenPart, StandsYet}
-use Rattle.ason_main.specs.Traces.{IsTheTrace, IsTraceOf, StopsTrace, TellsTrace}
+use Rattle.ason_main.specs.Traces.{IsTheTrace, IsTraceOf, IsTraceOfRun, IsWholeTraceOf, StopsTrace, TellsTrace, TellsWholeTrace}
 use Rattle.ason_main.proofs.Lines.{AreInOrder, AreRows, sorted_table}
 use Rattle.ason_main.proofs.OneLine.{rose_later}
 use Rattle.ason_main.proofs.OneMerge.{one_merge}
-use Rattle.ason_main.proofs.Replies.{made_yet, told_after}
+use Rattle.ason_main.proofs.Replies.{made_yet, other_status, told_after, told_other}
 use Rattle.ason_main.proofs.Tracing.{part_of_trace}
 use Rattle.ason_main.proofs.SurveyRuns.{begun_silently, cut_silently, ended_silently, lawful_end, nothing_printed, stopped_silently}
 
 -- The trace
 
 -- what the stations' lines and rows give is told
-pub tells_trace : (p : Plan) (bs : List ℕ) (f : FleetState) (m : List Entry) (rows sorted : TableRows) →
-    Merges f m → AreRows f rows → AreInOrder rows sorted → TellsTrace p bs f (trace_text p bs m sorted)
-tells_trace p bs f m rows sorted merges are order = record {
-  tells = λ lines r stands. record {
+module _ (p : Plan) (bs : List ℕ) (f : FleetState) (m : List Entry) (rows sorted : TableRows) (merges : Merges f m)
+    (are : AreRows f rows) (order : AreInOrder rows sorted) where
+  abbrev trace_of_record : (lines : List Disturb) (r : Record) → StandsFor p.topology lines f r →
+      IsTraceOf p bs r (trace_text p bs m sorted)
+  trace_of_record lines r stands = record {
     merge = m;
     merged = (merges p.topology lines r stands).merge;
     rows = sorted;
     table = sorted_table p.topology f rows sorted are order lines r stands;
     told = refl;
-  };
-}
+  }
+
+  tells_trace : TellsTrace p bs f (trace_text p bs m sorted)
+  tells_trace = record { tells = trace_of_record }
+
+  tells_whole : TraceFits bs m → TellsWholeTrace p bs f (trace_text p bs m sorted)
+  tells_whole fits =
+      record { tells = λ lines r stands. record { trace = trace_of_record lines r stands; fits = fits } }
 
 -- the whole of it was written, or why it wasn't
 module _ (comes : EveryMergeComes) (p : Plan) (bs : List ℕ) (f : FleetState) (m : Merging) (rows sorted : TableRows)
     (merges : Merges f (lines_left m)) (are : AreRows f rows) (order : AreInOrder rows sorted)
     (old new : Option (List ℕ)) where
   pub told_trace : WroteTrace (YieldsFirstBy line_of lines_left) m p bs sorted old new →
-      HasWritten old new (TellsTrace p bs f)
-  told_trace wrote = (
-    trace_text p bs (lines_left m) sorted,
-    tells_trace p bs f (lines_left m) rows sorted merges are order,
-    subst (λ es. Appends old new (trace_text p bs es sorted)) (comes m wrote.entries wrote.came) wrote.written,
-  )
+      HasWritten old new (TellsWholeTrace p bs f)
+  told_trace wrote =
+      let lines : map line_of wrote.entries ≡ lines_left m = comes m wrote.entries wrote.came in (
+        trace_text p bs (lines_left m) sorted,
+        tells_whole p bs f (lines_left m) rows sorted merges are order (subst (TraceFits bs) lines wrote.fits),
+        subst (λ es. Appends old new (trace_text p bs es sorted)) lines wrote.written,
+      )
 
   part_told : (count : ℕ) → count ≡ length (lines_left m) →
       WrotePart (YieldsFirstBy line_of lines_left) m p bs count sorted old new →
@@ -122,6 +136,29 @@ trace_of p workers bs f old new text ended tells =
     ended.output)
     (tells.tells (end_of ended.more).lines (end_of ended.more).made ended.kept.stands)
 
+-- a whole one is that of a run: what the run posted are the first commands of the plan's lines
+run_trace : RoundLaws → EveryScriptPosts → EveryRunIsChecked → (p : Plan) (how : How) (bs : List ℕ)
+    (more : List Stage) (printed text : List ℕ) → PlanOf bs (Ok p) → IsOneRun p more →
+    Prints p how (script_of p) new_stage more printed → IsWholeTraceOf p bs (end_of more).made text →
+    IsTraceOfRun text
+run_trace rounds posts checked p how bs more printed text plan run prints whole =
+    let trace = whole.trace in
+    let c : Checked = record { events = length trace.merge; plan = p; rows = trace.rows } in (
+      c,
+      subst (λ xs. IsChecked xs c) (sym trace.told)
+          (checked p bs (end_of more).made trace.merge trace.rows (record {
+            spelled = plan;
+            possible = (lawful_end p more run).possible;
+            merge = trace.merged;
+            posts = posts rounds p how more printed prints;
+            table = trace.table;
+          }) whole.fits),
+    )
+
+is_trace : (p : Plan) (bs : List ℕ) (f : FleetState) (text : List ℕ) → TellsWholeTrace p bs f text →
+    TellsTrace p bs f text
+is_trace p bs f text whole = record { tells = λ lines r stands. (whole.tells lines r stands).trace }
+
 -- Answers
 
 module _ {K : Type 0} (written : K → Option (List ℕ)) (faults : K → ℕ) (bs : List ℕ) (p : Plan) (pace : PaceView)
@@ -135,17 +172,22 @@ module _ {K : Type 0} (written : K → Option (List ℕ)) (faults : K → ℕ) (
       Appends-trans (written old) (written now) (written new) [] text
       (ended_silently p pace.workers f (written old) (written now) ended) more
 
-  pub traced : HasEnded p (silent_on pace.workers) f (written old) (written now) →
-      HasWritten (written now) (written new) (TellsTrace p bs f) → IsTold Status.Done
-  traced ended told = (
-    Done told.0,
-    (
-      p,
-      plan,
-      (ended.more, trace_of p pace.workers bs f (written old) (written now) told.0 ended told.1, ended.kept),
-    ),
-    inl (refl, after_run told.0 ended told.2),
-  )
+  pub traced : RoundLaws → EveryScriptPosts → EveryRunIsChecked →
+      HasEnded p (silent_on pace.workers) f (written old) (written now) →
+      HasWritten (written now) (written new) (TellsWholeTrace p bs f) → IsTold Status.Done
+  traced rounds posts checked ended told =
+      let tells : TellsTrace p bs f told.0 = is_trace p bs f told.0 told.1 in (
+        Done told.0,
+        (
+          p,
+          plan,
+          (ended.more, trace_of p pace.workers bs f (written old) (written now) told.0 ended tells, ended.kept),
+        ),
+        inl (refl, after_run told.0 ended told.2),
+        λ done. run_trace rounds posts checked p (silent_on pace.workers) bs ended.more ended.text told.0 plan
+            ended.output.output.one_run ended.output.output.printed
+            (told.1.tells (end_of ended.more).lines (end_of ended.more).made ended.kept.stands),
+      )
 
   pub trace_failed : HasEnded p (silent_on pace.workers) f (written old) (written now) → faults old ≤ faults now →
       StopsTrace p bs f (written now) (written new) (faults now) (faults new) TraceWriteFault.Failed →
@@ -163,6 +205,7 @@ module _ {K : Type 0} (written : K → Option (List ℕ)) (faults : K → ℕ) (
           rose_later (faults old) (faults now) (faults new) rises fails.0,
           (part.2.0, part.2.1, after_run (take part.2.0 part.0) ended part.2.2),
         ),
+        λ done. absurd (cc (done)),
       )
 
   pub trace_starved : HasEnded p (silent_on pace.workers) f (written old) (written now) →
@@ -172,6 +215,7 @@ module _ {K : Type 0} (written : K → Option (List ℕ)) (faults : K → ℕ) (
     Unfinished [],
     inl (refl, inr (p, plan, made_yet p f (end_of ended.more) ended.kept)),
     inl (refl, after_run [] ended none),
+    λ done. absurd (cc (done)),
   )
   trace_starved ended (inr part) = (
     Unfinished (take part.2.0 part.0),
@@ -191,6 +235,7 @@ module _ {K : Type 0} (written : K → Option (List ℕ)) (faults : K → ℕ) (
       ),
     ),
     inl (refl, after_run (take part.2.0 part.0) ended part.2.2),
+    λ done. absurd (cc (done)),
   )
 
   -- the line of the stop is all that is told
@@ -203,6 +248,8 @@ module _ {K : Type 0} (written : K → Option (List ℕ)) (faults : K → ℕ) (
         (p, plan, (n, stops.0, stops.1, stops.2)),
         told_after written faults old now new (stopped_text p n) Status.EventLimit s
             (cut_silently p pace.workers n f (written old) (written now) cut) rises told,
+        told_other written faults (Trace pace) (EventLimit (stopped_text p n)) now new (stopped_text p n)
+            Status.EventLimit s (λ e. absurd (cc (e))) told,
       )
   trace_stopped n s rises cut (inr nothing) = (
     Unfinished [],
@@ -212,6 +259,7 @@ module _ {K : Type 0} (written : K → Option (List ℕ)) (faults : K → ℕ) (
       Appends-trans (written old) (written now) (written new) [] []
           (cut_silently p pace.workers n f (written old) (written now) cut) nothing.1,
     ),
+    other_status (Trace pace) (Unfinished []) s Status.OutOfMemory nothing.0 (λ e. absurd (cc (e))),
   )
 
   pub trace_unfinished : HasWritten (written old) (written new) (IsBegun p (silent_on pace.workers)) →
@@ -220,4 +268,5 @@ module _ {K : Type 0} (written : K → Option (List ℕ)) (faults : K → ℕ) (
     Unfinished [],
     inl (refl, inr (p, plan, yet)),
     inl (refl, begun_silently p pace.workers (written old) (written new) begun),
+    λ done. absurd (cc (done)),
   )

@@ -23,10 +23,10 @@ use Rattle.command_words.specs.Loads.{LoadView}
 use Rattle.command_words.specs.declared.tasks.Inquiry.{Inquiry}
 use Rattle.command_words.specs.declared.tasks.Question.{Question}
 use Rattle.command_words.specs.declared.tasks.Task.{Task}
-use Rattle.ason_main.specs.Running.{StandsYet}
+use Rattle.ason_main.specs.Running.{HasWritten, StandsYet}
 use Rattle.ason_main.specs.Loads.{IsTheLoad, IsTheStoppedLoad, load_end}
 use Rattle.ason_main.specs.Surveys.{IsTheSurvey, silent}
-use Rattle.ason_main.specs.Traces.{IsPartOfTrace, IsTheTrace, checked_text, not_run_text}
+use Rattle.ason_main.specs.Traces.{IsPartOfTrace, IsTheTrace, IsTraceOfRun, checked_text, not_run_text}
 use Rattle.trace_text.specs.Checks.{IsChecked, IsNotRun}
 use Rattle.trace_text.specs.TraceRead.{IsRefused as IsRefusedTrace}
 use Rattle.trace_text.specs.declared.checking.Checked.{Checked}
@@ -315,11 +315,29 @@ WasToldOrNothing written faults old new text status s =
 abbrev pub WasGiven : {K : Type 0} → (K → Option (List ℕ)) → (K → ℕ) → K → K → Reply → Status → Type 0
 WasGiven written faults old new r s = WasTold written faults old new (text_of_reply r) (status_of r) s
 
+-- where the trace of a run is asked for and the status is done, what is told is the trace of a run
+abbrev pub TellsRun : Request → Reply → Status → Type 0
+TellsRun (Run pace) r s = Unit {0}
+TellsRun (Trace pace) r s = s ≡ Status.Done → IsTraceOfRun (text_of_reply r)
+TellsRun Check r s = Unit {0}
+TellsRun Decode r s = Unit {0}
+TellsRun Survey r s = Unit {0}
+TellsRun (Ask question from to) r s = Unit {0}
+
+abbrev pub TellsRunFor : List (List ℕ) → Option Task → Reply → Status → Type 0
+TellsRunFor words None r s = Unit {0}
+TellsRunFor words (Some (Task.Load load)) r s = Unit {0}
+TellsRunFor words (Some (Task.Of inquiry)) r s = TellsRun (request_for words inquiry) r s
+
+-- the same of words, whatever they ask for
+abbrev pub TellsItsRun : List (List ℕ) → Reply → Status → Type 0
+TellsItsRun words r s = TellsRunFor words (task_of words) r s
+
 -- a reply to the bytes was given
 abbrev pub IsAnswered : {K : Type 0} → (K → Option (List ℕ)) → (K → ℕ) → Request → List ℕ → K → K →
     Option FleetState → Status → Type 0
 IsAnswered written faults k bs old new kept s =
-    (r : Reply) × IsJudged k bs r kept × WasGiven written faults old new r s
+    (r : Reply) × IsJudged k bs r kept × WasGiven written faults old new r s × TellsRun k r s
 
 -- a reply to `load` was given
 abbrev pub IsLoadAnswered : {K : Type 0} → (K → Option (List ℕ)) → (K → ℕ) → LoadParts → K → K →
@@ -368,13 +386,33 @@ EndsWell (Ask question from to) bs s = (p : Plan) → PlanOf bs (Ok p) → IsDon
 abbrev pub EndsTooLong : Status → Type 0
 EndsTooLong s = (s ≡ Status.TooLong) ⊎ (s ≡ Status.OutOfMemory)
 
+-- by how many bytes there are
+abbrev pub EndsOn : Request → List ℕ → Status → Type 0
+EndsOn k bs s = (length bs ≤ 4194304 → EndsWell k bs s) × (4194304 < length bs → EndsTooLong s)
+
 -- words that ask something of an input, and no end that fails
 abbrev pub IsComplete :
     {S K : Type 0} → (S → Option (List ℕ)) → (S → ℕ) → (K → ℕ) → List (List ℕ) → S → S → K → K → Status → Type 0
 IsComplete left faults sink_faults words old new sink_old sink_new s =
     (inquiry : Inquiry) → task_of words ≡ Some (Task.Of inquiry) → (bs : List ℕ) → left old ≡ Some bs →
     ¬ Rose (faults old) (faults new) → ¬ Rose (sink_faults sink_old) (sink_faults sink_new) →
-    (length bs ≤ 4194304 → EndsWell (request_for words inquiry) bs s) × (4194304 < length bs → EndsTooLong s)
+    EndsOn (request_for words inquiry) bs s
+
+-- Traces that are checked
+
+-- however `check` ends on this text, where no end fails: done, or want of memory, or too long where there are more than
+-- 4,194,304 bytes
+abbrev pub PassesCheck : List ℕ → Type 0
+PassesCheck text =
+    (s : Status) → EndsOn Check text s → IsDoneOrOutOfMemory s ⊎ ((s ≡ Status.TooLong) × (4194304 < length text))
+
+-- words that ask for the trace of a run, and done: what was written passes `check`
+abbrev pub IsCheckedTrace : {K : Type 0} → (K → Option (List ℕ)) → List (List ℕ) → K → K → Status → Type 0
+IsCheckedTrace written words old new s =
+    (pace : PaceView) → task_of words ≡ Some (Task.Of (Inquiry.Trace pace)) → s ≡ Status.Done →
+    HasWritten (written old) (written new) PassesCheck
+
+-- Loads
 
 -- how a load ends: done where its script comes to the end, the event limit where it doesn't, or want of memory
 abbrev pub EndsLoad : LoadParts → Status → Type 0

@@ -17,7 +17,9 @@ use Rattle.plan_reader.specs.declared.plan.Plan.{Plan}
 use Rattle.script_rules.specs.Laws.{AreSame}
 use Rattle.script_rules.specs.Stages.{Stage}
 use Rattle.script_rules.specs.Tables.{IsTable}
+use Rattle.trace_text.specs.Checks.{IsChecked}
 use Rattle.trace_text.specs.TraceText.{trace_text}
+use Rattle.trace_text.specs.Widths.{TraceFits}
 use Rattle.trace_text.specs.declared.write.TraceWriteFault.{TraceWriteFault}
 use Rattle.ason_main.specs.Outputs.{IsCutShort, IsOutput, end_of, silent_on}
 use Rattle.ason_main.specs.Running.{HasWrittenPart}
@@ -33,9 +35,17 @@ pub record IsTraceOf (p : Plan) (bs : List ℕ) (r : Record) (text : List ℕ) :
   pub table : IsTable p.topology (image (world_of p.topology r)) rows
   pub told : text ≡ trace_text p bs merge rows
 
+-- the same of a trace that was written to its end, so that the numbers in it are those of their types
+pub record IsWholeTraceOf (p : Plan) (bs : List ℕ) (r : Record) (text : List ℕ) : Type 0 where
+  pub trace : IsTraceOf p bs r text
+  pub fits : TraceFits bs trace.merge
+
 -- this is the trace, for whatever record the stations stand
 pub record TellsTrace (p : Plan) (bs : List ℕ) (f : FleetState) (text : List ℕ) : Type 0 where
   pub tells : (lines : List Disturb) (r : Record) → StandsFor p.topology lines f r → IsTraceOf p bs r text
+
+pub record TellsWholeTrace (p : Plan) (bs : List ℕ) (f : FleetState) (text : List ℕ) : Type 0 where
+  pub tells : (lines : List Disturb) (r : Record) → StandsFor p.topology lines f r → IsWholeTraceOf p bs r text
 
 -- why the trace wasn't written as a whole
 abbrev pub StopsTrace : Plan → List ℕ → FleetState → Option (List ℕ) → Option (List ℕ) → ℕ → ℕ → TraceWriteFault → Type 0
@@ -65,6 +75,10 @@ IsPartOfTrace p workers bs more text =
     (whole : List ℕ) × (n : ℕ) × IsTheTrace p workers bs more whole × (n < length whole) × (text ≡ take n whole)
 
 -- Checks
+
+-- this is the trace of a run of its plan, with the table to which the run leads
+abbrev pub IsTraceOfRun : List ℕ → Type 0
+IsTraceOfRun text = (c : Checked) × IsChecked text c
 
 -- `run of E events`, and the table
 abbrev pub checked_text : Checked → List ℕ

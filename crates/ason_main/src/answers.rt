@@ -3,8 +3,9 @@
 
 ghost use Rattle.std.specs.Prelude.{◌≡◌, ℕ, List, [], None, Some, Ok, IfOk, map, string_bytes};
 ghost use Rattle.ason_base.specs.Network.{IsTopology};
-ghost use Rattle.ason_main.specs.Answers.{Ask, Decode, IsAnswered, IsComplete, IsCompleteLoad, IsReply, IsReplyFor};
-ghost use Rattle.ason_main.specs.Answers.{IsTold, Reply, Run, Survey, Trace, WasGiven, exit_status, request_for};
+ghost use Rattle.ason_main.specs.Answers.{Ask, Decode, IsAnswered, IsCheckedTrace, IsComplete, IsCompleteLoad, IsReply};
+ghost use Rattle.ason_main.specs.Answers.{IsReplyFor, IsTold, Reply, Run, Survey, TellsItsRun, TellsRun, Trace};
+ghost use Rattle.ason_main.specs.Answers.{WasGiven, exit_status, request_for};
 ghost use Rattle.plan_reader.specs.PlanTexts.{word_at};
 ghost use Rattle.plan_reader.specs.Plans.{ArePostable, PlanOf};
 ghost use Rattle.round_rules.specs.Records.{new_record};
@@ -338,7 +339,8 @@ fn read<R: Threads + Wait + Sync, S: Source, K: Sink, G: Gate>(
     ensures { (r : Reply)
         × IsReplyFor S.left S.handed S.ended S.faults src.old src.new
         (request_for (map string_bytes words.now) inquiry) r kept.new
-        × WasGiven K.written K.faults out.old out.new r result }
+        × WasGiven K.written K.faults out.old out.new r result
+        × TellsRun (request_for (map string_bytes words.now) inquiry) r result }
 {
     match read_all(host.alloc, src, LIMIT) {
         Ok(bytes) => judge(host, words, inquiry, &bytes, out, kept),
@@ -359,7 +361,8 @@ fn answer<R: Threads + Wait + Sync, S: Source, K: Sink, G: Gate>(
     requires { kept.old ≡ None }
     ensures { (r : Reply)
         × IsReply S.left S.handed S.ended S.faults (map string_bytes words.now) src.old src.new r kept.new
-        × WasGiven K.written K.faults out.old out.new r result }
+        × WasGiven K.written K.faults out.old out.new r result
+        × TellsItsRun (map string_bytes words.now) r result }
 {
     let Some(task) = task_of(words) else {
         return tell(out, USAGE, Status::Usage);
@@ -372,17 +375,17 @@ fn answer<R: Threads + Wait + Sync, S: Source, K: Sink, G: Gate>(
 
 /// Answers the words, those after the program's name. `run` reads a plan, runs its script and writes what each line
 /// prints as it is done, or tells the plan's first fault; with `--trace` it prints nothing of that, and writes the
-/// trace of the run in its place. `load` with a seed and how many nodes and calls reads nothing, runs the plan that is
-/// drawn from the seed, and writes after each part of its script how many calls are in each state. `check` reads a
-/// trace, and writes that it is one of a run, of how many events, and the run's last table; or that it is none, and the
-/// first index that is wrong; or the first fault of its plan. `survey` reads a plan and runs it so, prints nothing of
-/// that, and writes the survey of its last table, or the first fault. `route` and two names read a plan and write the
-/// least route between these nodes, its backup and the potentials, or the first fault. `best` and two names read one
-/// and write the pair of disjoint routes with the least total, or that there is none, and that its certificate was
-/// accepted, or the first fault. `decode` reads lines of RSVP messages in hexadecimal and writes what each says. If the
-/// sink fails the status is `WriteFault`; after that and after `OutOfMemory` a first part is written. After `Done` and
-/// `EventLimit` of `run`, `load` and `survey` the fleet that made the run is kept, with its logs and posts; after
-/// `WriteFault` and `OutOfMemory` it is that fleet or none, and after all else none.
+/// trace of the run in its place, one that `check` accepts. `load` with a seed and how many nodes and calls reads
+/// nothing, runs the plan that is drawn from the seed, and writes after each part of its script how many calls are in
+/// each state. `check` reads a trace, and writes that it is one of a run, of how many events, and the run's last table;
+/// or that it is none, and the first index that is wrong; or the first fault of its plan. `survey` reads a plan and
+/// runs it so, prints nothing of that, and writes the survey of its last table, or the first fault. `route` and two
+/// names read a plan and write the least route between these nodes, its backup and the potentials, or the first fault.
+/// `best` and two names read one and write the pair of disjoint routes with the least total, or that there is none, and
+/// that its certificate was accepted, or the first fault. `decode` reads lines of RSVP messages in hexadecimal and
+/// writes what each says. If the sink fails the status is `WriteFault`; after that and after `OutOfMemory` a first part
+/// is written. After `Done` and `EventLimit` of `run`, `load` and `survey` the fleet that made the run is kept, with
+/// its logs and posts; after `WriteFault` and `OutOfMemory` it is that fleet or none, and after all else none.
 pub fn ason<R: Threads + Wait + Sync, S: Source, K: Sink, G: Gate>(
     rt: &R,
     alloc: Global,
@@ -395,10 +398,12 @@ pub fn ason<R: Threads + Wait + Sync, S: Source, K: Sink, G: Gate>(
     requires { kept.old ≡ None }
     ensures answer { (r : Reply)
         × IsReply S.left S.handed S.ended S.faults (map string_bytes words.now) src.old src.new r kept.new
-        × WasGiven K.written K.faults out.old out.new r result }
+        × WasGiven K.written K.faults out.old out.new r result
+        × TellsItsRun (map string_bytes words.now) r result }
     ensures complete { IsComplete S.left S.faults K.faults (map string_bytes words.now)
         src.old src.new out.old out.new result }
     ensures loads { IsCompleteLoad K.faults (map string_bytes words.now) out.old out.new result }
+    ensures checked { IsCheckedTrace K.written (map string_bytes words.now) out.old out.new result }
 {
     every_check();
     answer(&Host { rt, alloc, gate }, words, src, out, kept)

@@ -3,13 +3,14 @@
 ghost use Rattle.std.specs.Prelude.{◌≡◌, [], None, Ok, Some, IfErr, OnOk};
 ghost use Rattle.ason_main.specs.Answers.{IsAnswered, Trace};
 ghost use Rattle.ason_main.specs.Running.{HasWritten};
-ghost use Rattle.ason_main.specs.Traces.{StopsTrace, TellsTrace};
+ghost use Rattle.ason_main.specs.Traces.{StopsTrace, TellsWholeTrace};
 ghost use Rattle.fleet.specs.Standing.{StandsFor};
 ghost use Rattle.plan_reader.specs.Plans.{ArePostable, PlanOf};
 ghost use Rattle.round_rules.specs.Records.{new_record};
 
 use crate::answers::Status;
 use crate::host::Host;
+use crate::laws::every_law;
 use crate::runner::run::{Ran, run_plan};
 use crate::telling::tell_stop;
 use ason_base::OutOfMemory;
@@ -21,7 +22,7 @@ use script_rules::sort_rows;
 use std::alloc::Global;
 use std::sync::Wait;
 use std::thread::Threads;
-use trace_text::laws::every_merge;
+use trace_text::laws::{every_checked, every_merge};
 use trace_text::{TraceWriteFault, write_trace};
 
 // Writes the trace of the fleet's logs and posts over the plan, which these bytes are.
@@ -33,7 +34,7 @@ fn tell_trace<K: Sink>(
     out: &mut K,
 ) -> Result<(), TraceWriteFault>
     ensures all { OnOk result (HasWritten (K.written out.old) (K.written out.new)
-        (TellsTrace plan.now bytes.now fleet.now)) }
+        (TellsWholeTrace plan.now bytes.now fleet.now)) }
     ensures stops { IfErr result (StopsTrace plan.now bytes.now fleet.now
         (K.written out.old) (K.written out.new) (K.faults out.old) (K.faults out.new)) }
 {
@@ -58,6 +59,8 @@ fn trace_fleet<R: Threads + Wait + Sync, K: Sink, G: Gate>(
     requires postable { ArePostable plan.now.topology [] plan.now.lines }
     ensures { IsAnswered K.written K.faults (Trace pace) bytes.now out.old out.new (Some fleet.new) result }
 {
+    every_law();
+    every_checked();
     let (workers, stride) = (pace.workers(), pace.stride());
     match run_plan(
         host.rt, host.alloc, fleet, plan, workers, stride, false, out, host.gate,

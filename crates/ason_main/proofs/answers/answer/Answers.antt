@@ -1,7 +1,7 @@
 use Rattle.std.proofs.Common.{None, Some, ◌∙◌, ap, map, refl, string_bytes, sym}
 use Rattle.command_words.specs.declared.tasks.Task.{Task}
 use Rattle.ason_main.specs.Answers.{Usage}
-use Rattle.ason_main.proofs.Replies.{task_reply}
+use Rattle.ason_main.proofs.Replies.{task_reply, task_tells}
 use Rattle.ason_main.proofs.answers.answer.Goals as goal
 
 pub returns-in_default : goal.returns-in_default
@@ -11,6 +11,7 @@ returns-in_default g c = (
       c.args.src.now c.args.src.now Usage c.args.kept.now None (sym c.task_of.ensures ∙ c.in_default.is)
       (refl, refl, c.requires),
   c.tell.ensures,
+  task_tells (map string_bytes c.args.words.now) Usage c.tell.result None (sym c.task_of.ensures ∙ c.in_default.is) tt,
 )
 
 pub returns-in-Load : goal.returns-in-Load
@@ -22,6 +23,8 @@ returns-in-Load g c =
           (Some (Task.Load c.in-Load.what))
           (sym c.task_of.ensures ∙ (c.in-Some.is ∙ ap Some c.in-Load.is)) (given.1, refl),
       given.2,
+      task_tells (map string_bytes c.args.words.now) given.0 c.load.result (Some (Task.Load c.in-Load.what))
+          (sym c.task_of.ensures ∙ (c.in-Some.is ∙ ap Some c.in-Load.is)) tt,
     )
 
 pub returns-in-Of : goal.returns-in-Of
@@ -33,4 +36,6 @@ returns-in-Of g c =
           (Some (Task.Of c.in-Of.inquiry))
           (sym c.task_of.ensures ∙ (c.in-Some.is ∙ ap Some c.in-Of.is)) given.1,
       given.2,
+      task_tells (map string_bytes c.args.words.now) given.0 c.read.result (Some (Task.Of c.in-Of.inquiry))
+          (sym c.task_of.ensures ∙ (c.in-Some.is ∙ ap Some c.in-Of.is)) given.3,
     )

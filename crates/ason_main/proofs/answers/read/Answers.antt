@@ -1,8 +1,10 @@
 use Rattle.std.proofs.Common.{[], ap, inl, map, refl, string_bytes, subst}
 use Rattle.std.specs.Prelude.{Err}
 use Rattle.std.proofs.KnownBytes.{Appends-nil}
-use Rattle.ason_main.specs.Answers.{IsJudged, ReadFault, TooLong, Unfinished, request_for}
+use Rattle.ason_main.specs.Answers.{IsJudged, ReadFault, TooLong, Unfinished, request_for, text_of_reply}
+use Rattle.ason_main.specs.declared.answers.Status.{Status}
 use Rattle.ason_main.proofs.Complete.{judged_for}
+use Rattle.ason_main.proofs.Replies.{other_status, told_other}
 use Rattle.ason_main.proofs.answers.read.Goals as goal
 
 pub returns-in-Ok : goal.returns-in-Ok
@@ -15,6 +17,7 @@ returns-in-Ok g c =
           c.in-Ok.ensures.within
           (subst (λ bs. IsJudged request bs given.0 c.judge.new.kept) c.deref.ensures.value given.1),
       given.2,
+      given.3,
     )
 
 pub returns-in-Err-Failed : goal.returns-in-Err-Failed
@@ -26,6 +29,8 @@ returns-in-Err-Failed g c = (
     c.requires,
   ),
   inl (refl, Appends-nil (g.K.Sink.written c.args.out.now)),
+  other_status (request_for (map string_bytes c.args.words.now) c.args.inquiry) ReadFault Status.ReadFault
+      Status.ReadFault refl (λ e. absurd (cc (e))),
 )
 
 pub returns-in-Err-OutOfMemory : goal.returns-in-Err-OutOfMemory
@@ -33,6 +38,8 @@ returns-in-Err-OutOfMemory g c = (
   Unfinished [],
   (c.in-Err-OutOfMemory.ensures.memory_within (ap Err c.in-Err-OutOfMemory.field-0-is), inl (refl, c.requires)),
   inl (refl, Appends-nil (g.K.Sink.written c.args.out.now)),
+  other_status (request_for (map string_bytes c.args.words.now) c.args.inquiry) (Unfinished []) Status.OutOfMemory
+      Status.OutOfMemory refl (λ e. absurd (cc (e))),
 )
 
 pub returns-in-Err-TooLong : goal.returns-in-Err-TooLong
@@ -40,4 +47,7 @@ returns-in-Err-TooLong g c = (
   TooLong,
   (c.in-Err-TooLong.ensures.too_long (ap Err c.in-Err-TooLong.field-0-is), c.requires),
   c.tell.ensures,
+  told_other g.K.Sink.written g.K.Sink.faults (request_for (map string_bytes c.args.words.now) c.args.inquiry)
+      TooLong c.args.out.now c.tell.new.out (text_of_reply TooLong) Status.TooLong c.tell.result
+      (λ e. absurd (cc (e))) c.tell.ensures,
 )

@@ -11,6 +11,7 @@ returns-in-Ok g c bs plan = (
   subst
       (λ text. WasTold g.K.Sink.written g.K.Sink.faults c.args.out.now c.tell.new.out text Status.Done c.tell.result)
       c.deref.ensures.value c.tell.ensures,
+  tt,
 )
 
 pub returns-in-Err : goal.returns-in-Err

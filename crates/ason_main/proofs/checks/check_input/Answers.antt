@@ -14,6 +14,7 @@ returns-in-Ok-checked_text g c = (
   subst
       (λ text. WasTold g.K.Sink.written g.K.Sink.faults c.args.out.now c.tell.new.out text Status.Done c.tell.result)
       c.deref.ensures.value c.tell.ensures,
+  tt,
 )
 
 pub returns-in-Ok : goal.returns-in-Ok
@@ -29,6 +30,7 @@ returns-in-Ok-not_run_text g c =
           (λ text. WasTold g.K.Sink.written g.K.Sink.faults c.args.out.now c.tell-in-Ok-not_run_text.new.out text
           Status.NotRun c.tell-in-Ok-not_run_text.result)
           c.deref-in-Ok-not_run_text.ensures.value c.tell-in-Ok-not_run_text.ensures,
+      tt,
     )
 
 pub returns-in-Err-NotRun : goal.returns-in-Err-NotRun

@@ -11,7 +11,7 @@ write_trace-requires g c κs = (
     tt,
     (
       tt,
-      λ es came. count_comes c.every_merge.ensures.comes c.in_ok-entries.entries es came
+      λ es came. count_comes c.every_merge.ensures c.in_ok-entries.entries es came
           ∙ (c.in_ok-entries.ensures.count ∙ sym c.entry_count-count.ensures.count),
     ),
   ),
@@ -20,7 +20,7 @@ write_trace-requires g c κs = (
 pub returns-clause-all : goal.returns-clause-all
 returns-clause-all g c =
     on_ok c.write_trace.result _ _
-    (told_trace c.every_merge.ensures.comes c.args.plan.now c.args.bytes.now c.args.fleet.now c.in_ok-entries.entries
+    (told_trace c.every_merge.ensures c.args.plan.now c.args.bytes.now c.args.fleet.now c.in_ok-entries.entries
     c.in_ok-rows.field-0 c.in_ok-rows-2.rows c.in_ok-entries.ensures.merges
     (record { calls = c.in_ok-rows.ensures.calls; legs = c.in_ok-rows.ensures.legs })
     (record {
@@ -34,7 +34,7 @@ returns-clause-all g c =
 
 pub returns-clause-stops : goal.returns-clause-stops
 returns-clause-stops g c =
-    stops_trace c.every_merge.ensures.comes c.args.plan.now c.args.bytes.now c.args.fleet.now c.in_ok-entries.entries
+    stops_trace c.every_merge.ensures c.args.plan.now c.args.bytes.now c.args.fleet.now c.in_ok-entries.entries
     c.in_ok-rows.field-0 c.in_ok-rows-2.rows c.in_ok-entries.ensures.merges
     (record { calls = c.in_ok-rows.ensures.calls; legs = c.in_ok-rows.ensures.legs })
     (record {

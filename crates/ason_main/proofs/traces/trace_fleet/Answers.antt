@@ -16,7 +16,8 @@ returns-in-Ok g c =
     let p = c.args.plan.now in
     let f = c.run_plan.new.fleet in
     traced g.K.Sink.written g.K.Sink.faults c.args.bytes.now p c.args.pace f c.args.out.now c.run_plan.new.out
-    c.tell_trace.new.out c.requires.plan
+    c.tell_trace.new.out c.requires.plan c.every_law.ensures.rounds c.every_checked.ensures.posts
+    c.every_checked.ensures.run
     (subst (λ w. HasEnded p (silent_on w) f (g.K.Sink.written c.args.out.now) (g.K.Sink.written c.run_plan.new.out))
     c.workers-workers.ensures.workers c.in-Ended.ensures.1)
     c.in-Ok.ensures.all
