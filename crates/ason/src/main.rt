@@ -22,5 +22,8 @@ fn main(rt: HostRuntime) -> ExitCode {
     let mut out = StdSink::new(rt.stdout());
     let mut kept = None;
     let status = ason(&rt, alloc, &words, &mut src, &mut out, &NoGate, &mut kept);
+    if let Some(fleet) = kept {
+        fleet.end(&rt);
+    }
     ExitCode::from(status.code())
 }

@@ -13,6 +13,7 @@ ghost use Rattle.fleet.specs.Standing.{StandsFor};
 
 use crate::checks::check_input;
 use crate::host::Host;
+use crate::keeping::keep;
 use crate::loads::load;
 use crate::runner::run::{Ran, run_plan};
 use crate::runner::stops::Stop;
@@ -132,7 +133,7 @@ fn run<R: Threads + Wait + Sync, K: Sink, G: Gate>(
     match Fleet::new(host.alloc, &plan.topology) {
         Ok(mut fleet) => {
             let status = run_fleet(host, plan, pace, &mut fleet, out);
-            *kept = Some(fleet);
+            keep(kept, fleet);
             status
         }
         Err(OutOfMemory) => Status::OutOfMemory,
@@ -175,7 +176,7 @@ fn survey<R: Threads + Wait + Sync, K: Sink, G: Gate>(
     match Fleet::new(host.alloc, &plan.topology) {
         Ok(mut fleet) => {
             let status = survey_fleet(host, plan, &mut fleet, out);
-            *kept = Some(fleet);
+            keep(kept, fleet);
             status
         }
         Err(OutOfMemory) => Status::OutOfMemory,

@@ -5,6 +5,7 @@
 pub mod answers;
 mod checks;
 mod host;
+mod keeping;
 mod laws;
 mod loading;
 mod loads;

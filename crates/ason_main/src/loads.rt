@@ -8,6 +8,7 @@ ghost use Rattle.round_rules.specs.Records.{new_record};
 
 use crate::answers::Status;
 use crate::host::Host;
+use crate::keeping::keep;
 use crate::laws::every_law;
 use crate::loading::load_text;
 use crate::runner::stops::Stop;
@@ -62,7 +63,7 @@ pub fn load<R: Threads + Wait + Sync, K: Sink, G: Gate>(
     match Fleet::new(host.alloc, &parts.plan.topology) {
         Ok(mut fleet) => {
             let status = load_fleet(host, &parts, &mut fleet, out);
-            *kept = Some(fleet);
+            keep(kept, fleet);
             status
         }
         Err(OutOfMemory) => Status::OutOfMemory,

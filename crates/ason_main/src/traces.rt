@@ -10,6 +10,7 @@ ghost use Rattle.round_rules.specs.Records.{new_record};
 
 use crate::answers::Status;
 use crate::host::Host;
+use crate::keeping::keep;
 use crate::laws::every_law;
 use crate::runner::run::{Ran, run_plan};
 use crate::telling::tell_stop;
@@ -94,7 +95,7 @@ pub fn trace<R: Threads + Wait + Sync, K: Sink, G: Gate>(
     match Fleet::new(host.alloc, &plan.topology) {
         Ok(mut fleet) => {
             let status = trace_fleet(host, plan, bytes, pace, &mut fleet, out);
-            *kept = Some(fleet);
+            keep(kept, fleet);
             status
         }
         Err(OutOfMemory) => Status::OutOfMemory,

@@ -1,5 +1,5 @@
 -- Where links and seats stay a fleet stays connected, and with more room on desks it stands for the same records.
-use Rattle.std.proofs.Common.{◌≡◌, ◌≤◌, ◌<◌, ◌^◌, ℕ, zero, suc, List, [], ◌∷◌, ◌++◌, length, map, refl, sym, ap, ◌∙◌}
+use Rattle.std.proofs.Common.{◌≡◌, ◌≤◌, ◌<◌, ◌^◌, ℕ, List, [], ◌∷◌, ◌++◌, length, map, refl, sym, ap, ◌∙◌}
 use Rattle.std.proofs.Common.{subst}
 use Rattle.std.specs.Prelude.{Some, slice_get, slice_set}
 use Rattle.std.specs.List.{AllZip}
@@ -20,7 +20,7 @@ use Rattle.fleet.specs.Connections.{HaveSeats}
 use Rattle.fleet.specs.Noises.{HasLine}
 use Rattle.fleet.specs.Posting.{TakeItems, TakesOrder, with_clock}
 use Rattle.fleet.specs.Standing.{AreSeats, FleetState}
-use Rattle.fleet.proofs.Places.{zip-length}
+use Rattle.fleet.proofs.Places.{map-back, set-back, zip-length}
 use Rattle.fleet.proofs.Taking.{same-places, there-at, within-at}
 
 abbrev pub links_of : StationState → List LinkState
@@ -92,18 +92,12 @@ seats-back seats xs lent mid now are was same is =
 -- where one station is another with the same links
 pub set-links : (xs : List StationState) (place : ℕ) (x y : StationState) → slice_get xs place ≡ Some x →
     y.links ≡ x.links → map links_of (slice_set xs place y) ≡ map links_of xs
-set-links [] place x y at same = refl
-set-links (z ∷ xs) zero x y at same =
-    let here : z ≡ x = cc (at) in ap (λ ls. ls ∷ map links_of xs) (same ∙ ap links_of (sym here))
-set-links (z ∷ xs) (suc place) x y at same = ap (λ ls. z.links ∷ ls) (set-links xs place x y at same)
+set-links xs place x y at same = map-back links_of xs place x y at same
 
 -- one that is as it was
 pub set-same : (xs : List StationState) (place : ℕ) (x y : StationState) → slice_get xs place ≡ Some x → y ≡ x →
     slice_set xs place y ≡ xs
-set-same [] place x y at same = refl
-set-same (z ∷ xs) zero x y at same =
-    let here : z ≡ x = cc (at) in ap (λ (k : StationState). k ∷ xs) (same ∙ sym here)
-set-same (z ∷ xs) (suc place) x y at same = ap (λ ks. z ∷ ks) (set-same xs place x y at same)
+set-same xs place x y at same = set-back xs place x y at same
 
 -- one station has an item more
 pub order-links : (place : ℕ) (item : DeskItem) (stamp : ℕ) (xs ys : List StationState) →

@@ -32,6 +32,7 @@ pub mod Ordered
 pub mod Pairs
 pub mod Places
 pub mod Posted
+pub mod Published
 pub mod Quiet
 pub mod Rewired
 pub mod Seated
@@ -40,5 +41,7 @@ pub mod Sums
 pub mod Taking
 pub mod Threaded
 pub mod Turning
+pub mod Unwatched
+pub mod Watching
 pub mod Whole
 pub mod Wires

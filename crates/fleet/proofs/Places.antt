@@ -94,6 +94,24 @@ set-there [] i x y at = absurd (cc (at))
 set-there (z ∷ xs) zero x y at = refl
 set-there (z ∷ xs) (suc i) x y at = set-there xs i x y at
 
+pub map-set : {X Y : Type 0} (f : X → Y) (xs : List X) (i : ℕ) (y : X) →
+    map f (slice_set xs i y) ≡ slice_set (map f xs) i (f y)
+map-set f [] i y = refl
+map-set f (x ∷ xs) zero y = refl
+map-set f (x ∷ xs) (suc i) y = ap (λ zs. f x ∷ zs) (map-set f xs i y)
+
+-- what is set anew as it was
+pub set-back : {X : Type 0} (xs : List X) (i : ℕ) (x y : X) → slice_get xs i ≡ Some x → y ≡ x → slice_set xs i y ≡ xs
+set-back [] i x y at same = refl
+set-back {X} (z ∷ xs) zero x y at same =
+    let here : z ≡ x = cc (at) in ap (λ (k : X). k ∷ xs) (same ∙ sym here)
+set-back (z ∷ xs) (suc i) x y at same = ap (λ ks. z ∷ ks) (set-back xs i x y at same)
+
+-- one item is another of the same image
+pub map-back : {X Y : Type 0} (f : X → Y) (xs : List X) (i : ℕ) (x y : X) → slice_get xs i ≡ Some x → f y ≡ f x →
+    map f (slice_set xs i y) ≡ map f xs
+map-back f xs i x y at same = map-set f xs i y ∙ set-back (map f xs) i (f x) (f y) (get-map f xs i x at) same
+
 -- Nodes that are apart
 
 -- at different places stand different nodes

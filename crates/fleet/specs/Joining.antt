@@ -1,5 +1,5 @@
 -- The stations of a network that are made and joined, before anything was done.
-use Rattle.std.specs.Prelude.{◌≡◌, ◌<◌, ◌+◌, ◌==◌, ℕ, nat_lt, true, List, [], filter, length, map, take}
+use Rattle.std.specs.Prelude.{◌≡◌, ◌<◌, ◌+◌, ◌==◌, ℕ, nat_lt, true, List, [], ◌∷◌, ◌++◌, filter, length, map, take}
 use Rattle.std.specs.Prelude.{Some, slice_get, slice_set, IsTrue, if◌then◌else◌}
 use Rattle.std.specs.List.{AllZip}
 use Rattle.ason_base.specs.declared.ids.NodeId.{NodeId}
@@ -11,7 +11,7 @@ use Rattle.round_rules.specs.OneWorker.{ids_of}
 use Rattle.station_doings.specs.Entered.{me_of}
 use Rattle.station_doings.specs.Moves.{peers_of}
 use Rattle.station_doings.specs.States.{StationState}
-use Rattle.station.specs.Joined.{AreConnected, IsApartFrom}
+use Rattle.station.specs.Joined.{AreConnected, IsApartFrom, IsNewStation}
 use Rattle.fleet_rounds.specs.Commands.{IsNewAt, IsNewRing}
 use Rattle.fleet_rounds.specs.Fleets.{Wires}
 
@@ -21,6 +21,12 @@ pub record AreNew (t : Network) (stations : List StationState) : Type 0 where
   pub wires : Wires
   pub each : AllZip (IsNewAt t wires) (ids_of t) stations
   pub rings : (u d : NodeId) → is_channel t u d ≡ true → IsNewRing wires u d
+
+-- the new station of a node stands at the end
+pub record HasMore (t : Network) (id : NodeId) (old new : List StationState) : Type 0 where
+  pub station : StationState
+  pub is_new : IsNewStation t id station
+  pub stations : new ≡ old ++ station ∷ []
 
 -- Two stations
 

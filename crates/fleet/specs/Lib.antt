@@ -9,4 +9,5 @@ pub mod RoundLaws
 pub mod Rounds
 pub mod Standing
 pub mod Turning
+pub mod Views
 pub mod Waiting

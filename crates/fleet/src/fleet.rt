@@ -4,13 +4,15 @@ ghost use Rattle.std.specs.Prelude.{◌≡◌, ◌≤◌, [], IfOk};
 ghost use Rattle.round_rules.specs.Records.{new_record};
 ghost use Rattle.fleet.specs.Rounds.{Rounds};
 ghost use Rattle.fleet.specs.Standing.{StandsFor};
+ghost use Rattle.fleet.specs.Views.{AreUnwatched, Publishes, publishers_of};
 
-use crate::joining::new_stations;
+use crate::joining::{new_stations, unmake_all};
 use crate::rounds::{round_in_order, round_on_threads};
 use crate::seats::{Seat, new_seats};
+use crate::views::publish_all;
 use ason_base::{Copied, Entry, Group, NodeId, OutOfMemory, Topology};
 use ason_io::Gate;
-use fleet_rounds::every_start;
+use fleet_rounds::{every_command, every_start};
 use station::Station;
 use std::alloc::Global;
 use std::marker::Model;
@@ -37,8 +39,8 @@ pub struct FleetPending {
     pub flood: usize,
 }
 
-/// The stations of a network in order of node number, what was posted, and the groups that have failed.
-#[derive(Drop)]
+/// The stations of a network in order of node number, what was posted, and the groups that have failed. It isn't let go
+/// but by `end`, since a station of a node that is watched isn't.
 pub struct Fleet {
     pub(crate) alloc: Global,
     pub(crate) seats: Vec<Seat>,
@@ -68,24 +70,52 @@ impl Model for Fleet {
 impl Fleet {
     /// The fleet of a network, in which nothing was done and nothing has failed.
     pub fn new(alloc: Global, t: &Topology) -> Result<Fleet, OutOfMemory>
-        ensures { IfOk result (λ f. StandsFor t.now [] f new_record) }
+        ensures stands { IfOk result (λ f. StandsFor t.now [] f new_record) }
+        ensures unwatched { IfOk result (λ f. AreUnwatched f.stations) }
     {
         every_start();
+        let network = t.copy(alloc)?;
         let stations = new_stations(alloc, t)?;
-        let seats = new_seats(alloc, t, &stations)?;
-        Ok(Fleet {
-            alloc,
-            seats,
-            stations,
-            posts: Vec::new(alloc),
-            network: t.copy(alloc)?,
-            failed: Vec::new(alloc),
-        })
+        match new_seats(alloc, t, &stations) {
+            Ok(seats) => Ok(Fleet {
+                alloc,
+                seats,
+                stations,
+                posts: Vec::new(alloc),
+                network,
+                failed: Vec::new(alloc),
+            }),
+            Err(refused) => {
+                unmake_all(stations);
+                Err(refused)
+            }
+        }
+    }
+
+    // The turns of a round.
+    fn make_round<R: Threads + Sync, G: Gate>(
+        &mut self,
+        rt: &R,
+        workers: usize,
+        stride: u32,
+        gate: &G,
+    ) -> Result<u64, RoundFault>
+        requires workers { (1 ≤ workers) × (workers ≤ 16) }
+        requires stride { (1 ≤ stride) × (stride ≤ 64) }
+        ensures rounds { Rounds workers self.old self.new result }
+        ensures publishers { publishers_of self.new.stations ≡ publishers_of self.old.stations }
+    {
+        if workers == 1 {
+            round_in_order(&self.seats, &mut self.stations, stride, gate)
+        } else {
+            round_on_threads(rt, &self.seats, &mut self.stations, workers, stride, gate)
+        }
     }
 
     /// A round: each station makes `stride` turns, the first with a tick, on so many worker threads, and takes at least
     /// what stood in its rings. With one worker the stations go in order of node number. With Ok so many lines were
-    /// written in the logs. After a fault more rounds may be made.
+    /// written in the logs. After a fault more rounds may be made. Once all workers are done each watched node
+    /// publishes its table, and may wait for its viewer.
     pub fn round<R: Threads + Wait + Sync, G: Gate>(
         &mut self,
         rt: &R,
@@ -95,12 +125,31 @@ impl Fleet {
     ) -> Result<u64, RoundFault>
         requires workers { (1 ≤ workers) × (workers ≤ 16) }
         requires stride { (1 ≤ stride) × (stride ≤ 64) }
-        ensures { Rounds workers self.old self.new result }
+        ensures rounds { Rounds workers self.old self.new result }
+        ensures publishes { Publishes result self.old self.new }
     {
-        if workers == 1 {
-            round_in_order(&self.seats, &mut self.stations, stride, gate)
-        } else {
-            round_on_threads(rt, &self.seats, &mut self.stations, workers, stride, gate)
+        every_command();
+        let made = self.make_round(rt, workers, stride, gate);
+        let told = publish_all(rt, &mut self.stations);
+        match told {
+            Ok(()) => made,
+            Err(_) => Err(RoundFault::Starved),
         }
+    }
+
+    /// Ends it. It may wait for each viewer.
+    pub fn end<R: Wait>(self, rt: &R) {
+        let Fleet {
+            alloc: _,
+            seats: _,
+            mut stations,
+            posts: _,
+            network: _,
+            failed: _,
+        } = self;
+        while let Some(station) = stations.pop() {
+            station.end(rt);
+        }
+        stations.destroy_empty();
     }
 }

@@ -11,6 +11,7 @@ pub mod posts;
 pub mod rounds;
 pub mod seats;
 pub mod telling;
+pub mod views;
 pub mod waiting;
 
 pub use fleet::{Fleet, FleetPending, RoundFault};

@@ -4,6 +4,7 @@ ghost use Rattle.std.specs.Prelude.{◌≡◌, ◌<◌, Some, length, slice_get}
 ghost use Rattle.fleet.specs.declared.seats.Seat.{Seat};
 ghost use Rattle.fleet.specs.Connections.{HaveSeats};
 ghost use Rattle.fleet.specs.Looks.{AreJoined, HaveMet, IsAny, IsAround, IsLinkAt, LooksOver};
+ghost use Rattle.fleet.specs.Views.{publishers_of};
 
 use crate::seats::{End, Seat};
 use station::Station;
@@ -29,6 +30,7 @@ fn look_over(seats: &[Seat], stations: &mut [Station], place: usize, link: usize
     requires link { (s : Seat) → slice_get seats.now place ≡ Some s → link < length s.ends.items }
     ensures looks { LooksOver seats.now (IsLinkAt place link) stations.old stations.new }
     ensures seats { HaveSeats seats.now stations.new }
+    ensures publishers { publishers_of stations.new ≡ publishers_of stations.old }
 {
     look(stations, place, link, seats[place].ends[link]);
 }
@@ -39,6 +41,7 @@ pub(crate) fn look_around(seats: &[Seat], stations: &mut [Station], place: usize
     requires within { place < length seats.now }
     ensures looks { LooksOver seats.now (IsAround place) stations.old stations.new }
     ensures seats { HaveSeats seats.now stations.new }
+    ensures publishers { publishers_of stations.new ≡ publishers_of stations.old }
 {
     for link in 0..seats[place].ends.len() {
         look_over(seats, stations, place, link);
@@ -50,6 +53,7 @@ pub(crate) fn look_all(seats: &[Seat], stations: &mut [Station])
     requires { HaveSeats seats.now stations.old }
     ensures looks { LooksOver seats.now IsAny stations.old stations.new }
     ensures seats { HaveSeats seats.now stations.new }
+    ensures publishers { publishers_of stations.new ≡ publishers_of stations.old }
 {
     for place in 0..seats.len() {
         look_around(seats, stations, place);

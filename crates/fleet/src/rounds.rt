@@ -7,6 +7,7 @@ ghost use Rattle.fleet.specs.Connections.{HaveSeats};
 ghost use Rattle.fleet.specs.RoundLaws.{RoundLaws};
 ghost use Rattle.fleet.specs.Turning.{HaveTurned, MakesTurns, RoundsOf, TurnsAt};
 ghost use Rattle.fleet.specs.Turning.{fault_after, fault_of, line_count, was_at_limit, was_starved};
+ghost use Rattle.fleet.specs.Views.{publishers_of};
 
 use crate::fleet::RoundFault;
 use crate::looks::{look_all, look_around};
@@ -104,7 +105,8 @@ fn turn_all<R: Threads + Sync, G: Gate>(
 )
     requires workers { 0 < workers }
     requires stride { 0 < stride }
-    ensures { HaveTurned stride stations.old stations.new }
+    ensures turned { HaveTurned stride stations.old stations.new }
+    ensures publishers { publishers_of stations.new ≡ publishers_of stations.old }
 {
     thread::for_each_mut(
         rt,
@@ -112,7 +114,8 @@ fn turn_all<R: Threads + Sync, G: Gate>(
         workers,
         &|_: usize, station: &mut Station|
             requires { 0 < stride }
-            ensures { MakesTurns stride station.entry.now station.exit.now }
+            ensures { MakesTurns stride station.entry.now station.exit.now
+                × (station.exit.now.publisher ≡ station.entry.now.publisher) }
         {
             station.turns(gate, stride);
         },
@@ -133,6 +136,7 @@ pub(crate) fn round_on_threads<R: Threads + Sync, G: Gate>(
     requires stride { 0 < stride }
     ensures rounds { RoundsOf workers seats.now stations.old stations.new result }
     ensures seats { HaveSeats seats.now stations.new }
+    ensures publishers { publishers_of stations.new ≡ publishers_of stations.old }
 {
     round_laws();
     let before = line_count(stations);
@@ -167,6 +171,7 @@ fn turn_one<G: Gate>(
     requires { 0 < stride }
     ensures turns { MakesTurns stride station.old station.new }
     ensures fault { result ≡ fault_after station.new.answer node }
+    ensures publisher { station.new.publisher ≡ station.old.publisher }
 {
     station.turns(gate, stride);
     fault_after(station.answer(), node)
@@ -185,6 +190,7 @@ fn turn_at<G: Gate>(
     requires stride { 0 < stride }
     ensures turns { TurnsAt seats.now place stride stations.old stations.new result }
     ensures seats { HaveSeats seats.now stations.new }
+    ensures publishers { publishers_of stations.new ≡ publishers_of stations.old }
 {
     look_around(seats, stations, place);
     let fault = turn_one(&mut stations[place], seats[place].id, stride, gate);
@@ -204,6 +210,7 @@ pub(crate) fn round_in_order<G: Gate>(
     requires stride { 0 < stride }
     ensures rounds { RoundsOf 1 seats.now stations.old stations.new result }
     ensures seats { HaveSeats seats.now stations.new }
+    ensures publishers { publishers_of stations.new ≡ publishers_of stations.old }
 {
     round_laws();
     let before = line_count(stations);

@@ -6,12 +6,13 @@ use lib.ListN.{get_elem?}
 use Rattle.left_right.specs.Register.{Admits, Forks, Merges, TurnsAt}
 use Rattle.atomic_table.proofs.Lists.{at_set, at_snoc}
 use Rattle.mgmt_view.specs.Rule.{Keeps, Publishes, informed, nothing}
-use Rattle.mgmt_view.specs.Tables.{EndsWith, StartsWith, last_in, last_of, tables_of}
+use Rattle.mgmt_view.specs.Tables.{EndsWith, StartsWith, last_of, tables_of}
 use Rattle.mgmt_view.specs.declared.node_table.NodeTable.{NodeTable}
 use Rattle.mgmt_view.specs.declared.past.Past.{Past}
 use Rattle.mgmt_view.specs.declared.past.Past.TheVariants.{First, Then'}
 use Rattle.mgmt_view.specs.declared.rule.View.{View}
 use Rattle.mgmt_view.specs.declared.shelf.Shelf.{Shelf}
+use Rattle.mgmt_view.proofs.Lasts.{last-snoc}
 
 starts-trans : (a b c : List NodeTable) → StartsWith b a → StartsWith c b → StartsWith c a
 starts-trans a b c h t = (h.0 ++ t.0, t.1 ∙ (ap (λ w. w ++ t.0) h.1 ∙ append_assoc a h.0 t.0))
@@ -101,11 +102,6 @@ merges seat v other w x views h at apart there =
     (set-known x views seat (informed v w) h ((h seat v at).0, seen)) (knows-nothing (tables_of x.past))
 
 -- The last table
-
-last-snoc : (all : List NodeTable) (t : NodeTable) → last_in (all ++ t ∷ []) ≡ Some t
-last-snoc [] t = refl
-last-snoc (u ∷ []) t = refl
-last-snoc (u ∷ (v ∷ all)) t = last-snoc (v ∷ all) t
 
 -- the table that a shelf shows stands last
 pub ends : (p : Past) → EndsWith (tables_of p) (last_of p)

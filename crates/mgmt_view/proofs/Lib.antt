@@ -1,2 +1,4 @@
 pub mod Growing
+pub mod Lasts
 pub mod Reading
+pub mod Sent

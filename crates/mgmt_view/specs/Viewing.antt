@@ -1,4 +1,4 @@
--- What a publisher has published, and what a viewer has read of it.
+-- What a publisher shares with its viewers, and what a viewer has read.
 use Rattle.std.specs.Prelude.{◌≡◌, ◌⊎◌, ◌≤◌, ◌<◌, ℕ, Bool, true, List, [], ◌∷◌, ◌++◌, Option, Some, None, length}
 use Rattle.std.specs.declared.alloc.Global.{Global}
 use Rattle.left_right.specs.Sides.{view}
@@ -22,11 +22,6 @@ told_at place = (view place).told
 
 -- The publisher
 
--- the tables that were published, and those that wait to be published before the next one
-pub record PublisherState : Type 0 where
-  pub published : List NodeTable
-  pub waiting : List NodeTable
-
 abbrev pub tables_in : Option Shelf → List NodeTable
 tables_in None = []
 tables_in (Some shelf) = tables_of shelf.past
@@ -34,27 +29,6 @@ tables_in (Some shelf) = tables_of shelf.past
 abbrev pub or_none : Option (List NodeTable) → List NodeTable
 or_none None = []
 or_none (Some tables) = tables
-
--- the first table alone was published
-abbrev pub published_first : NodeTable → PublisherState
-published_first t = record { published = t ∷ []; waiting = [] }
-
--- what waited and then this table are published
-abbrev pub with_published : PublisherState → NodeTable → PublisherState
-with_published s t = record { published = s.published ++ (s.waiting ++ t ∷ []); waiting = [] }
-
--- the table may be among those that wait now
-abbrev pub MayStay : List NodeTable → NodeTable → List NodeTable → Type 0
-MayStay old t new = (new ≡ old) ⊎ (new ≡ old ++ t ∷ [])
-
--- nothing is published, and the table may wait
-pub record MayWait (old : PublisherState) (t : NodeTable) (new : PublisherState) : Type 0 where
-  pub published : new.published ≡ old.published
-  pub waiting : MayStay old.waiting t new.waiting
-
--- no table that was published or waits is of a longer log
-abbrev pub RisesTo : PublisherState → NodeTable → Type 0
-RisesTo s t = (last : NodeTable) → EndsWith (s.published ++ s.waiting) last → last.entries ≤ t.entries
 
 -- The viewer
 

@@ -5,7 +5,8 @@ ghost use Rattle.std.specs.Option.{option_map};
 ghost use Rattle.std.proofs.Props.{props};
 ghost use Rattle.left_right.specs.Sides.{view};
 ghost use Rattle.mgmt_view.specs.Tables.{tables_of};
-ghost use Rattle.mgmt_view.specs.Viewing.{MayStay, MayWait, RisesTo, published_first, seen_at, told_at, with_published};
+ghost use Rattle.mgmt_view.specs.Publishing.{MayStay, MayWait, RisesTo, published_first, with_published};
+ghost use Rattle.mgmt_view.specs.Viewing.{seen_at, told_at};
 
 use crate::node_table::NodeTable;
 use crate::rule::{Notes, Sees, ShelfReader, ShelfWriter};
@@ -31,7 +32,8 @@ pub struct Publisher {
 impl Model for Publisher {
     ghost use Rattle.std.specs.Prelude.{drop};
     ghost use Rattle.std.specs.Option.{option_map};
-    ghost use Rattle.mgmt_view.specs.Viewing.{PublisherState, or_none, tables_in};
+    ghost use Rattle.mgmt_view.specs.Publishing.{PublisherState};
+    ghost use Rattle.mgmt_view.specs.Viewing.{or_none, tables_in};
 
     ghost Value = { PublisherState };
 

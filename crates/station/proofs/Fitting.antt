@@ -17,7 +17,7 @@ use Rattle.control_channels.specs.Controllers.{ControllerState, IsStep}
 use Rattle.control_channels.specs.Frames.{AllSpelled, Sending, frames_to}
 use Rattle.station_sound.specs.declared.parcels.Parcel.{Parcel}
 use Rattle.station_rings.specs.LinkStates.{LinkState, gone_of}
-use Rattle.station_doings.specs.Entered.{HasEntered, able, me_of}
+use Rattle.station_doings.specs.Entered.{HasEntered, able}
 use Rattle.station_doings.specs.Limits.{IsAtLimit}
 use Rattle.station_doings.specs.Moves.{AreApart, IsChangedAt, IsSentOver, peers_of}
 use Rattle.station_doings.specs.States.{StationState}

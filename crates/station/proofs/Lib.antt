@@ -13,3 +13,6 @@ pub mod Sending
 pub mod Taking
 pub mod Twice
 pub mod Working
+pub mod Sent
+pub mod Telling
+pub mod Watched

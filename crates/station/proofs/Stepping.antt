@@ -157,6 +157,7 @@ item-starves old mid i rest items spare more first same again =
       held = (same j).held;
       lines = (same j).lines;
       answer = (same j).answer;
+      publisher = (same j).publisher;
     }
 
 pub item-full : (old : StationState) (i : DeskItem) (rest : List DeskItem) →

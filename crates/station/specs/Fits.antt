@@ -1,5 +1,5 @@
 -- What holds of every station.
-use Rattle.std.specs.Prelude.{◌≡◌, ◌≤◌, ◌*◌, ◌^◌, ℕ, length, IsTrue}
+use Rattle.std.specs.Prelude.{◌≡◌, ◌≤◌, ◌*◌, ◌^◌, ℕ, None, length, IsTrue}
 use Rattle.std.specs.List.{AllByRecursion}
 use Rattle.mesh_nodes.specs.LocalNodes.{is_neighbour}
 use Rattle.mesh_rules.specs.LocalNodes.{LocalNode}
@@ -33,7 +33,7 @@ pub record StationFits (s : StationState) : Type 0 where
 
 -- The parts
 
--- a station as contracts see it
+-- a station as contracts see it, but for what it publishes
 abbrev pub state_of : Parts → StationState
 state_of p = record {
   controller = p.controller;
@@ -45,6 +45,7 @@ state_of p = record {
   held = p.held.items;
   lines = p.lines.items;
   answer = p.answer;
+  publisher = None;
 }
 
 pub record PartsFit (p : Parts) : Type 0 where

@@ -1,5 +1,5 @@
 -- Stations that are made, joined and looked at.
-use Rattle.std.specs.Prelude.{◌≡◌, ◌≤◌, ◌+◌, ◌==◌, ℕ, false, [], ◌∷◌, ◌++◌, slice_get, slice_set, Some}
+use Rattle.std.specs.Prelude.{◌≡◌, ◌≤◌, ◌+◌, ◌==◌, ℕ, false, [], ◌∷◌, ◌++◌, slice_get, slice_set, None, Some}
 use Rattle.std.specs.List.{AllByRecursion}
 use Rattle.ason_base.specs.declared.commands.DeskItem.{DeskItem}
 use Rattle.ason_base.specs.declared.ids.NodeId.{NodeId}
@@ -19,6 +19,7 @@ pub record IsNewStation (t : Network) (id : NodeId) (s : StationState) : Type 0 
   pub log : s.log ≡ []
   pub held : s.held ≡ []
   pub lines : s.lines ≡ []
+  pub publisher : s.publisher ≡ None
 
 -- no link leads to this node
 abbrev pub IsApartFrom : NodeId → StationState → Type 0

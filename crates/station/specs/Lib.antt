@@ -7,3 +7,4 @@ pub mod Noise
 pub mod Rings
 pub mod Sending
 pub mod Turning
+pub mod Watched

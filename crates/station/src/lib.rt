@@ -13,5 +13,7 @@ mod rings;
 pub mod station;
 mod ticks;
 mod turning;
+mod watching;
 
 pub use station::Station;
+pub use watching::WatchFault;

@@ -1,8 +1,9 @@
 //! The station of one node.
 
 ghost use Rattle.std.specs.Prelude.{◌≡◌, ◌<◌, ◌≤◌, ◌+◌, ◌*◌, ◌^◌, ◌∷◌, ◌++◌, [], ℕ, IfOk, IsSome, IsTrue, OnErr, OnOk};
-ghost use Rattle.std.specs.Prelude.{Some, false, length, position, slice_get, true};
+ghost use Rattle.std.specs.Prelude.{None, Some, false, length, position, slice_get, true};
 ghost use Rattle.std.specs.List.{AllByRecursion};
+ghost use Rattle.std.proofs.Props.{props};
 ghost use Rattle.ason_base.specs.Network.{find_node};
 ghost use Rattle.control_channels.specs.Controllers.{ControllerState};
 ghost use Rattle.mesh_nodes.specs.LocalNodes.{is_neighbour};
@@ -12,37 +13,44 @@ ghost use Rattle.station.specs.Joined.{AreConnected, AreLooked, IsApartFrom, IsN
 ghost use Rattle.station_doings.specs.Turned.{HasMadeTurn, HaveMadeTurns};
 ghost use Rattle.station.specs.Noise.{HasHeard};
 ghost use Rattle.station.specs.Sending.{is_to};
+ghost use Rattle.station.specs.Watched.{IsUnpublished, TellsUpTo, Watches, publishing, tables_by};
 ghost use Rattle.flood.specs.Frames.{SpellsNothing};
 
 use crate::desks::Desk;
 use crate::links::{attach, place_of};
 use crate::parts::Parts;
+use crate::watching::{WatchFault, table_of};
 use crate::{noises, turning};
 use ason_base::{DeskItem, Disturb, Entry, NodeId, OutOfMemory, Topology};
 use ason_io::Gate;
 use controller::Controller;
+use mgmt_view::{Publisher, Told, Viewer, pair};
 use station_doings::Turn;
 use station_rings::{join, look};
 use std::alloc::Global;
 use std::marker::Model;
+use std::sync::Wait;
 
 /// So many lines a log has room for at the start: a block of this size the C library grows without copying it.
 const FIRST_LINES: usize = 4096;
 
 /// A controller, the desk of its node, its log, and its ends of the rings to each neighbour.
-#[derive(Drop)]
+/// Where it is watched it has a publisher besides, so it isn't let go but by `end` or `unmake`.
 pub struct Station {
     alloc: Global,
     parts: Parts,
+    publisher: Option<Publisher>,
+    ghost told: { TellsUpTo publisher (length parts.log.items) } by { Prim.hlevel props },
 }
 
 impl Model for Station {
     ghost use Rattle.station_doings.specs.States.{StationState};
     ghost use Rattle.station.specs.Fits.{PartsFit, state_of};
+    ghost use Rattle.station.specs.Watched.{with_publisher};
 
     ghost Value = { StationState };
 
-    ghost view = { λ s. state_of s.parts };
+    ghost view = { λ s. with_publisher (state_of s.parts) s.publisher };
 
     ghost invariant = { λ s. PartsFit s.parts };
 }
@@ -65,7 +73,11 @@ impl Station {
             lines: Vec::new(alloc),
             answer: Turn::Idle,
         };
-        Ok(Station { alloc, parts })
+        Ok(Station {
+            alloc,
+            parts,
+            publisher: None,
+        })
     }
 
     /// Joins two neighbours by two rings. Their ends are the last links of both. After a refusal nothing has changed.
@@ -76,6 +88,8 @@ impl Station {
         requires apart_back { IsApartFrom (me_of a.old) b.old }
         ensures ok { OnOk result (AreConnected a.old a.new b.old b.new) }
         ensures err { OnErr result ((a.new ≡ a.old) × (b.new ≡ b.old)) }
+        ensures publisher { a.new.publisher ≡ a.old.publisher }
+        ensures publisher_back { b.new.publisher ≡ b.old.publisher }
     {
         let (here, there) = join(alloc, a.parts.me, b.parts.me)?;
         a.parts.links.reserve(1)?;
@@ -101,6 +115,7 @@ impl Station {
     pub fn turn<G: Gate>(&mut self, gate: &G, tick: bool) -> Turn
         ensures made { HasMadeTurn tick self.old self.new result }
         ensures answer { self.new.answer ≡ result }
+        ensures publisher { self.new.publisher ≡ self.old.publisher }
     {
         turning::turn(&mut self.parts, gate, tick)
     }
@@ -109,7 +124,8 @@ impl Station {
     /// answers is kept.
     pub fn turns<G: Gate>(&mut self, gate: &G, stride: u32)
         requires { 0 < stride }
-        ensures { HaveMadeTurns stride true self.old self.new self.new.answer }
+        ensures turns { HaveMadeTurns stride true self.old self.new self.new.answer }
+        ensures publisher { self.new.publisher ≡ self.old.publisher }
     {
         self.turns_from(gate, stride, true);
     }
@@ -117,7 +133,8 @@ impl Station {
     // So many turns.
     fn turns_from<G: Gate>(&mut self, gate: &G, count: u32, tick: bool)
         requires { 0 < count }
-        ensures { HaveMadeTurns count tick self.old self.new self.new.answer }
+        ensures turns { HaveMadeTurns count tick self.old self.new self.new.answer }
+        ensures publisher { self.new.publisher ≡ self.old.publisher }
     {
         let ended = match self.turn(gate, tick) {
             Turn::Worked(_) | Turn::Idle => true,
@@ -137,6 +154,7 @@ impl Station {
         requires stamp { self.old.clock + 1 < 2 ^ 64 }
         ensures ok { OnOk result (HasHeard from bytes.now self.old self.new) }
         ensures err { OnErr result (self.new ≡ self.old) }
+        ensures publisher { self.new.publisher ≡ self.old.publisher }
     {
         noises::noise(self.alloc, &mut self.parts, from, bytes)
     }
@@ -171,6 +189,7 @@ impl Station {
         ensures ok { OnOk result
             (self.new ≡ record self.old { lines = self.old.lines ++ line ∷ [] }) }
         ensures err { OnErr result (self.new ≡ self.old) }
+        ensures publisher { self.new.publisher ≡ self.old.publisher }
     {
         self.parts.lines.push(line)?;
         Ok(())
@@ -243,5 +262,72 @@ impl Station {
         ensures few { result ≤ 50000 }
     {
         self.parts.controller.steps()
+    }
+
+    /// From now on the station is watched: it has published its table, which the viewer keeps. It may wait for the
+    /// viewer.
+    pub fn watch<R: Wait>(&mut self, rt: &R) -> Result<Viewer, WatchFault>
+        ensures { Watches result self.old self.new }
+    {
+        if self.publisher.is_some() {
+            return Err(WatchFault::Watched);
+        }
+        let first = table_of(self.alloc, &self.parts)?;
+        let (publisher, viewer) = pair(rt, self.alloc, first)?;
+        match self.publisher.replace(publisher) {
+            None => Ok(viewer),
+            Some(_) => unreachable!(),
+        }
+    }
+
+    /// Publishes its table, if it is watched. It may wait for the viewer. After want of memory nothing was published;
+    /// the table may wait then, and is published before that of the next call that isn't refused.
+    pub fn publish<R: Wait>(&mut self, rt: &R) -> Result<(), OutOfMemory>
+        ensures ok { OnOk result (self.new ≡ publishing self.old) }
+        ensures err { OnErr result (IsUnpublished self.old self.new) }
+    {
+        if let Some(publisher) = &mut self.publisher {
+            let table = table_of(self.alloc, &self.parts)?;
+            publisher.publish(rt, table)?;
+        }
+        Ok(())
+    }
+
+    /// A token of all that it has published, if it is watched.
+    pub fn told(&mut self) -> Result<Option<Told>, OutOfMemory>
+        ensures told { IfOk result (λ told. told ≡ tables_by self.old.publisher) }
+        ensures same { self.new ≡ self.old }
+    {
+        match &mut self.publisher {
+            None => Ok(None),
+            Some(publisher) => Ok(Some(publisher.told(self.alloc)?)),
+        }
+    }
+
+    /// Ends it. It may wait for the viewer.
+    pub fn end<R: Wait>(self, rt: &R) {
+        let Station {
+            alloc: _,
+            parts: _,
+            publisher,
+        } = self;
+        if let Some(publisher) = publisher {
+            publisher.end(rt);
+        }
+    }
+
+    /// Uses up a station that isn't watched.
+    pub fn unmake(self)
+        requires { self.publisher ≡ None }
+    {
+        let Station {
+            alloc: _,
+            parts: _,
+            publisher,
+        } = self;
+        match publisher {
+            None => {}
+            Some(_) => unreachable!(),
+        }
     }
 }

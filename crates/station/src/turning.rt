@@ -62,6 +62,7 @@ pub(crate) fn turn<G: Gate>(parts: &mut Parts, gate: &G, tick: bool) -> Turn
     requires fit { PartsFit parts.old }
     ensures made { HasMadeTurn tick (state_of parts.old) (state_of parts.new) result }
     ensures answer { parts.new.answer ≡ result }
+    ensures grows { length parts.old.log.items ≤ length parts.new.log.items }
     ensures fit { PartsFit parts.new }
 {
     let before = parts.log.len();

@@ -1,5 +1,5 @@
 -- A station with the ends of its rings, and that it is what its node did.
-use Rattle.std.specs.Prelude.{◌≡◌, ℕ, List, ◌++◌, map}
+use Rattle.std.specs.Prelude.{◌≡◌, ℕ, List, Option, ◌++◌, map}
 use Rattle.std.specs.List.{AllByRecursion}
 use Rattle.rtrb.specs.Ring.{received}
 use Rattle.ason_base.specs.declared.ids.NodeId.{NodeId}
@@ -8,6 +8,7 @@ use Rattle.ason_base.specs.declared.commands.Disturb.{Disturb}
 use Rattle.ason_base.specs.declared.commands.Entry.{Entry}
 use Rattle.ason_base.specs.Network.{Network}
 use Rattle.control_channels.specs.Controllers.{ControllerState}
+use Rattle.mgmt_view.specs.Publishing.{PublisherState}
 use Rattle.station_sound.specs.declared.parcels.Parcel.{Parcel}
 use Rattle.station_rings.specs.LinkStates.{LinkState, view_of}
 use Rattle.round_rules.specs.Doings.{Doing}
@@ -31,6 +32,8 @@ pub record StationState : Type 0 where
   pub lines : List Disturb
   -- what its last turn answered
   pub answer : Turn
+  -- what was published of its node, where it is watched
+  pub publisher : Option PublisherState
 
 -- the station as the laws of stations see it
 abbrev pub holding_of : StationState → HoldingStation

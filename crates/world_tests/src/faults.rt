@@ -56,7 +56,11 @@ fn run_with<R: Threads + Wait + Sync>(
     let mut src = MemSource::new(PLAN.as_bytes().to_vec(alloc)?, reads.to_vec(alloc)?);
     let mut out = MemSink::new(alloc, 5, writes.to_vec(alloc)?);
     out.reserve(alloc, TABLE.len())?;
-    let status = ason(rt, alloc, &words, &mut src, &mut out, &NoGate, &mut None);
+    let mut kept = None;
+    let status = ason(rt, alloc, &words, &mut src, &mut out, &NoGate, &mut kept);
+    if let Some(fleet) = kept {
+        fleet.end(rt);
+    }
     Ok((status, out.written().to_vec(alloc)?))
 }
 

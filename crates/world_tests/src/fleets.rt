@@ -113,7 +113,9 @@ fn first_wrong<R: Threads + Wait + Sync>(
 ) -> Result<Option<usize>, Fail> {
     let t = row(alloc, 2, 1)?;
     let mut fleet = Fleet::new(alloc, &t)?;
-    first_unseen(rt, alloc, &mut fleet, acts)
+    let unseen = first_unseen(rt, alloc, &mut fleet, acts);
+    fleet.end(rt);
+    unseen
 }
 
 #[test]

@@ -15,7 +15,7 @@ use std::thread;
 use std::thread::Threads;
 
 /// How often a gate looks before it gives up.
-const LOOKS: u64 = 10_000_000;
+pub(crate) const LOOKS: u64 = 10_000_000;
 
 /// The plan of one call over one link.
 const PLAN: &str = r#"script = ["setup c1 a b unprotected"]
@@ -53,7 +53,7 @@ struct Handing {
 }
 
 // Looks until the count is that high, or gives up and notes it.
-fn hold(count: &AtomicU64, least: u64, gave_up: &AtomicU64) {
+pub(crate) fn hold(count: &AtomicU64, least: u64, gave_up: &AtomicU64) {
     for _ in 0..LOOKS {
         if count.load(Ordering::SeqCst) >= least {
             return;
@@ -99,11 +99,16 @@ impl Gate for Handing {
 }
 
 // A fleet of two nodes that a link joins, where a call between them was posted.
-fn fleet_of_two(alloc: Global) -> Result<Fleet, Fail> {
+fn fleet_of_two<R: Wait>(rt: &R, alloc: Global) -> Result<Fleet, Fail> {
     let t = row(alloc, 2, 1)?;
     let mut fleet = Fleet::new(alloc, &t)?;
-    fleet.post(&search_to(0, B))?;
-    Ok(fleet)
+    match fleet.post(&search_to(0, B)) {
+        Ok(()) => Ok(fleet),
+        Err(refused) => {
+            fleet.end(rt);
+            Err(Fail::from(refused))
+        }
+    }
 }
 
 // How many nodes waited for the other in vain, in the first round on so many workers.
@@ -147,8 +152,10 @@ fn hands_over<R: Threads + Wait + Sync>(
 
 #[test]
 fn two_workers_meet(rt: HostRuntime) -> Result<(), Fail> {
-    let mut fleet = fleet_of_two(rt.alloc())?;
-    assert_eq!(rt; waits_in_vain(&rt, &mut fleet, 2)?, 0);
+    let mut fleet = fleet_of_two(&rt, rt.alloc())?;
+    let in_vain = waits_in_vain(&rt, &mut fleet, 2);
+    fleet.end(&rt);
+    assert_eq!(rt; in_vain?, 0);
     Ok(())
 }
 
@@ -166,7 +173,11 @@ fn meet_in_a_run<R: Threads + Wait + Sync>(
     let mut out = MemSink::new(alloc, TABLE.len(), Vec::new(alloc));
     out.reserve(alloc, TABLE.len())?;
     let gate = Meeting::new();
-    let status = ason(rt, alloc, &words, &mut src, &mut out, &gate, &mut None);
+    let mut kept = None;
+    let status = ason(rt, alloc, &words, &mut src, &mut out, &gate, &mut kept);
+    if let Some(fleet) = kept {
+        fleet.end(rt);
+    }
     Ok((status, out.written().to_vec(alloc)?, gate.in_vain()))
 }
 
@@ -181,14 +192,18 @@ fn two_workers_meet_in_a_run(rt: HostRuntime) -> Result<(), Fail> {
 
 #[test]
 fn one_worker_waits_in_vain(rt: HostRuntime) -> Result<(), Fail> {
-    let mut fleet = fleet_of_two(rt.alloc())?;
-    assert_eq!(rt; waits_in_vain(&rt, &mut fleet, 1)?, 1);
+    let mut fleet = fleet_of_two(&rt, rt.alloc())?;
+    let in_vain = waits_in_vain(&rt, &mut fleet, 1);
+    fleet.end(&rt);
+    assert_eq!(rt; in_vain?, 1);
     Ok(())
 }
 
 #[test]
 fn a_frame_passes_within_a_round(rt: HostRuntime) -> Result<(), Fail> {
-    let mut fleet = fleet_of_two(rt.alloc())?;
-    assert_eq!(rt; hands_over(&rt, rt.alloc(), &mut fleet)?, (0, true));
+    let mut fleet = fleet_of_two(&rt, rt.alloc())?;
+    let handed = hands_over(&rt, rt.alloc(), &mut fleet);
+    fleet.end(&rt);
+    assert_eq!(rt; handed?, (0, true));
     Ok(())
 }

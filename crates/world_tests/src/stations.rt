@@ -6,6 +6,7 @@ use ason_io::NoGate;
 use station::Station;
 use station_doings::Turn;
 use std::alloc::Global;
+use std::sync::Wait;
 use std::test::Fail;
 
 fn release() -> DeskItem {
@@ -15,14 +16,11 @@ fn release() -> DeskItem {
     })
 }
 
-// The station of a, in a list.
-fn stations(alloc: Global, t: &Topology) -> Result<Vec<Station>, Fail> {
-    let mut stations = Vec::new(alloc);
+fn station_of_a(alloc: Global, t: &Topology) -> Result<Station, Fail> {
     match t.node(A) {
-        None => return Err(Fail::new("no node")),
-        Some(_) => stations.push(Station::new(alloc, t, A)?)?,
+        None => Err(Fail::new("no node")),
+        Some(_) => Ok(Station::new(alloc, t, A)?),
     }
-    Ok(stations)
 }
 
 // A tick and two items are three events, and a turn without a tick may be idle.
@@ -36,16 +34,16 @@ fn makes_turns(station: &mut Station) -> Result<bool, Fail> {
     Ok(waiting == 2 && turns == (Turn::Worked(3), Turn::Idle) && left == (0, 0) && made == 3)
 }
 
-fn turns(alloc: Global) -> Result<bool, Fail> {
+fn turns<R: Wait>(rt: &R, alloc: Global) -> Result<bool, Fail> {
     let t = row(alloc, 2, 1)?;
-    match stations(alloc, &t)?.first_mut() {
-        None => Ok(false),
-        Some(station) => makes_turns(station),
-    }
+    let mut station = station_of_a(alloc, &t)?;
+    let made = makes_turns(&mut station);
+    station.end(rt);
+    made
 }
 
 #[test]
 fn a_turn_ticks_and_handles_the_desk(rt: HostRuntime) -> Result<(), Fail> {
-    assert!(rt; turns(rt.alloc())?);
+    assert!(rt; turns(&rt, rt.alloc())?);
     Ok(())
 }

@@ -1,4 +1,7 @@
-use Rattle.ason_main.specs.Answers.{Survey}
+use Rattle.std.proofs.Common.{ℕ, List, Option, Ok, subst, sym}
+use Rattle.fleet.specs.Standing.{FleetState}
+use Rattle.plan_reader.specs.Plans.{PlanOf}
+use Rattle.ason_main.specs.Answers.{IsAnswered, Survey}
 use Rattle.ason_main.proofs.Replies.{no_memory}
 use Rattle.ason_main.proofs.answers.survey.Goals as goal
 
@@ -7,4 +10,8 @@ returns-in-Err g c bs plan =
     no_memory g.K.Sink.written g.K.Sink.faults Survey bs c.args.out.now c.args.kept.now c.requires.none
 
 pub returns-in-Ok : goal.returns-in-Ok
-returns-in-Ok g c = c.survey_fleet-status.ensures
+returns-in-Ok g c =
+    subst (λ (kept : Option FleetState). (bs : List ℕ) → PlanOf bs (Ok c.args.plan.now) →
+    IsAnswered g.K.Sink.written g.K.Sink.faults Survey bs c.args.out.now c.survey_fleet-status.new.out kept
+    c.survey_fleet-status.result)
+    (sym c.keep.ensures) c.survey_fleet-status.ensures

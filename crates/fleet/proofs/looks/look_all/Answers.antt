@@ -1,4 +1,4 @@
-use Rattle.std.proofs.Common.{arith}
+use Rattle.std.proofs.Common.{refl, ◌∙◌, arith}
 use Rattle.fleet.specs.Looks.{IsNodeBefore}
 use Rattle.fleet.proofs.Around.{no-node, over-all, over-node, over-none}
 use Rattle.fleet.proofs.looks.look_all.Goals as goal
@@ -8,6 +8,7 @@ loop-place-init c = record {
   within = omega arith;
   seats = c.requires;
   looks = over-none c.args.seats.now c.args.stations.now (IsNodeBefore 0) no-node;
+  publishers = refl;
 }
 
 pub loop-place-preserved : goal.loop-place-preserved
@@ -17,6 +18,7 @@ loop-place-preserved c = record {
   looks =
       over-node c.args.seats.now c.args.stations.now c.loop-place.stations c.look_around.new.stations
       c.loop-place.place c.loop-place.invariant.looks c.look_around.ensures.looks;
+  publishers = c.look_around.ensures.publishers ∙ c.loop-place.invariant.publishers;
 }
 
 pub returns-clause-looks : goal.returns-clause-looks

@@ -1,4 +1,4 @@
-use Rattle.std.proofs.Common.{◌≡◌, ◌<◌, ℕ, get_or, length, ap, subst, arith}
+use Rattle.std.proofs.Common.{◌≡◌, ◌<◌, ℕ, get_or, length, refl, ap, ◌∙◌, subst, arith}
 use Rattle.std.proofs.lemmas.Option.{get_or_from_slice_get}
 use Rattle.fleet.specs.declared.seats.Seat.{Seat}
 use Rattle.fleet.specs.Looks.{IsLinkBefore}
@@ -10,6 +10,7 @@ loop-link-init c = record {
   within = omega arith;
   seats = c.requires.seats;
   looks = over-none c.args.seats.now c.args.stations.now (IsLinkBefore c.args.place 0) (no-link c.args.place);
+  publishers = refl;
 }
 
 pub look_over-requires-clause-link : goal.look_over-requires-clause-link
@@ -29,6 +30,7 @@ loop-link-preserved c = record {
   looks =
       over-link c.args.seats.now c.args.stations.now c.loop-link.stations c.look_over.new.stations c.args.place
       c.loop-link.link c.loop-link.invariant.looks c.look_over.ensures.looks;
+  publishers = c.look_over.ensures.publishers ∙ c.loop-link.invariant.publishers;
 }
 
 pub returns-clause-looks : goal.returns-clause-looks

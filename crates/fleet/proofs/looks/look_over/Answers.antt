@@ -2,6 +2,7 @@ use Rattle.fleet.specs.Looks.{IsLinkAt}
 use Rattle.fleet.proofs.LooksTwice.{looked-connected}
 use Rattle.fleet.proofs.Looked.{have-looked}
 use Rattle.fleet.proofs.Seated.{led-joined, led-read}
+use Rattle.fleet.proofs.Unwatched.{met-publishers}
 use Rattle.fleet.proofs.looks.look_over.Goals as goal
 
 pub look-requires : goal.look-requires
@@ -27,3 +28,7 @@ returns-clause-seats c = (
       (led-read t c.args.seats.now c.args.place c.args.link c.index-seats-place.result c.index.result.now all.seated
       c.requires.within c.index-seats-place.is c.requires.link c.index.ensures) c.look.ensures w links),
 )
+
+pub returns-clause-publishers : goal.returns-clause-publishers
+returns-clause-publishers c =
+    met-publishers c.args.place c.args.link c.index.result.now c.args.stations.now c.look.new.stations c.look.ensures

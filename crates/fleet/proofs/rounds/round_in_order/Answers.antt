@@ -1,4 +1,4 @@
-use Rattle.std.proofs.Common.{arith}
+use Rattle.std.proofs.Common.{refl, ◌∙◌, arith}
 use Rattle.fleet.proofs.OneWorker.{are-all, are-cut, are-next, are-none}
 use Rattle.fleet.proofs.Threaded.{few-stations}
 use Rattle.fleet.proofs.rounds.round_in_order.Goals as goal
@@ -11,12 +11,16 @@ loop-place-init g c = record {
   within = omega arith;
   seats = c.requires.seats;
   under = are-none c.args.seats.now c.args.stations.now c.round_laws.ensures;
+  publishers = refl;
 }
 
 pub returns-in-Some-clause-rounds : goal.returns-in-Some-clause-rounds
 returns-in-Some-clause-rounds g c =
     are-cut c.args.seats.now c.args.stations.now c.loop-place.stations c.turn_at.new.stations c.loop-place.place
     c.args.stride c.in-Some.fault c.round_laws.ensures c.loop-place.invariant.under c.in-Some.ensures.turns
+
+pub returns-in-Some-clause-publishers : goal.returns-in-Some-clause-publishers
+returns-in-Some-clause-publishers g c = c.turn_at.ensures.publishers ∙ c.loop-place.invariant.publishers
 
 pub loop-place-preserved : goal.loop-place-preserved
 loop-place-preserved g c = record {
@@ -26,6 +30,7 @@ loop-place-preserved g c = record {
       are-next c.args.seats.now c.args.stations.now c.loop-place.stations c.turn_at.new.stations c.loop-place.place
       c.args.stride c.round_laws.ensures c.loop-place.invariant.seats c.loop-place.invariant.under
       c.in_default.ensures.turns;
+  publishers = c.turn_at.ensures.publishers ∙ c.loop-place.invariant.publishers;
 }
 
 pub line_count-requires : goal.line_count-requires

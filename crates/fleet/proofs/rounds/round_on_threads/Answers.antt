@@ -1,4 +1,4 @@
-use Rattle.std.proofs.Common.{◌≤◌, sym, subst}
+use Rattle.std.proofs.Common.{◌≤◌, sym, ◌∙◌, subst}
 use Rattle.fleet.specs.Turning.{line_count}
 use Rattle.fleet.proofs.Rewired.{turned-connected}
 use Rattle.fleet.proofs.Threaded.{few-stations, rounds-count, rounds-fault, rounds-more}
@@ -11,7 +11,7 @@ pub look_all-requires-2 : goal.look_all-requires-2
 look_all-requires-2 g c = (
   c.look_all.ensures.seats.0,
   turned-connected c.look_all.ensures.seats.0 c.args.seats.now c.args.stride c.look_all.new.stations
-      c.turn_all.new.stations c.look_all.ensures.seats.1 c.turn_all.ensures,
+      c.turn_all.new.stations c.look_all.ensures.seats.1 c.turn_all.ensures.turned,
 )
 
 pub line_count-requires : goal.line_count-requires
@@ -21,11 +21,11 @@ pub overflow_sub-result : goal.overflow_sub-result
 overflow_sub-result g c =
     let more =
     rounds-more c.args.seats.now c.args.stations.now c.look_all.new.stations c.turn_all.new.stations
-    c.look_all-2.new.stations c.args.stride c.round_laws.ensures c.look_all.ensures.looks c.turn_all.ensures
+    c.look_all-2.new.stations c.args.stride c.round_laws.ensures c.look_all.ensures.looks c.turn_all.ensures.turned
     c.look_all-2.ensures.looks c.requires.seats (
       c.look_all.ensures.seats.0,
       turned-connected c.look_all.ensures.seats.0 c.args.seats.now c.args.stride c.look_all.new.stations
-          c.turn_all.new.stations c.look_all.ensures.seats.1 c.turn_all.ensures,
+          c.turn_all.new.stations c.look_all.ensures.seats.1 c.turn_all.ensures.turned,
     )
     c.in-None.ensures in
     subst (λ k. k ≤ c.line_count.result) (sym c.line_count-before.ensures)
@@ -34,16 +34,24 @@ overflow_sub-result g c =
 pub returns-in-Some-clause-rounds : goal.returns-in-Some-clause-rounds
 returns-in-Some-clause-rounds g c =
     rounds-fault c.args.seats.now c.args.stations.now c.look_all.new.stations c.turn_all.new.stations
-    c.look_all-2.new.stations c.args.stride c.round_laws.ensures c.look_all.ensures.looks c.turn_all.ensures
+    c.look_all-2.new.stations c.args.stride c.round_laws.ensures c.look_all.ensures.looks c.turn_all.ensures.turned
     c.look_all-2.ensures.looks c.args.workers c.requires.workers c.in-Some.fault c.in-Some.ensures
 
 pub returns-in-None-clause-rounds : goal.returns-in-None-clause-rounds
 returns-in-None-clause-rounds g c =
     rounds-count c.args.seats.now c.args.stations.now c.look_all.new.stations c.turn_all.new.stations
-    c.look_all-2.new.stations c.args.stride c.round_laws.ensures c.look_all.ensures.looks c.turn_all.ensures
+    c.look_all-2.new.stations c.args.stride c.round_laws.ensures c.look_all.ensures.looks c.turn_all.ensures.turned
     c.look_all-2.ensures.looks c.args.workers c.requires.workers c.requires.seats (
       c.look_all.ensures.seats.0,
       turned-connected c.look_all.ensures.seats.0 c.args.seats.now c.args.stride c.look_all.new.stations
-          c.turn_all.new.stations c.look_all.ensures.seats.1 c.turn_all.ensures,
+          c.turn_all.new.stations c.look_all.ensures.seats.1 c.turn_all.ensures.turned,
     )
     c.in-None.ensures c.line_count.result c.line_count-before.result c.line_count.ensures c.line_count-before.ensures
+
+pub returns-in-Some-clause-publishers : goal.returns-in-Some-clause-publishers
+returns-in-Some-clause-publishers g c =
+    c.look_all-2.ensures.publishers ∙ c.turn_all.ensures.publishers ∙ c.look_all.ensures.publishers
+
+pub returns-in-None-clause-publishers : goal.returns-in-None-clause-publishers
+returns-in-None-clause-publishers g c =
+    c.look_all-2.ensures.publishers ∙ c.turn_all.ensures.publishers ∙ c.look_all.ensures.publishers

@@ -1,5 +1,7 @@
-use Rattle.std.proofs.Common.{◌<◌, get_or, sym, subst}
+use Rattle.std.proofs.Common.{◌<◌, get_or, sym, ◌∙◌, subst}
 use Rattle.std.proofs.lemmas.Option.{slice_get-get_or}
+use Rattle.station_doings.specs.States.{StationState}
+use Rattle.fleet.proofs.Places.{map-back}
 use Rattle.fleet.proofs.Rewired.{turn-connected}
 use Rattle.fleet.proofs.Threaded.{station-count}
 use Rattle.fleet.proofs.rounds.turn_at.Goals as goal
@@ -35,3 +37,13 @@ returns-clause-turns g c = record {
   seated = slice_get-get_or c.args.seats.now c.args.place c.index-seats-place.result c.requires.within;
   answers = c.turn_one-fault.ensures.fault;
 }
+
+pub returns-clause-publishers : goal.returns-clause-publishers
+returns-clause-publishers g c =
+    c.look_around-2.ensures.publishers
+    ∙ map-back (λ (s : StationState). s.publisher) c.look_around.new.stations c.args.place
+    (get_or c.look_around.new.stations c.args.place c.index-stations-place.result) c.turn_one-fault.new.station
+    (slice_get-get_or c.look_around.new.stations c.args.place c.index-stations-place.result
+    (subst (λ k. c.args.place < k)
+    (sym (station-count c.args.seats.now c.look_around.new.stations c.look_around.ensures.seats)) c.requires.within))
+    c.turn_one-fault.ensures.publisher ∙ c.look_around.ensures.publishers

@@ -8,9 +8,11 @@ use Rattle.station_doings.specs.States.{StationState}
 use Rattle.fleet_rounds.proofs.Nodes.{joins-nodes}
 use Rattle.fleet.specs.Commands.{is_seat, lines_in, station_in}
 use Rattle.fleet.specs.Standing.{FleetState}
+use Rattle.fleet.specs.Views.{publishers_of}
 use Rattle.fleet.proofs.Finding.{place-within, seat-lost}
 use Rattle.fleet.proofs.Kept.{seats-count, seats-kept, set-links, set-same}
 use Rattle.fleet.proofs.Lines.{noise-stands}
+use Rattle.fleet.proofs.Places.{map-back}
 use Rattle.fleet.proofs.fleet.Fleet.noise.Goals as goal
 
 pub index_mut-requires : goal.index_mut-requires
@@ -115,3 +117,18 @@ returns-in-Some-clause-err c =
     }) (set-same stations place c.index_mut.result.now c.hear.new.station
     (slice_get_read stations (length stations) place c.index_mut.result.now refl below c.index_mut.ensures.value) same)
     ∙ c.self.view_is) c.hear.ensures.err
+
+pub returns-in-Some-clause-publishers : goal.returns-in-Some-clause-publishers
+returns-in-Some-clause-publishers c =
+    let stations = c.self.inside.stations.items in
+    let place = c.in-Some.place in
+    let below : place < length stations =
+    omega (
+      arith,
+      place-within (is_seat c.args.to) c.deref.result.now place (sym c.in-Some.ensures),
+      ap length c.deref.ensures.value,
+      seats-count c.self.inside.seats.items stations c.self.invariant,
+    ) in
+    map-back (λ (s : StationState). s.publisher) stations place c.index_mut.result.now c.hear.new.station
+    (slice_get_read stations (length stations) place c.index_mut.result.now refl below c.index_mut.ensures.value)
+    c.hear.ensures.publisher ∙ ap (λ (x : FleetState). publishers_of x.stations) c.self.view_is

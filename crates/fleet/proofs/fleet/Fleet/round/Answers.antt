@@ -1,36 +1,68 @@
-use Rattle.std.proofs.Common.{refl, arith}
-use Rattle.fleet.proofs.Whole.{filled, filled-seats, fleet-rounds}
+use Rattle.std.proofs.Common.{◌≡◌, sym, ap, ◌∙◌, subst, arith}
+use Rattle.std.specs.List.{AllZip}
+use Rattle.std.specs.Vec.{with_items}
+use Rattle.std.proofs.lemmas.List.{with_items_is}
+use Rattle.fleet.specs.Connections.{HaveSeats}
+use Rattle.fleet.specs.Rounds.{Rounds}
+use Rattle.fleet.specs.Standing.{FleetState}
+use Rattle.fleet.specs.Views.{MayPublish, Publishes, publishers_of}
+use Rattle.fleet.proofs.Published.{all-published, published-connected, rounds-published, rounds-starved, some-published}
+use Rattle.fleet.proofs.fleet.Fleet.round.Goals.{in-Err, in-Ok}
 use Rattle.fleet.proofs.fleet.Fleet.round.Goals as goal
 
 pub invariant_of-self : goal.invariant_of-self
 invariant_of-self g c =
-    let f = c.self.inside in
-    filled-seats c.deref.result.now f.seats.items f.stations.items c.round_in_order.new.stations f.stations.len
-    c.deref.ensures.value c.self.invariant c.round_in_order.ensures.seats f.stations.ok.0
+    let seats = c.self.inside.seats.items in
+    let lent = c.deref_mut.result.now in
+    let new = c.publish_all-told.new.stations in
+    subst (HaveSeats seats) (sym (with_items_is c.self.inside.stations new (omega
+    (arith, c.publish_all-told.auto.stations, c.deref_mut.ensures.len))))
+    (published-connected seats lent new (subst (HaveSeats seats) (sym c.deref_mut.ensures.value) c.self.invariant)
+    c.publish_all-told.ensures.may)
 
-pub invariant_of-self-else-workers-eq1 : goal.invariant_of-self-else-workers-eq1
-invariant_of-self-else-workers-eq1 g c =
-    let f = c.self.inside in
-    filled-seats c.deref-else-workers-eq1.result.now f.seats.items f.stations.items c.round_on_threads.new.stations
-    f.stations.len c.deref-else-workers-eq1.ensures.value c.self.invariant c.round_on_threads.ensures.seats
-    f.stations.ok.0
+pub returns-clause-rounds : goal.returns-clause-rounds
+returns-clause-rounds g c =
+    let old = c.args.self.now in
+    let mid = c.make_round-made.new.self in
+    let made = c.make_round-made.result in
+    let lent = c.deref_mut.result.now in
+    let new = c.publish_all-told.new.stations in
+    let is =
+    with_items_is c.self.inside.stations new (omega (arith, c.publish_all-told.auto.stations, c.deref_mut.ensures.len)) in
+    elim c.match-told.branch [
+      | in-Ok w ↦
+          subst (Rounds c.args.workers old _) (sym w.result-is)
+          (rounds-published c.args.workers old mid _ lent new _ made c.self.view_is c.deref_mut.ensures.value is
+          c.publish_all-told.ensures.may c.make_round-made.ensures.rounds)
+      | in-Err w ↦
+          subst (Rounds c.args.workers old _) (sym w.result-is)
+          (rounds-starved c.args.workers old mid _ lent new _ made c.self.view_is c.deref_mut.ensures.value is
+          c.publish_all-told.ensures.may c.every_command.ensures.rounds c.every_command.ensures.cuts
+          c.make_round-made.ensures.rounds)
+    ]
 
-pub returns-then-workers-eq1 : goal.returns-then-workers-eq1
-returns-then-workers-eq1 g c =
-    let f = c.self.inside in
-    fleet-rounds _ c.args.self.now c.deref.result.now c.deref_mut.result.now c.round_in_order.new.stations _ 1
-    c.args.workers c.round_in_order.result c.self.view_is c.deref.ensures.value c.deref_mut.ensures.value (omega
-    (arith, c.if-workers-eq1.true))
-    (filled c.deref.result.now f.seats.items f.stations.items c.round_in_order.new.stations f.stations.len
-    c.deref.ensures.value c.self.invariant c.round_in_order.ensures.seats f.stations.ok.0)
-    c.round_in_order.ensures.rounds
-
-pub returns-else-workers-eq1 : goal.returns-else-workers-eq1
-returns-else-workers-eq1 g c =
-    let f = c.self.inside in
-    fleet-rounds _ c.args.self.now c.deref-else-workers-eq1.result.now c.deref_mut-else-workers-eq1.result.now
-    c.round_on_threads.new.stations _ c.args.workers c.args.workers c.round_on_threads.result c.self.view_is
-    c.deref-else-workers-eq1.ensures.value c.deref_mut-else-workers-eq1.ensures.value refl
-    (filled c.deref-else-workers-eq1.result.now f.seats.items f.stations.items c.round_on_threads.new.stations
-    f.stations.len c.deref-else-workers-eq1.ensures.value c.self.invariant c.round_on_threads.ensures.seats
-    f.stations.ok.0) c.round_on_threads.ensures.rounds
+pub returns-clause-publishes : goal.returns-clause-publishes
+returns-clause-publishes g c =
+    let old = c.args.self.now in
+    let lent = c.deref_mut.result.now in
+    let new = c.publish_all-told.new.stations in
+    let is =
+    with_items_is c.self.inside.stations new (omega (arith, c.publish_all-told.auto.stations, c.deref_mut.ensures.len)) in
+    let now : FleetState = record {
+      seats = c.self.inside.seats.items;
+      stations = (with_items c.self.inside.stations new).items;
+      posts = c.self.inside.posts.items;
+      network = c.self.inside.network;
+      failed = c.self.inside.failed.items;
+    } in
+    let same : publishers_of lent ≡ publishers_of old.stations =
+    ap publishers_of c.deref_mut.ensures.value ∙ ap (λ (x : FleetState). publishers_of x.stations) c.self.view_is
+    ∙ c.make_round-made.ensures.publishers in
+    elim c.match-told.branch [
+      | in-Ok w ↦
+          subst (λ answer. Publishes answer old now) (sym w.result-is)
+          (all-published c.make_round-made.result old now lent same (is ∙ w.in-Ok.ensures.ok))
+      | in-Err w ↦
+          subst (λ answer. Publishes answer old now) (sym w.result-is)
+          (some-published old now lent same (subst (AllZip MayPublish lent) (sym is) c.publish_all-told.ensures.may))
+    ]

@@ -6,6 +6,7 @@ use Rattle.station_doings.specs.Entered.{me_of}
 use Rattle.station_doings.specs.States.{StationState}
 use Rattle.station.specs.Fits.{state_of}
 use Rattle.station.specs.Joined.{IsApartFrom, with_link}
+use Rattle.station.specs.Watched.{with_publisher}
 use Rattle.station.proofs.Joining.{joined-parts}
 use Rattle.station.proofs.station.Station.connect.Goals as goal
 
@@ -46,13 +47,13 @@ returns-clause-ok c =
       there = c.in_ok-here.there;
       ends = c.in_ok-here.ensures.ends;
       first =
-          (λ i. record (state_of a) {
+          (λ i. record (with_publisher (state_of a) c.a.inside.publisher) {
             links = (c.attach.ensures
                 ∙ ap (λ ls. ls ++ c.in_ok-here.here ∷ []) c.reserve.ensures.items) i;
           })
           ∙ ap (λ s. with_link s c.in_ok-here.here) c.a.view_is;
       second =
-          (λ i. record (state_of b) {
+          (λ i. record (with_publisher (state_of b) c.b.inside.publisher) {
             links = (c.attach-2.ensures
                 ∙ ap (λ ls. ls ++ c.in_ok-here.there ∷ []) c.reserve-2.ensures.items) i;
           })

@@ -6,4 +6,4 @@ use Rattle.ason_main.proofs.runner.crew.Crew.round.Goals as goal
 pub returns : goal.returns
 returns g c =
     subst (λ (how : How). Rounds how.workers c.args.fleet.now c.round.new.self c.round.result) c.self.view_is
-    c.round.ensures
+    c.round.ensures.rounds

@@ -1,0 +1,103 @@
+-- What is published stays where stations are joined, looked at or told of posts; new stations publish nothing.
+use Rattle.std.proofs.Common.{◌≡◌, ◌<◌, ℕ, List, [], ◌∷◌, ◌++◌, length, map, refl, sym, ap, subst, ◌∙◌}
+use Rattle.std.specs.Prelude.{None, Option, slice_set}
+use Rattle.std.specs.List.{AllZip}
+use Rattle.std.proofs.lemmas.List.{length-map}
+use Rattle.hop_reliable.proofs.Members.{each-append}
+use Rattle.ason_base.specs.declared.commands.DeskItem.{DeskItem}
+use Rattle.ason_base.specs.declared.ids.NodeId.{NodeId}
+use Rattle.ason_base.specs.Network.{Network}
+use Rattle.mgmt_view.specs.Publishing.{PublisherState}
+use Rattle.station_doings.specs.States.{StationState}
+use Rattle.fleet.specs.declared.seats.End.{End}
+use Rattle.fleet.specs.declared.seats.Seat.{Seat}
+use Rattle.fleet.specs.Commands.{but_room}
+use Rattle.fleet.specs.Joining.{HasMore}
+use Rattle.fleet.specs.Looks.{HaveMet}
+use Rattle.fleet.specs.Posting.{TakeItems, TakesOrder, with_clock}
+use Rattle.fleet.specs.Views.{AreUnwatched, publishers_of}
+use Rattle.fleet.proofs.Places.{get-map, map-back, map-set, set-back}
+use Rattle.fleet.proofs.Taking.{same-places, there-at, within-at}
+
+-- two stations that looked at each other
+pub met-publishers : (place link : ℕ) (e : End) (old new : List StationState) → HaveMet place link e old new →
+    publishers_of new ≡ publishers_of old
+met-publishers place link e old new met =
+    ap (map f) met.stations
+    ∙ map-set f (slice_set old place met.here_now) e.station met.there_now
+    ∙ ap (λ ps. slice_set ps e.station (f met.there_now)) first
+    ∙ set-back (map f old) e.station (f met.there) (f met.there_now) (get-map f old e.station met.there met.is_there)
+    (ap f met.looked.there)
+  where
+    f : StationState → Option PublisherState
+    f s = s.publisher
+
+    first : map f (slice_set old place met.here_now) ≡ map f old
+    first = map-back f old place met.here met.here_now met.is_here (ap f met.looked.here)
+
+-- two lists, item by item
+pub same-publishers : (xs ys : List StationState) → AllZip (λ (x y : StationState). y.publisher ≡ x.publisher) xs ys →
+    publishers_of ys ≡ publishers_of xs
+same-publishers [] [] all = refl
+same-publishers [] (y ∷ ys) all = absurd all
+same-publishers (x ∷ xs) [] all = absurd all
+same-publishers (x ∷ xs) (y ∷ ys) all = λ i. (all.0 i) ∷ same-publishers xs ys all.1 i
+
+-- Posts
+
+map_map : {X Y Z : Type 0} (f : X → Y) (g : Y → Z) (xs : List X) → map g (map f xs) ≡ map (λ x. g (f x)) xs
+map_map f g [] = refl
+map_map f g (x ∷ xs) = ap (λ zs. g (f x) ∷ zs) (map_map f g xs)
+
+abbrev publisher : StationState → Option PublisherState
+publisher s = s.publisher
+
+-- stations with more room
+pub room-publishers : (xs ys : List StationState) → map but_room ys ≡ map but_room xs →
+    publishers_of ys ≡ publishers_of xs
+room-publishers xs ys same =
+    sym (map_map but_room publisher ys) ∙ ap (map publisher) same ∙ map_map but_room publisher xs
+
+-- with items on their desks
+pub items-publishers : (items : NodeId → List DeskItem) (stamp : ℕ) (seats : List Seat) (xs ys : List StationState) →
+    length xs ≡ length seats → TakeItems items stamp seats xs ys → publishers_of ys ≡ publishers_of xs
+items-publishers items stamp seats xs ys count take =
+    same-places publisher xs ys take.count (λ place x y was is.
+    (let n = there-at seats place (subst (λ k. place < k) count (within-at xs place x was)) in
+    ap publisher (take.each place n.0 x y n.1 was is).station))
+
+pub order-publishers : (place : ℕ) (item : DeskItem) (stamp : ℕ) (xs ys : List StationState) →
+    TakesOrder place item stamp xs ys → publishers_of ys ≡ publishers_of xs
+order-publishers place item stamp xs ys take =
+    ap (map publisher) take.clocks ∙ map_map (with_clock stamp) publisher take.put
+    ∙ ap (map publisher) take.is_put.stations
+    ∙ map-back publisher xs place take.is_put.before take.is_put.after take.is_put.there
+    (ap publisher take.is_put.told.station)
+
+-- Stations that aren't watched
+
+pub unwatched-same : (xs ys : List StationState) → publishers_of ys ≡ publishers_of xs → AreUnwatched xs →
+    AreUnwatched ys
+unwatched-same [] [] same all = tt
+unwatched-same [] (y ∷ ys) same all = absurd (cc (same))
+unwatched-same (x ∷ xs) [] same all = absurd (cc (same))
+unwatched-same (x ∷ xs) (y ∷ ys) same all =
+    let first : y.publisher ≡ x.publisher = cc (same) in
+    let rest : publishers_of ys ≡ publishers_of xs = cc (same) in
+    (first ∙ all.0, unwatched-same xs ys rest all.1)
+
+pub publishers-count : (xs ys : List StationState) → publishers_of ys ≡ publishers_of xs → length ys ≡ length xs
+publishers-count xs ys same = sym (length-map ys publisher) ∙ ap length same ∙ length-map xs publisher
+
+-- with one more
+pub unwatched-more : (t : Network) (n : NodeId) (xs ys : List StationState) → HasMore t n xs ys → AreUnwatched xs →
+    AreUnwatched ys
+unwatched-more t n xs ys more all =
+    subst AreUnwatched (sym more.stations)
+    (each-append (λ (s : StationState). s.publisher ≡ None) xs (more.station ∷ []) all (more.is_new.publisher, tt))
+
+-- but for the last one, and the last one
+pub unwatched-but : (xs : List StationState) (y : StationState) → AreUnwatched (xs ++ y ∷ []) →
+    AreUnwatched xs × (y.publisher ≡ None)
+unwatched-but [] y all = (tt, all.0)
+unwatched-but (x ∷ xs) y all = let rest = unwatched-but xs y all.1 in ((all.0, rest.0), rest.1)

@@ -1,0 +1,39 @@
+//! Who watches a station, and what it publishes.
+
+ghost use Rattle.std.specs.Prelude.{◌≡◌, IfOk};
+ghost use Rattle.station.specs.Fits.{PartsFit, state_of};
+ghost use Rattle.station.specs.Watched.{table_of};
+ghost use Rattle.station.specs.declared.watching.WatchFault.{WatchFault};
+
+use crate::parts::Parts;
+use ason_base::OutOfMemory;
+use mgmt_view::NodeTable;
+use std::alloc::Global;
+
+/// Why a node isn't watched from now on.
+#[derive(Clone, Copy, Debug, PartialEq, Eq, Drop)]
+pub enum WatchFault {
+    /// It has a viewer.
+    Watched,
+    OutOfMemory,
+}
+
+impl From<OutOfMemory> for WatchFault {
+    ghost from_gives = { λ _ error. error ≡ WatchFault.OutOfMemory };
+
+    fn from(_: OutOfMemory) -> WatchFault {
+        WatchFault::OutOfMemory
+    }
+}
+
+/// The legs of the node, after the whole of its log.
+pub(crate) fn table_of(alloc: Global, parts: &Parts) -> Result<NodeTable, OutOfMemory>
+    requires fit { PartsFit parts.now }
+    ensures { IfOk result (λ t. t ≡ table_of (state_of parts.now)) }
+{
+    let rows = parts.controller.rows(alloc)?;
+    Ok(NodeTable {
+        entries: parts.log.len() as u64,
+        legs: rows.legs,
+    })
+}
