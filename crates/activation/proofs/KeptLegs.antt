@@ -1,5 +1,5 @@
--- The legs fit after each step of an activation, and after it is taken back.
-use Rattle.std.proofs.Common.{◌≡◌, ◌∙◌, ℕ, Bool, true, false, cond, refl, ap, sym, List, drop}
+-- The legs fit after each step of an activation, and after it is taken back, and their marks may be set.
+use Rattle.std.proofs.Common.{◌≡◌, ◌∙◌, ℕ, Bool, true, false, cond, refl, ap, subst, sym, List, drop}
 use Rattle.std.specs.Prelude.{◌&&◌, Option, Some, None}
 use Rattle.ason_base.specs.Labels.{has}
 use Rattle.ason_base.specs.declared.calls.Phase.{Phase}
@@ -17,21 +17,37 @@ use Rattle.mesh_rules.specs.ActivationAnswers.{confirmed, contended, disarmed, i
 use Rattle.mesh_rules.specs.Activations.{path_again}
 use Rattle.mesh_rules.specs.Changes.{Answer, nothing}
 use Rattle.mesh_rules.specs.Legs.{find_leg, following, is_armed, is_asked, is_label, is_node, is_over, previous}
-use Rattle.mesh_rules.specs.Messages.{arrival}
+use Rattle.mesh_rules.specs.Messages.{arrival, on_message}
 use Rattle.mesh_rules.specs.PathErrs.{PathFailure, on_path_err, path_err_with, removed}
 use Rattle.mesh_rules.specs.Paths.{PathRequest, is_active, path_with}
 use Rattle.mesh_rules.specs.Resvs.{answered, on_resv, resv_with}
 use Rattle.mesh_rules.specs.State.{new_node}
 use Rattle.mesh_nodes.specs.LocalNodes.{LocalNodeFits}
 use Rattle.mesh_nodes.proofs.Cases.{both_left, if_cases}
-use Rattle.leg_labels.proofs.OwnLegs.{legs-after, next_state}
 use Rattle.leg_table.specs.Fits.{OwnLegsFit, legs_after}
+use Rattle.leg_table.specs.LegClaims.{MayAllMark, is_own_fibre}
 use Rattle.leg_table.specs.States.{legs_state, local_of}
 use Rattle.leg_table.specs.Tables.{LegTable}
+use Rattle.leg_labels.proofs.OwnLegs.{legs-after, next_state}
+use Rattle.leg_labels.proofs.RuleChanges.{message-may}
 use Rattle.activation.specs.Answers.{activate_answer, busy_answer, connect_answer, connected_here, contended_here, path_here, path_taken, take_back_answer}
 
-abbrev Keeps : LegTable → Answer → Type 0
-Keeps t a = OwnLegsFit (legs_after t a)
+-- what an answer does to the legs
+pub record Keeps (t : LegTable) (a : Answer) : Type 0 where
+  pub legs : OwnLegsFit (legs_after t a)
+  pub marks : MayAllMark (is_own_fibre (local_of t)) t.legs a.legs
+
+-- the node answers so to some message, whatever number is next
+answers : (t : LegTable) (u : NodeId) (m : Msg) (a : Answer) → LocalNodeFits (local_of t) → OwnLegsFit t →
+    ((next : ℕ) → a.legs ≡ (on_message (local_of t) (next_state t next) u m).legs) → Keeps t a
+answers t u m a links (next, some, legs) is = record {
+  legs = legs-after t u m a.legs links (next, some, legs) is;
+  marks = subst (MayAllMark (is_own_fibre (local_of t)) t.legs) (sym (is next))
+      (message-may (local_of t) (next_state t next) next u m links legs.each tt).1;
+}
+
+none : (t : LegTable) → OwnLegsFit t → Keeps t nothing
+none t fits = record { legs = fits; marks = tt }
 
 -- whatever number is next, the machine's rules are these
 
@@ -103,60 +119,60 @@ path-legs t m links fits = go (find_leg m.arrival.lsp t.legs) refl
     left = drop 1 m.route
 
     go : (o : Option Leg) → find_leg a.lsp t.legs ≡ o → Keeps t (path_taken t a left m.role o)
-    go None found = fits
+    go None found = none t fits
     go (Some g) found =
-        legs-after t a.from (Path a.lsp a.egress a.link m.route m.set None m.role)
-        (path_again (local_of t) (legs_state t) a left m.role g).legs links fits
+        answers t a.from (Path a.lsp a.egress a.link m.route m.set None m.role)
+        (path_again (local_of t) (legs_state t) a left m.role g) links fits
         (λ next. ap (λ w. w.legs) (path-by t next a left m.role g
         ∙ ap (path_with (local_of t) (next_state t next) m) (sym found)))
 
-pub activate-legs : (t : LegTable) (u : NodeId) (m : Msg) → LocalNodeFits (local_of t) → OwnLegsFit t →
-    OwnLegsFit (legs_after t (activate_answer t u m))
-activate-legs t u (Path l e k route set up r) links fits =
+pub activate-keeps : (t : LegTable) (u : NodeId) (m : Msg) → LocalNodeFits (local_of t) → OwnLegsFit t →
+    Keeps t (activate_answer t u m)
+activate-keeps t u (Path l e k route set up r) links fits =
     let a = arrival l e u k in
     if_cases (Keeps t) (is_active r) (path_here t a (drop 1 route) r) nothing
-    (λ active. path-legs t (record { arrival = a; route = route; set = set; role = r }) links fits) (λ other. fits)
-activate-legs t u (Resv l e k x) links fits = fits
-activate-legs t u (PathTear l e k) links fits = fits
-activate-legs t u (PathErr l e at gone code) links fits = fits
-activate-legs t u (Notify l e at k code) links fits = fits
+    (λ active. path-legs t (record { arrival = a; route = route; set = set; role = r }) links fits) (λ other. none t fits)
+activate-keeps t u (Resv l e k x) links fits = none t fits
+activate-keeps t u (PathTear l e k) links fits = none t fits
+activate-keeps t u (PathErr l e at gone code) links fits = none t fits
+activate-keeps t u (Notify l e at k code) links fits = none t fits
 
-pub take_back-legs : (t : LegTable) (u : NodeId) (m : Msg) → LocalNodeFits (local_of t) → OwnLegsFit t →
-    OwnLegsFit (legs_after t (take_back_answer t u m))
-take_back-legs t u (Path l e k route set up r) links fits =
+pub take_back-keeps : (t : LegTable) (u : NodeId) (m : Msg) → LocalNodeFits (local_of t) → OwnLegsFit t →
+    Keeps t (take_back_answer t u m)
+take_back-keeps t u (Path l e k route set up r) links fits =
     let a = arrival l e u k in
-    if_cases (Keeps t) (is_active r) nothing (path_here t a (drop 1 route) r) (λ active. fits)
+    if_cases (Keeps t) (is_active r) nothing (path_here t a (drop 1 route) r) (λ active. none t fits)
     (λ other. path-legs t (record { arrival = a; route = route; set = set; role = r }) links fits)
-take_back-legs t u (Resv l e k x) links fits = fits
-take_back-legs t u (PathTear l e k) links fits = fits
-take_back-legs t u (PathErr l e at gone code) links fits = fits
-take_back-legs t u (Notify l e at k code) links fits = fits
+take_back-keeps t u (Resv l e k x) links fits = none t fits
+take_back-keeps t u (PathTear l e k) links fits = none t fits
+take_back-keeps t u (PathErr l e at gone code) links fits = none t fits
+take_back-keeps t u (Notify l e at k code) links fits = none t fits
 
-pub connect-legs : (t : LegTable) (u : NodeId) (m : Msg) → LocalNodeFits (local_of t) → OwnLegsFit t →
-    OwnLegsFit (legs_after t (connect_answer t u m))
-connect-legs t u (Path l e k route set up r) links fits = fits
-connect-legs t u (Resv l e k x) links fits = go (find_leg l t.legs) refl
+pub connect-keeps : (t : LegTable) (u : NodeId) (m : Msg) → LocalNodeFits (local_of t) → OwnLegsFit t →
+    Keeps t (connect_answer t u m)
+connect-keeps t u (Path l e k route set up r) links fits = none t fits
+connect-keeps t u (Resv l e k x) links fits = go (find_leg l t.legs) refl
   where
     a : Arrival
     a = arrival l e u k
 
     go : (o : Option Leg) → find_leg l t.legs ≡ o → Keeps t (connected_here a x o)
-    go None found = fits
+    go None found = none t fits
     go (Some g) found =
         if_cases (Keeps t) (is_confirmed a x g) (confirmed new_node g (previous g)) nothing
-        (λ takes. legs-after t u (Resv l e k x) (confirmed new_node g (previous g)).legs links fits
-        (λ next. resv-is t next a x g found takes)) (λ other. fits)
-connect-legs t u (PathTear l e k) links fits = fits
-connect-legs t u (PathErr l e at gone code) links fits = fits
-connect-legs t u (Notify l e at k code) links fits = fits
+        (λ takes. answers t u (Resv l e k x) (confirmed new_node g (previous g)) links fits
+        (λ next. resv-is t next a x g found takes)) (λ other. none t fits)
+connect-keeps t u (PathTear l e k) links fits = none t fits
+connect-keeps t u (PathErr l e at gone code) links fits = none t fits
+connect-keeps t u (Notify l e at k code) links fits = none t fits
 
-pub busy-legs : (t : LegTable) (u : NodeId) (m : Msg) → LocalNodeFits (local_of t) → OwnLegsFit t →
-    OwnLegsFit (legs_after t (busy_answer t u m))
-busy-legs t u (Path l e k route set up r) links fits = fits
-busy-legs t u (Resv l e k x) links fits = fits
-busy-legs t u (PathTear l e k) links fits = fits
-busy-legs t u (PathErr l e at true code) links fits = fits
-busy-legs t u (PathErr l e at false code) links fits = go (find_leg l t.legs) refl
+pub busy-keeps : (t : LegTable) (u : NodeId) (m : Msg) → LocalNodeFits (local_of t) → OwnLegsFit t →
+    Keeps t (busy_answer t u m)
+busy-keeps t u (Path l e k route set up r) links fits = none t fits
+busy-keeps t u (Resv l e k x) links fits = none t fits
+busy-keeps t u (PathTear l e k) links fits = none t fits
+busy-keeps t u (PathErr l e at true code) links fits = none t fits
+busy-keeps t u (PathErr l e at false code) links fits = go (find_leg l t.legs) refl
   where
     m : Msg
     m = PathErr l e at false code
@@ -165,9 +181,9 @@ busy-legs t u (PathErr l e at false code) links fits = go (find_leg l t.legs) re
     f = record { lsp = l; msg = m; removed = false; code = code }
 
     go : (o : Option Leg) → find_leg l t.legs ≡ o → Keeps t (contended_here u m o)
-    go None found = fits
+    go None found = none t fits
     go (Some g) found =
         if_cases (Keeps t) (is_node (following g) u) (contended new_node g m) nothing
-        (λ near. legs-after t u m (contended new_node g m).legs links fits
-        (λ next. err-is t next g u f found refl near)) (λ other. fits)
-busy-legs t u (Notify l e at k code) links fits = fits
+        (λ near. answers t u m (contended new_node g m) links fits
+        (λ next. err-is t next g u f found refl near)) (λ other. none t fits)
+busy-keeps t u (Notify l e at k code) links fits = none t fits

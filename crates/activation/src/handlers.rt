@@ -16,10 +16,10 @@ use link_owner::Owner;
 use std::alloc::Global;
 
 /// Takes a Path that activates, at a leg that is Held: the leg is Armed and the Path goes on; at
-/// the egress it is Live and a Resv goes back; where another leg on its label is Armed or Live it
-/// stays, and a PathErr without Path_State_Removed goes back. The owner's claim is armed with the
-/// leg. Hands back what is to be sent, in order. Another Path, and a message of another kind,
-/// change nothing. After want of memory nothing has changed.
+/// the egress it is Live and a Resv goes back; where a label that it takes or sends is in use by
+/// another backup it stays, and a PathErr without Path_State_Removed goes back. With the leg the
+/// owner's marks of its labels are set. Hands back what is to be sent, in order. Another Path, and a
+/// message of another kind, change nothing. After want of memory nothing has changed.
 pub fn activate(
     alloc: Global,
     tables: &mut NodeTables,
@@ -41,7 +41,7 @@ pub fn activate(
 }
 
 /// Takes a Path of a backup that doesn't activate it, at a leg that is Armed or Live: the leg is
-/// Held again, its claim is disarmed, and the Path goes on; at the egress nothing is sent. Hands
+/// Held again, its marks are cleared, and the Path goes on; at the egress nothing is sent. Hands
 /// back what is to be sent, in order. A Path that activates, one at a leg that is neither or of a
 /// working LSP, and a message of another kind, change nothing. After want of memory nothing has
 /// changed.
@@ -89,7 +89,7 @@ pub fn connect(
 }
 
 /// Takes a PathErr without Path_State_Removed at a leg that is Armed: the leg is Held again, its
-/// claim is disarmed, and the PathErr is passed back unchanged. Hands back what is to be sent, in
+/// marks are cleared, and the PathErr is passed back unchanged. Hands back what is to be sent, in
 /// order. A PathErr at another leg, one that tells that the state was removed, and a message of
 /// another kind, change nothing. After want of memory nothing has changed.
 pub fn busy(

@@ -1,11 +1,10 @@
 //! A Path that activates a backup whose leg stands here.
 
-ghost use Rattle.std.specs.Prelude.{◌≡◌, IfOk, IsTrue, None, Some, drop};
+ghost use Rattle.std.specs.Prelude.{◌≡◌, IfOk, drop};
 ghost use Rattle.ason_base.specs.declared.messages.Msg.TheVariants.{Path};
 ghost use Rattle.mesh_rules.specs.Activations.{armed_on};
-ghost use Rattle.mesh_rules.specs.Legs.{find_leg, following, is_beyond_asked};
+ghost use Rattle.mesh_rules.specs.Legs.{following};
 ghost use Rattle.mesh_rules.specs.Paths.{is_active};
-ghost use Rattle.leg_table.specs.Fits.{OwnLegsFit};
 ghost use Rattle.leg_table.specs.LegClaims.{ClaimsFit};
 ghost use Rattle.activation.specs.Answers.{activate_answer, activated_here, activating_here, busy_here};
 
@@ -19,7 +18,7 @@ use link_owner::Owner;
 use mesh_rules::Arrival;
 use std::alloc::Global;
 
-// Another leg on the label is in use: the sender is told, and the leg stays.
+// A label of the leg is in use: the sender is told, and the leg stays.
 fn refuse(alloc: Global, tables: &NodeTables, leg: &Leg, to: NodeId) -> Result<Change, OutOfMemory>
     ensures { IfOk result (λ c. c ≡ busy_here tables.now leg.now to) }
 {
@@ -84,10 +83,7 @@ fn activate_leg(
     path: &PathAgain<'_>,
     leg: &Leg,
 ) -> Result<Change, OutOfMemory>
-    requires legs { OwnLegsFit tables.now }
-    requires claims { ClaimsFit tables.now.legs owner.now }
-    requires there { find_leg leg.now.lsp tables.now.legs ≡ Some leg.now }
-    requires beyond { IsTrue (is_beyond_asked leg.now.phase) }
+    requires { ClaimsFit tables.now.legs owner.now }
     ensures { IfOk result (λ c. c ≡ activated_here tables.now path.now.arrival
         (drop 1 path.now.route.now) path.now.role.now leg.now) }
 {
@@ -114,8 +110,7 @@ fn on_path(
     owner: &Owner,
     path: &PathAgain<'_>,
 ) -> Result<Change, OutOfMemory>
-    requires legs { OwnLegsFit tables.now }
-    requires claims { ClaimsFit tables.now.legs owner.now }
+    requires { ClaimsFit tables.now.legs owner.now }
     ensures { IfOk result (λ c. c ≡ activating_here tables.now path.now.arrival
         (drop 1 path.now.route.now) path.now.role.now) }
 {
@@ -131,9 +126,9 @@ fn on_path(
 }
 
 /// What a Path that activates would change and send at a leg that is Held: the leg is Armed and the
-/// Path goes on; at the egress it is Live and a Resv goes back; where another leg on its label is
-/// Armed or Live it stays, and a PathErr without Path_State_Removed goes back. Another Path, and a
-/// message of another kind, do nothing.
+/// Path goes on; at the egress it is Live and a Resv goes back; where a label that it takes or sends
+/// is in use by another backup it stays, and a PathErr without Path_State_Removed goes back. Another
+/// Path, and a message of another kind, do nothing.
 pub fn activate_change(
     alloc: Global,
     tables: &NodeTables,
@@ -141,8 +136,7 @@ pub fn activate_change(
     from: NodeId,
     msg: &Msg,
 ) -> Result<Change, OutOfMemory>
-    requires legs { OwnLegsFit tables.now }
-    requires claims { ClaimsFit tables.now.legs owner.now }
+    requires { ClaimsFit tables.now.legs owner.now }
     ensures { IfOk result (λ c. c ≡ activate_answer tables.now from msg.now) }
 {
     match msg {

@@ -70,11 +70,9 @@ module _ (before t : LegTable) (c : CallTable) (u : NodeId) (l : Lsp) (e : NodeI
   -- a leg here changes to this one, and its call follows by this answer
   pub record Becomes (m : Msg) (g h : Leg) (a : Answer) : Type 0 where
     pub found : find_leg l before.legs ≡ Some g
-    pub first : previous g ≡ None
     pub is : t ≡ record before { legs = with_leg h before.legs }
     pub lsp : h.lsp ≡ g.lsp
     pub role : h.role ≡ g.role
-    pub in_fibre : h.in_fibre ≡ g.in_fibre
     pub unarmed : is_armed h.phase ≡ false
     pub whole : on_message p s u m ≡ followed_by (puts h []) a
 
@@ -89,7 +87,7 @@ module _ (before t : LegTable) (c : CallTable) (u : NodeId) (l : Lsp) (e : NodeI
           (call_answered p s (connected g None x) (call_with g.lsp c.calls)) → TakesResv
       confirms : (g : Leg) → is_confirmed a x g ≡ true →
           Becomes (Resv l e k x) g (with_phase Live g)
-          (call_turned (with_phase Live g) (call_with g.lsp c.calls)) → TakesResv
+          (call_turned s (with_phase Live g) (call_with g.lsp c.calls)) → TakesResv
 
     resv-connects : (n : NodeState) (g : Leg) → previous g ≡ None → is_expected a x g ≡ true →
         resv_with p n a x (Some g) ≡ connected_here p n x g
@@ -122,11 +120,9 @@ module _ (before t : LegTable) (c : CallTable) (u : NodeId) (l : Lsp) (e : NodeI
             by_kind : (b : Bool) → is_expected a x g ≡ b → TakesResv
             by_kind true expected = connects g (record {
               found = found;
-              first = first;
               is = is _ (resv-connects (legs_state before) g first expected);
               lsp = refl;
               role = refl;
-              in_fibre = refl;
               unarmed = reserved-unarmed g.role;
               whole = ap (resv_with p s a x) found ∙ resv-connects s g first expected;
             })
@@ -135,11 +131,9 @@ module _ (before t : LegTable) (c : CallTable) (u : NodeId) (l : Lsp) (e : NodeI
                 ap (λ b. b || is_confirmed a x g) (sym other) ∙ both_right (begins_at (previous g)) _ applies in
                 confirms g armed (record {
                   found = found;
-                  first = first;
                   is = is _ (resv-confirms (legs_state before) g first other armed);
                   lsp = refl;
                   role = refl;
-                  in_fibre = refl;
                   unarmed = refl;
                   whole = ap (resv_with p s a x) found ∙ resv-confirms s g first other armed;
                 })
@@ -157,7 +151,7 @@ module _ (before t : LegTable) (c : CallTable) (u : NodeId) (l : Lsp) (e : NodeI
     pub leg : Leg
     pub armed : is_armed leg.phase ≡ true
     pub becomes : Becomes (PathErr l e at false code) leg (with_phase Held leg)
-        (call_contended (with_phase Held leg) (call_with leg.lsp c.calls))
+        (call_contended s (with_phase Held leg) (call_with leg.lsp c.calls))
 
   module _ (at : NodeId) (code : ErrCode) where
     abbrev f : Bool → PathFailure
@@ -217,12 +211,10 @@ module _ (before t : LegTable) (c : CallTable) (u : NodeId) (l : Lsp) (e : NodeI
           armed = both_right (is_node (following g) u) _ (both_right (begins_at (previous g)) _ applies);
           becomes = record {
             found = found;
-            first = begins-is (previous g) (both_left (begins_at (previous g)) _ applies);
             is = after ∙ ap (λ o. legs_after before (path_err_with (legs_state before) u (f false) o)) found
                 ∙ ap (legs_after before) (err-busy (legs_state before) g applies);
             lsp = refl;
             role = refl;
-            in_fibre = refl;
             unarmed = refl;
             whole = ap (path_err_with s u (f false)) found ∙ err-busy s g applies;
           };

@@ -1,8 +1,11 @@
 -- What becomes of a call is the same with the legs before a message and with those after what it did to the leg.
-use Rattle.std.proofs.Common.{◌≡◌, cond, nat_lt, nat_le, List, drop, length, refl, sym, ap}
+use Rattle.std.proofs.Common.{◌≡◌, Bool, true, false, cond, nat_lt, nat_le, List, drop, length, refl, sym, ap, ◌∙◌}
 use Rattle.std.specs.Prelude.{Option, Some, None, is_some}
 use Rattle.ason_base.specs.Risks.{unknown_link}
-use Rattle.ason_base.specs.declared.calls.Cause.TheVariants.{Full, NoBackup, Spent}
+use Rattle.ason_base.specs.Codes.{busy_code}
+use Rattle.ason_base.specs.declared.calls.CallState.{CallState}
+use Rattle.ason_base.specs.declared.calls.CallState.TheVariants.{Asking, Bare, Blocked, Guarded, Pairing, Stuck, Turned, Turning}
+use Rattle.ason_base.specs.declared.calls.Cause.TheVariants.{Code, Full, NoBackup, Spent}
 use Rattle.ason_base.specs.declared.codes.ErrCode.{ErrCode}
 use Rattle.ason_base.specs.declared.ids.Lsp.{Lsp}
 use Rattle.ason_base.specs.declared.network.LinkSpec.{LinkSpec}
@@ -10,16 +13,16 @@ use Rattle.ason_base.specs.declared.steps.Step.{Step}
 use Rattle.ason_base.specs.declared.tables.CallRec.{CallRec}
 use Rattle.ason_base.specs.declared.tables.Leg.{Leg}
 use Rattle.mesh_rules.specs.declared.limits.TheConstants.{LAST_NUMBER, MOST_LEGS}
-use Rattle.mesh_rules.specs.CallSteps.{backup_reserved, call_answered, call_refused}
-use Rattle.mesh_rules.specs.Calls.{bare, call_with, is_asking, names}
-use Rattle.mesh_rules.specs.Changes.{nothing}
+use Rattle.mesh_rules.specs.CallSteps.{backup_reserved, call_answered, call_contended, call_refused, call_turned}
+use Rattle.mesh_rules.specs.Calls.{bare, call_with, guarded, is_asking, is_pairing, is_turning, names, stuck, turned}
+use Rattle.mesh_rules.specs.Changes.{Answer, nothing}
 use Rattle.mesh_rules.specs.FirstLegs.{first_link, is_full}
 use Rattle.mesh_rules.specs.KnownRows.{known_rows}
-use Rattle.mesh_rules.specs.Legs.{find_leg, is_work}
+use Rattle.mesh_rules.specs.Legs.{find_leg, is_contended, is_held, is_work}
 use Rattle.mesh_rules.specs.LocalNodes.{LocalNode}
 use Rattle.mesh_rules.specs.Pairs.{backup_route, begins_backup, leaves_bare, over_backup, pair, pair_over, route_from}
 use Rattle.mesh_rules.specs.State.{NodeState}
-use Rattle.mesh_rules.specs.Turns.{call_put}
+use Rattle.mesh_rules.specs.Turns.{arms, call_put, decide, decided, has_any}
 use Rattle.mesh_nodes.proofs.CallList.{called-names}
 use Rattle.mesh_nodes.proofs.Links.{found-one}
 use Rattle.call_control.specs.Handlers.{refused_by_name}
@@ -27,10 +30,44 @@ use Rattle.call_control.specs.Ingress.{AllNameByRole, NamesByRole}
 use Rattle.call_control.specs.Rules.{refused_as}
 use Rattle.call_control.proofs.Roles.{role-is}
 
+-- A decision
+
+-- among legs of which those that are marked use the backup's labels alike
+module _ (s : NodeState) (legs : List Leg) (b : Leg) (alike : is_contended legs b ≡ is_contended s.legs b) where
+  decided-same : (c : CallRec) (q : CallState) (works backs : Bool) →
+      decided legs c (Some b) q works backs ≡ decided s.legs c (Some b) q works backs
+  decided-same c Guarded true false =
+      ap (λ x. cond (is_held b.phase) (cond x (call_put (stuck c (Code busy_code))) (arms c b)) (call_put c)) alike
+  decided-same c Guarded true true = refl
+  decided-same c Guarded false backs = refl
+  decided-same c Asking works backs = refl
+  decided-same c Bare works backs = refl
+  decided-same c Pairing works backs = refl
+  decided-same c Turning works backs = refl
+  decided-same c Turned true backs = refl
+  decided-same c Turned false true = refl
+  decided-same c Turned false false = refl
+  decided-same c Stuck true backs = refl
+  decided-same c Stuck false backs = refl
+  decided-same c Blocked works backs = refl
+
+  decide-same : (c : CallRec) → decide legs c (Some b) ≡ decide s.legs c (Some b)
+  decide-same c = decided-same c c.state (has_any c.work_reports) (has_any c.back_reports)
+
+  pub turned-same : (o : Option CallRec) → call_turned (record s { legs = legs }) b o ≡ call_turned s b o
+  turned-same None = refl
+  turned-same (Some c) = ap (λ (a : Answer). cond (is_turning c.state) a nothing) (decide-same (turned c))
+
+  pub contended-same : (o : Option CallRec) → call_contended (record s { legs = legs }) b o ≡ call_contended s b o
+  contended-same None = refl
+  contended-same (Some c) =
+      ap (λ (a : Answer). cond (is_turning c.state) a nothing) (decide-same (stuck c (Code busy_code)))
+
 -- The call of a leg that got its labels
 
 -- as many legs stand
-module _ (p : LocalNode) (s : NodeState) (legs : List Leg) (many : length legs ≡ length s.legs) (g : Leg) where
+module _ (p : LocalNode) (s : NodeState) (legs : List Leg) (many : length legs ≡ length s.legs) (g : Leg)
+    (alike : is_contended legs g ≡ is_contended s.legs g) where
   abbrev later : NodeState
   later = record s { legs = legs }
 
@@ -58,7 +95,10 @@ module _ (p : LocalNode) (s : NodeState) (legs : List Leg) (many : length legs �
   answered-same None = refl
   answered-same (Some c) =
       ap (λ a. cond (is_work g.role) (cond (is_asking c.state) (cond c.protected a (call_put (bare c))) nothing)
-      (backup_reserved g c)) (pair-same c)
+      (backup_reserved later g c)) (pair-same c)
+      ∙ ap (λ (a : Answer). cond (is_work g.role) (cond (is_asking c.state)
+      (cond c.protected (pair p s c g) (call_put (bare c))) nothing) (cond (is_pairing c.state) a nothing))
+      (decide-same s legs g alike (guarded c))
 
 -- A leg that has gone
 

@@ -33,28 +33,28 @@ use Rattle.mesh_nodes.proofs.Links.{found-one}
 use Rattle.call_control.specs.Handlers.{named_role, refused_by_name}
 use Rattle.call_control.specs.Ingress.{AllNameByRole, IsArmedAsBackup, IsNamedAs, NamesByRole, role_at}
 use Rattle.call_control.proofs.Decisions.{HasLspsOf, decide-has, phase_put, turn-has}
-use Rattle.call_control.proofs.Roles.{BeginAlone, calls-stay, changed-stay, lone-taken, lsp-stays, named-as}
-use Rattle.call_control.proofs.Named.{Begins, Stays, armed-with, bare-stays, leg_of-begins, none, nothing-stays, pair-stays, put-stays}
+use Rattle.call_control.proofs.Roles.{calls-stay, changed-stay, lsp-stays, named-as}
+use Rattle.call_control.proofs.Named.{Begins, Stays, armed-with, bare-stays, leg_of-begins, nothing-stays, pair-stays, put-stays}
 
-module _ (p : LocalNode) (s : NodeState) (all : AllNameByRole p s) (alone : BeginAlone p s.legs)
+module _ (p : LocalNode) (s : NodeState) (all : AllNameByRole p s)
     (armed : AllByRecursion (IsArmedAsBackup p.id.0) s.legs) where
   abbrev Names : CallRec → Type 0
   Names c = NamesByRole p.id.0 s.lsp s.legs c
 
   unchanged : Stays p s nothing
-  unchanged = nothing-stays p s all alone armed
+  unchanged = nothing-stays p s all armed
 
   put : (c : CallRec) → Names c → Stays p s (call_put c)
-  put = put-stays p s all alone armed
+  put = put-stays p s all armed
 
   its-leg : (r : Role) (o : Option Lsp) → IfSome o (IsNamedAs p.id.0 s.lsp s.legs r) →
       IfSome (leg_of o s.legs) (Begins p s.legs r)
-  its-leg = leg_of-begins p s all alone armed
+  its-leg = leg_of-begins p s all armed
 
   -- Decisions
 
   -- a call that names the LSPs of one that names them by their roles
-  pub names-like : (c d : CallRec) → HasLspsOf c d → Names c → Names d
+  names-like : (c d : CallRec) → HasLspsOf c d → Names c → Names d
   names-like c d same here = record {
     work = subst (λ o. IfSome o (IsNamedAs p.id.0 s.lsp s.legs Work)) (sym same.work) here.work;
     back = subst (λ o. IfSome o (IsNamedAs p.id.0 s.lsp s.legs Back)) (sym same.back) here.back;
@@ -72,9 +72,7 @@ module _ (p : LocalNode) (s : NodeState) (all : AllNameByRole p s) (alone : Begi
               back = lsp-stays p.id.0 s.lsp s.lsp _ s.legs (with_leg g s.legs) c.back (omega arith) stay here.back;
             })
             (calls-stay p.id.0 s.lsp s.lsp s.legs (with_leg g s.legs) s.calls (omega arith) stay all);
-        armed = armed-with p s all alone armed g (λ begun e. begins.role);
-        labels = ((none p s all alone armed b.lsp begins.begun, lone-taken g begins.alone), tt);
-        no_down = refl;
+        armed = armed-with p s all armed g (λ begun e. begins.role);
       }
 
   module _ (c : CallRec) (o : Option Leg) (here : Names c) (begins : IfSome o (Begins p s.legs Back)) where
@@ -87,11 +85,11 @@ module _ (p : LocalNode) (s : NodeState) (all : AllNameByRole p s) (alone : Begi
         phase-stays q d b outs (names-like c d same here)
         (subst (λ o. IfSome o (Begins p s.legs Back)) is begins)
 
-    turn-stays : Stays p s (turn c o)
-    turn-stays = turn-has (Stays p s) c o like-stays moved-stays
+    turn-stays : Stays p s (turn s.legs c o)
+    turn-stays = turn-has (Stays p s) s.legs c o like-stays moved-stays
 
-    decide-stays : Stays p s (decide c o)
-    decide-stays = decide-has (Stays p s) c o like-stays moved-stays
+    decide-stays : Stays p s (decide s.legs c o)
+    decide-stays = decide-has (Stays p s) s.legs c o like-stays moved-stays
 
   pub retry-stays : (n : CallNo) (from : NodeId) (o : Option CallRec) → find_call n s.calls ≡ o →
       Stays p s (retry_with p s from o)
@@ -120,8 +118,7 @@ module _ (p : LocalNode) (s : NodeState) (all : AllNameByRole p s) (alone : Begi
 
     backs : (c : CallRec) → call_with g.lsp s.calls ≡ Some c → g.role ≡ Back → Begins p s.legs Back g
     backs c is role =
-        let begun = begun-at c is in
-        record { there = ap role_at found; begun = begun; alone = alone g.lsp g found begun; role = role }
+        record { there = ap role_at found; begun = begun-at c is; role = role }
 
     pub answered-stays : (o : Option CallRec) → call_with g.lsp s.calls ≡ o → Stays p s (call_answered p s g o)
     answered-stays None is = unchanged
@@ -129,7 +126,7 @@ module _ (p : LocalNode) (s : NodeState) (all : AllNameByRole p s) (alone : Begi
         let here = called g.lsp c is in
         if_cases (Stays p s) (is_work g.role) _ _
         (λ e. if_cases (Stays p s) (is_asking c.state) _ _
-        (λ e. if_cases (Stays p s) c.protected _ _ (λ e. pair-stays p s all alone armed c here g (begun-at c is))
+        (λ e. if_cases (Stays p s) c.protected _ _ (λ e. pair-stays p s all armed c here g (begun-at c is))
         (λ e. put (bare c) (record { work = here.work; back = here.back })))
         (λ e. unchanged))
         (λ work. if_cases (Stays p s) (is_pairing c.state) _ _
@@ -138,7 +135,7 @@ module _ (p : LocalNode) (s : NodeState) (all : AllNameByRole p s) (alone : Begi
         (λ e. unchanged))
 
     pub turned-stays : g.role ≡ Back → (o : Option CallRec) → call_with g.lsp s.calls ≡ o →
-        Stays p s (call_turned g o)
+        Stays p s (call_turned s g o)
     turned-stays role None is = unchanged
     turned-stays role (Some c) is =
         let here = called g.lsp c is in
@@ -147,7 +144,7 @@ module _ (p : LocalNode) (s : NodeState) (all : AllNameByRole p s) (alone : Begi
         (λ e. unchanged)
 
     pub contended-stays : g.role ≡ Back → (o : Option CallRec) → call_with g.lsp s.calls ≡ o →
-        Stays p s (call_contended g o)
+        Stays p s (call_contended s g o)
     contended-stays role None is = unchanged
     contended-stays role (Some c) is =
         let here = called g.lsp c is in
@@ -181,5 +178,5 @@ module _ (p : LocalNode) (s : NodeState) (all : AllNameByRole p s) (alone : Begi
       if_cases (Stays p s) (is_work (named_role c l)) _ _
       (λ e. if_cases (Stays p s) (is_asking c.state) _ _
       (λ e. put (blocked c (Code code)) (record { work = tt; back = here.back })) (λ e. unchanged))
-      (λ e. if_cases (Stays p s) (is_pairing c.state) _ _ (λ e. bare-stays p s all alone armed c here (Code code))
+      (λ e. if_cases (Stays p s) (is_pairing c.state) _ _ (λ e. bare-stays p s all armed c here (Code code))
       (λ e. unchanged))

@@ -13,6 +13,7 @@ use Rattle.ason_base.specs.declared.messages.Msg.TheVariants.{Path, Resv, PathTe
 use Rattle.ason_base.specs.declared.tables.CallRec.{CallRec}
 use Rattle.ason_base.specs.declared.tables.Leg.{Leg}
 use Rattle.ason_base.specs.declared.tables.Out.{Out}
+use Rattle.mesh_rules.specs.declared.changes.LegChange.TheVariants as leg
 use Rattle.mesh_rules.specs.ActivationAnswers.{is_confirmed}
 use Rattle.mesh_rules.specs.CallSteps.{call_answered, call_contended, call_turned}
 use Rattle.mesh_rules.specs.Calls.{call_with}
@@ -25,22 +26,23 @@ use Rattle.mesh_rules.specs.Reports.{fibre_into, reported}
 use Rattle.mesh_rules.specs.State.{NodeState}
 use Rattle.mesh_nodes.specs.Kept.{NodeFits}
 use Rattle.mesh_nodes.proofs.Cases.{both_left}
-use Rattle.mesh_nodes.proofs.LearnsNothing.{message-learns_nothing}
 use Rattle.mesh_nodes.proofs.LegList.{all-filter}
 use Rattle.mesh_nodes.proofs.Messages.{messages-fit}
 use Rattle.leg_table.specs.States.{local_of, state_of}
 use Rattle.leg_table.specs.Tables.{CallTable, LegTable}
+use Rattle.leg_labels.proofs.CallLegs.{Fine}
+use Rattle.leg_labels.proofs.RuleChanges.{message-may}
 use Rattle.call_control.specs.Handlers.{AreSentFor, IsKeptAfter, WereBefore, answer_here, busy_here, gone_here, resv_here, whole_answer}
 use Rattle.call_control.specs.Ingress.{IngressFits, IsArmedAsBackup}
 use Rattle.call_control.specs.Rules.{answered_here, refused_for, refused_here, told_here, turned_here}
 use Rattle.call_control.proofs.AfterLeg.{Becomes, Contends, Refuses, TakesResv, Tells, contends, refuses, removes-then, reserved-inactive, resv-taken, tells}
-use Rattle.call_control.proofs.CallAfterLeg.{answered-same, refused-same}
+use Rattle.call_control.proofs.CallAfterLeg.{answered-same, contended-same, refused-same, turned-same}
 use Rattle.call_control.proofs.Kept.{Keeps, nothing-keeps}
 use Rattle.call_control.proofs.AfterLeg.TakesResv.{confirms, connects}
 use Rattle.call_control.proofs.Decides.{answered-stays, contended-stays, refused-stays, reported-stays, turned-stays}
 use Rattle.call_control.proofs.Named.{Stays, nothing-stays}
-use Rattle.call_control.proofs.Roles.{alone-without, calls-stay, fits-alone, gone-stay}
-use Rattle.call_control.proofs.LegFollowed.{Follows, alone-after, armed-after, armed-role, as-many, h-found, h-here, leg-follows, names-after}
+use Rattle.call_control.proofs.Roles.{calls-stay, gone-stay}
+use Rattle.call_control.proofs.LegFollowed.{Follows, armed-after, armed-role, as-many, contended-alike, h-found, h-here, leg-follows, names-after, rest-fine}
 
 module _ (before : LegTable) (c : CallTable) (u : NodeId) (fits : IngressFits before c) where
   abbrev p : LocalNode
@@ -62,23 +64,29 @@ module _ (before : LegTable) (c : CallTable) (u : NodeId) (fits : IngressFits be
         let after : LegTable = record before { legs = with_leg h before.legs } in
         leg-follows before c u fits l e m t g h _ became refl
         (ap (resv_here after c) (h-here before c u fits l e m t g h _ became)
-        ∙ ap (λ b. cond b (turned_here c h) (answered_here after c h)) (reserved-inactive g.role)
-        ∙ answered-same p s after.legs (as-many before c u fits l e m t g h _ became) h (call_with g.lsp c.calls))
-        (subst (Stays p (state_of after c))
-        (answered-same p s after.legs (as-many before c u fits l e m t g h _ became) h (call_with g.lsp c.calls))
+        ∙ ap (λ b. cond b (turned_here after c h) (answered_here after c h)) (reserved-inactive g.role) ∙ same h became)
+        (subst (Stays p (state_of after c)) (same h became)
         (answered-stays p (state_of after c) (names-after before c u fits l e m t g h _ became)
-        (alone-after before c u fits l e m t g h _ became)
         (armed-after before c u fits l e m t g h _ became) h
         (h-found before c u fits l e m t g h _ became) (call_with g.lsp c.calls) refl))
+      where
+        -- the call is answered as it is with the legs before
+        same : (h : Leg) (became : Becomes before t c u l e m g h (call_answered p s h (call_with g.lsp c.calls))) →
+            call_answered p (state_of (record before { legs = with_leg h before.legs }) c) h (call_with g.lsp c.calls)
+            ≡ call_answered p s h (call_with g.lsp c.calls)
+        same h became =
+            answered-same p s (with_leg h before.legs) (as-many before c u fits l e m t g h _ became) h
+            (contended-alike before c u fits l e m t g h _ became) (call_with g.lsp c.calls)
 
     confirmed-follows : (g : Leg) → is_confirmed (arrival l e u k) x g ≡ true →
         Becomes before t c u l e m g (with_phase Live g)
-        (call_turned (with_phase Live g) (call_with g.lsp c.calls)) →
+        (call_turned s (with_phase Live g) (call_with g.lsp c.calls)) →
         Follows before (record before { legs = with_leg (with_phase Live g) before.legs }) c u m
     confirmed-follows g confirmed became =
         leg-follows before c u fits l e m t g h _ became refl
-        (ap (resv_here after c) (h-here before c u fits l e m t g h _ became) ∙ part (call_with g.lsp c.calls) refl)
-        (stays (call_with g.lsp c.calls) refl)
+        (ap (resv_here after c) (h-here before c u fits l e m t g h _ became) ∙ part (call_with g.lsp c.calls) refl
+        ∙ same)
+        (subst (Stays p (state_of after c)) same (stays (call_with g.lsp c.calls) refl))
       where
         armed : is_armed g.phase ≡ true
         armed = both_left (is_armed g.phase) _ confirmed
@@ -89,28 +97,33 @@ module _ (before : LegTable) (c : CallTable) (u : NodeId) (fits : IngressFits be
         after : LegTable
         after = record before { legs = with_leg h before.legs }
 
-        same : (b : Bool) → cond b nothing nothing ≡ nothing
-        same true = refl
-        same false = refl
+        neither : (b : Bool) → cond b nothing nothing ≡ nothing
+        neither true = refl
+        neither false = refl
 
         -- a leg that no call names has no call's rule
         part : (o : Option CallRec) → call_with g.lsp c.calls ≡ o →
-            cond (not (is_work g.role) && true) (call_turned h o) (call_answered p (state_of after c) h o)
-            ≡ call_turned h o
-        part None none = same (not (is_work g.role) && true)
+            cond (not (is_work g.role) && true) (call_turned (state_of after c) h o)
+            (call_answered p (state_of after c) h o) ≡ call_turned (state_of after c) h o
+        part None none = neither (not (is_work g.role) && true)
         part (Some d) named =
-            ap (λ r. cond (not (is_work r) && true) (call_turned h (Some d))
+            ap (λ r. cond (not (is_work r) && true) (call_turned (state_of after c) h (Some d))
             (call_answered p (state_of after c) h (Some d)))
             (armed-role before c u fits l e m t g h _ became d named armed)
 
-        stays : (o : Option CallRec) → call_with g.lsp c.calls ≡ o → Stays p (state_of after c) (call_turned h o)
+        -- the call turns as it does with the legs before
+        same : call_turned (state_of after c) h (call_with g.lsp c.calls) ≡ call_turned s h (call_with g.lsp c.calls)
+        same =
+            turned-same s (with_leg h before.legs) h (contended-alike before c u fits l e m t g h _ became)
+            (call_with g.lsp c.calls)
+
+        stays : (o : Option CallRec) → call_with g.lsp c.calls ≡ o →
+            Stays p (state_of after c) (call_turned (state_of after c) h o)
         stays None none =
             nothing-stays p (state_of after c) (names-after before c u fits l e m t g h _ became)
-            (alone-after before c u fits l e m t g h _ became)
             (armed-after before c u fits l e m t g h _ became)
         stays (Some d) named =
             turned-stays p (state_of after c) (names-after before c u fits l e m t g h _ became)
-            (alone-after before c u fits l e m t g h _ became)
             (armed-after before c u fits l e m t g h _ became) h (h-found before c u fits l e m t g h _ became)
             (armed-role before c u fits l e m t g h _ became d named armed) (Some d) named
 
@@ -125,7 +138,8 @@ module _ (before : LegTable) (c : CallTable) (u : NodeId) (fits : IngressFits be
     busy-follows took =
         subst (λ b. Follows before b c u (PathErr l e at false code)) (sym took.becomes.is)
         (leg-follows before c u fits l e m t g h _ took.becomes refl
-        (ap (busy_here c) (h-here before c u fits l e m t g h _ took.becomes)) (stays (call_with g.lsp c.calls) refl))
+        (ap (busy_here after c) (h-here before c u fits l e m t g h _ took.becomes) ∙ same)
+        (subst (Stays p (state_of after c)) same (stays (call_with g.lsp c.calls) refl)))
       where
         m : Msg
         m = PathErr l e at false code
@@ -139,14 +153,20 @@ module _ (before : LegTable) (c : CallTable) (u : NodeId) (fits : IngressFits be
         after : LegTable
         after = record before { legs = with_leg h before.legs }
 
-        stays : (o : Option CallRec) → call_with g.lsp c.calls ≡ o → Stays p (state_of after c) (call_contended h o)
+        -- the call is decided of as it is with the legs before
+        same : call_contended (state_of after c) h (call_with g.lsp c.calls)
+            ≡ call_contended s h (call_with g.lsp c.calls)
+        same =
+            contended-same s (with_leg h before.legs) h (contended-alike before c u fits l e m t g h _ took.becomes)
+            (call_with g.lsp c.calls)
+
+        stays : (o : Option CallRec) → call_with g.lsp c.calls ≡ o →
+            Stays p (state_of after c) (call_contended (state_of after c) h o)
         stays None none =
             nothing-stays p (state_of after c) (names-after before c u fits l e m t g h _ took.becomes)
-            (alone-after before c u fits l e m t g h _ took.becomes)
             (armed-after before c u fits l e m t g h _ took.becomes)
         stays (Some d) named =
             contended-stays p (state_of after c) (names-after before c u fits l e m t g h _ took.becomes)
-            (alone-after before c u fits l e m t g h _ took.becomes)
             (armed-after before c u fits l e m t g h _ took.becomes) h
             (h-found before c u fits l e m t g h _ took.becomes)
             (armed-role before c u fits l e m t g h _ took.becomes d named took.armed) (Some d)
@@ -179,10 +199,10 @@ module _ (before : LegTable) (c : CallTable) (u : NodeId) (fits : IngressFits be
         stays = refused-stays p (state_of left c)
             (calls-stay p.id.0 c.lsp c.lsp before.legs left.legs c.calls (omega arith) (gone-stay c.lsp l before.legs)
             fits.names)
-            (alone-without p l before.legs (fits-alone p s fits.kept))
             (all-filter (IsArmedAsBackup p.id.0) (λ g. not (same_lsp g.lsp l)) before.legs fits.armed) code l
             (call_with l c.calls) refl;
-        no_row = sym (ap (λ a. a.rows) err-whole) ∙ message-learns_nothing p s u (PathErr l e at true code);
+        fine = rest-fine p before.legs (leg.Goes l) [] (gone_here c l code) (subst (Fine p before.legs) err-whole
+            (message-may p s c.lsp u (PathErr l e at true code) fits.links fits.kept.legs.each fits.kept.calls.each));
       };
     }
 
@@ -204,9 +224,10 @@ module _ (before : LegTable) (c : CallTable) (u : NodeId) (fits : IngressFits be
         kept = subst (λ a. NodeFits p (changed s a)) (sym told-part)
             (messages-fit p s u (Notify l e at k code) fits.links fits.kept).kept;
         stays = subst (Stays p s) (sym (told-part ∙ took.whole))
-            (reported-stays p s fits.names (fits-alone p s fits.kept) fits.armed took.leg took.down
+            (reported-stays p s fits.names fits.armed took.leg took.down
             (fibre_into (route_from p took.leg) took.leg.egress at k));
-        no_row = ap (λ a. a.rows) told-part ∙ message-learns_nothing p s u (Notify l e at k code);
+        fine = subst (Fine p before.legs) (sym told-part)
+            (message-may p s c.lsp u (Notify l e at k code) fits.links fits.kept.legs.each fits.kept.calls.each);
       };
     }
 

@@ -1,36 +1,37 @@
 -- An ingress fits after what becomes of its calls.
-use Rattle.std.proofs.Common.{◌≡◌, ◌≤◌, List, [], length, refl, sym, subst, Result, Ok, Err}
-use Rattle.std.specs.Prelude.{OnErr, OnOk, IfOk, map, drop, ◌++◌}
+use Rattle.std.proofs.Common.{◌≡◌, ◌≤◌, length, refl, sym, subst, Result, Ok, Err}
+use Rattle.std.specs.Prelude.{OnErr, OnOk, IfOk}
 use Rattle.std.specs.List.{AllByRecursion}
-use Rattle.ason_base.specs.Network.{row_of}
 use Rattle.ason_base.specs.declared.commands.Command.{Command}
 use Rattle.ason_base.specs.declared.commands.Command.TheVariants.{Setup, Release, Protect, Retry, Revert, Fail, Repair}
+use Rattle.ason_base.specs.declared.commands.DeskItem.{DeskItem}
 use Rattle.ason_base.specs.declared.commands.DeskItem.TheVariants.{Order}
-use Rattle.ason_base.specs.declared.network.TeRow.{TeRow}
 use Rattle.mesh_rules.specs.Calls.{find_call}
 use Rattle.mesh_rules.specs.Changes.{Answer, changed, nothing}
 use Rattle.mesh_rules.specs.Legs.{legs_changed}
 use Rattle.mesh_rules.specs.LocalNodes.{LocalNode}
+use Rattle.mesh_rules.specs.Orders.{on_item}
 use Rattle.mesh_rules.specs.State.{NodeState}
 use Rattle.mesh_nodes.specs.Kept.{NodeFits}
 use Rattle.mesh_nodes.specs.LocalNodes.{LocalNodeFits}
 use Rattle.mesh_nodes.proofs.Items.{items-fit}
-use Rattle.mesh_nodes.proofs.LearnsNothing.{item-learns_nothing}
 use Rattle.leg_table.specs.States.{local_of, state_of}
 use Rattle.leg_table.specs.Tables.{CallTable, LegTable}
+use Rattle.leg_labels.proofs.CallLegs.{Fine}
+use Rattle.leg_labels.proofs.RuleChanges.{item-may}
 use Rattle.call_control.specs.Handlers.{command_answer, setup_answer}
 use Rattle.call_control.specs.Ingress.{AllNameByRole, IngressFits, IsArmedAsBackup}
 use Rattle.call_control.specs.Searches.{RowsAreKnown}
 use Rattle.call_control.proofs.Decides.{retry-stays}
 use Rattle.call_control.proofs.Named.{Stays, nothing-stays, protect-stays, release-stays, setup-stays}
-use Rattle.call_control.proofs.Roles.{fits-alone}
 
 -- What an answer keeps
 
+-- it changes the legs so that it may be carried out
 pub record Keeps (t : LegTable) (c : CallTable) (a : Answer) : Type 0 where
   pub kept : NodeFits (local_of t) (changed (state_of t c) a)
   pub stays : Stays (local_of t) (state_of t c) a
-  pub no_row : a.rows ≡ []
+  pub fine : Fine (local_of t) t.legs a
 
 pub keeps-few : (t : LegTable) (c : CallTable) (a : Answer) → Keeps t c a → length (legs_changed a.legs t.legs) ≤ 4096
 keeps-few t c a keeps = keeps.kept.legs.few
@@ -38,23 +39,16 @@ keeps-few t c a keeps = keeps.kept.legs.few
 pub nothing-keeps : (t : LegTable) (c : CallTable) → IngressFits t c → Keeps t c nothing
 nothing-keeps t c fits = record {
   kept = fits.kept;
-  stays = nothing-stays (local_of t) (state_of t c) fits.names (fits-alone (local_of t) (state_of t c) fits.kept)
-      fits.armed;
-  no_row = refl;
+  stays = nothing-stays (local_of t) (state_of t c) fits.names fits.armed;
+  fine = (tt, tt);
 }
 
 -- Carried out
 
-rows-known : (p q : LocalNode) (xs ys : List TeRow) → q ≡ p → ys ≡ xs →
-    xs ≡ map row_of p.own ++ drop (length p.own) xs → ys ≡ map row_of q.own ++ drop (length q.own) ys
-rows-known p q xs ys local same known =
-    subst (λ (r : LocalNode). ys ≡ map row_of r.own ++ drop (length r.own) ys) (sym local)
-    (subst (λ zs. zs ≡ map row_of p.own ++ drop (length p.own) zs) (sym same) known)
-
 pub carried-fits : (t after : LegTable) (c calls : CallTable) (a : Answer) → LocalNodeFits (local_of t) →
-    RowsAreKnown t → Keeps t c a → local_of after ≡ local_of t → after.rows ≡ t.rows →
+    Keeps t c a → local_of after ≡ local_of t → RowsAreKnown after →
     state_of after calls ≡ changed (state_of t c) a → IngressFits after calls
-carried-fits t after c calls a links known keeps local rows state = record {
+carried-fits t after c calls a links keeps local known state = record {
   links = subst LocalNodeFits (sym local) links;
   kept = subst (λ p. NodeFits p (state_of after calls)) (sym local)
       (subst (NodeFits (local_of t)) (sym state) keeps.kept);
@@ -62,17 +56,17 @@ carried-fits t after c calls a links known keeps local rows state = record {
       (subst (AllNameByRole (local_of t)) (sym state) keeps.stays.names);
   armed = subst (λ (p : LocalNode). AllByRecursion (IsArmedAsBackup p.id.0) after.legs) (sym local)
       (subst (λ (s : NodeState). AllByRecursion (IsArmedAsBackup t.node.id.0) s.legs) (sym state) keeps.stays.armed);
-  rows = rows-known (local_of t) (local_of after) t.rows after.rows local rows known;
+  rows = known;
 }
 
 -- or after want of memory, where nothing has changed
 pub either-fits : {X E : Type 0} (t after : LegTable) (c calls : CallTable) (a : Answer) (r : Result X E) →
-    IngressFits t c → Keeps t c a → local_of after ≡ local_of t → after.rows ≡ t.rows →
+    IngressFits t c → Keeps t c a → local_of after ≡ local_of t → RowsAreKnown after →
     OnOk r (state_of after calls ≡ changed (state_of t c) a) → OnErr r (after ≡ t) → OnErr r (calls ≡ c) →
     IngressFits after calls
-either-fits t after c calls a (Ok x) fits keeps local rows state tables same =
-    carried-fits t after c calls a fits.links fits.rows keeps local rows state
-either-fits t after c calls a (Err e) fits keeps local rows state tables same =
+either-fits t after c calls a (Ok x) fits keeps local known state tables same =
+    carried-fits t after c calls a fits.links keeps local known state
+either-fits t after c calls a (Err e) fits keeps local known state tables same =
     subst (λ s. IngressFits s calls) (sym tables) (subst (IngressFits t) (sym same) fits)
 
 pub on-ok : {X E : Type 0} (P Q : Type 0) (r : Result X E) → (P → Q) → OnOk r P → OnOk r Q
@@ -85,25 +79,26 @@ if-ok P Q (Err e) f here = tt
 
 -- Commands
 
-pub setup-keeps : (t : LegTable) (c : CallTable) (command : Command) → IngressFits t c →
-    Keeps t c (setup_answer t c command)
-setup-keeps t c (Setup n from to protected both via backup) fits =
+-- what an item of the desk does, where it's of a call
+item-keeps : (t : LegTable) (c : CallTable) (item : DeskItem) → IngressFits t c →
+    Stays (local_of t) (state_of t c) (on_item (local_of t) (state_of t c) item) →
+    Keeps t c (on_item (local_of t) (state_of t c) item)
+item-keeps t c item fits stays =
     let p = local_of t in
     let s = state_of t c in
     record {
-      kept = (items-fit p s (Order (Setup n from to protected both via backup)) fits.links fits.kept).kept;
-      stays = setup-stays p s fits.names (fits-alone p s fits.kept) fits.armed
-          (record {
-            call = n;
-            from = from;
-            egress = to;
-            protected = protected;
-            both = both;
-            via = via;
-            backup = backup;
-          }) (find_call n c.calls);
-      no_row = item-learns_nothing p s (Order (Setup n from to protected both via backup));
+      kept = (items-fit p s item fits.links fits.kept).kept;
+      stays = stays;
+      fine = item-may p s c.lsp item fits.links fits.kept.legs.each fits.kept.calls.each;
     }
+
+pub setup-keeps : (t : LegTable) (c : CallTable) (command : Command) → IngressFits t c →
+    Keeps t c (setup_answer t c command)
+setup-keeps t c (Setup n from to protected both via backup) fits =
+    item-keeps t c (Order (Setup n from to protected both via backup)) fits
+    (setup-stays (local_of t) (state_of t c) fits.names fits.armed
+    (record { call = n; from = from; egress = to; protected = protected; both = both; via = via; backup = backup })
+    (find_call n c.calls))
 setup-keeps t c (Release n from) fits = nothing-keeps t c fits
 setup-keeps t c (Protect n from) fits = nothing-keeps t c fits
 setup-keeps t c (Retry n from) fits = nothing-keeps t c fits
@@ -114,24 +109,15 @@ setup-keeps t c (Repair g) fits = nothing-keeps t c fits
 pub command-keeps : (t : LegTable) (c : CallTable) (command : Command) → IngressFits t c →
     Keeps t c (command_answer t c command)
 command-keeps t c (Setup n from to protected both via backup) fits = nothing-keeps t c fits
-command-keeps t c (Release n from) fits = record {
-  kept = (items-fit (local_of t) (state_of t c) (Order (Release n from)) fits.links fits.kept).kept;
-  stays = release-stays (local_of t) (state_of t c) fits.names (fits-alone (local_of t) (state_of t c) fits.kept)
-      fits.armed n from (find_call n c.calls) refl;
-  no_row = item-learns_nothing (local_of t) (state_of t c) (Order (Release n from));
-}
-command-keeps t c (Protect n from) fits = record {
-  kept = (items-fit (local_of t) (state_of t c) (Order (Protect n from)) fits.links fits.kept).kept;
-  stays = protect-stays (local_of t) (state_of t c) fits.names (fits-alone (local_of t) (state_of t c) fits.kept)
-      fits.armed n from (find_call n c.calls) refl;
-  no_row = item-learns_nothing (local_of t) (state_of t c) (Order (Protect n from));
-}
-command-keeps t c (Retry n from) fits = record {
-  kept = (items-fit (local_of t) (state_of t c) (Order (Retry n from)) fits.links fits.kept).kept;
-  stays = retry-stays (local_of t) (state_of t c) fits.names (fits-alone (local_of t) (state_of t c) fits.kept)
-      fits.armed n from (find_call n c.calls) refl;
-  no_row = item-learns_nothing (local_of t) (state_of t c) (Order (Retry n from));
-}
+command-keeps t c (Release n from) fits =
+    item-keeps t c (Order (Release n from)) fits
+    (release-stays (local_of t) (state_of t c) fits.names fits.armed n from (find_call n c.calls) refl)
+command-keeps t c (Protect n from) fits =
+    item-keeps t c (Order (Protect n from)) fits
+    (protect-stays (local_of t) (state_of t c) fits.names fits.armed n from (find_call n c.calls) refl)
+command-keeps t c (Retry n from) fits =
+    item-keeps t c (Order (Retry n from)) fits
+    (retry-stays (local_of t) (state_of t c) fits.names fits.armed n from (find_call n c.calls) refl)
 command-keeps t c (Revert n from) fits = nothing-keeps t c fits
 command-keeps t c (Fail g) fits = nothing-keeps t c fits
 command-keeps t c (Repair g) fits = nothing-keeps t c fits

@@ -1,5 +1,5 @@
 -- A leg at an ingress that a message changes alone, and the tables after it: what is done to its call is done there.
-use Rattle.std.proofs.Common.{◌≡◌, true, cond, length, sym, ap, subst, ◌∙◌, arith}
+use Rattle.std.proofs.Common.{◌≡◌, true, cond, length, List, [], ◌∷◌, sym, ap, subst, ◌∙◌, arith}
 use Rattle.std.specs.Prelude.{Some}
 use Rattle.std.specs.List.{AllByRecursion}
 use Rattle.ason_base.specs.declared.calls.Role.TheVariants.{Back}
@@ -8,29 +8,39 @@ use Rattle.ason_base.specs.declared.ids.NodeId.{NodeId}
 use Rattle.ason_base.specs.declared.messages.Msg.{Msg}
 use Rattle.ason_base.specs.declared.tables.CallRec.{CallRec}
 use Rattle.ason_base.specs.declared.tables.Leg.{Leg}
+use Rattle.ason_base.specs.declared.tables.Out.{Out}
+use Rattle.mesh_rules.specs.declared.changes.LegChange.{LegChange}
+use Rattle.mesh_rules.specs.declared.changes.LegChange.TheVariants as leg
 use Rattle.mesh_rules.specs.Calls.{call_with, names}
-use Rattle.mesh_rules.specs.Changes.{Answer, changed}
-use Rattle.mesh_rules.specs.Legs.{find_leg, is_armed, with_leg}
+use Rattle.mesh_rules.specs.Changes.{Answer, changed, followed_by, nothing}
+use Rattle.mesh_rules.specs.Legs.{find_leg, is_armed, is_contended, leg_changed, with_leg}
 use Rattle.mesh_rules.specs.LocalNodes.{LocalNode}
 use Rattle.mesh_rules.specs.Messages.{on_message}
 use Rattle.mesh_rules.specs.State.{NodeState}
-use Rattle.mesh_nodes.specs.Kept.{LegFits, NodeFits}
+use Rattle.mesh_nodes.specs.Kept.{NodeFits}
 use Rattle.mesh_nodes.specs.LocalNodes.{LocalNodeFits}
 use Rattle.mesh_nodes.proofs.CallList.{called-names}
-use Rattle.mesh_nodes.proofs.Kept.{alone-fibre, length-replaced}
-use Rattle.mesh_nodes.proofs.LearnsNothing.{message-learns_nothing}
+use Rattle.mesh_nodes.proofs.Kept.{length-replaced}
 use Rattle.mesh_nodes.proofs.LegList.{all-with_leg, find-with_leg, found-all, found-lsp, same_lsp-refl}
 use Rattle.mesh_nodes.proofs.Links.{found-one}
 use Rattle.mesh_nodes.proofs.Messages.{messages-fit}
 use Rattle.leg_table.specs.States.{local_of, state_of}
 use Rattle.leg_table.specs.Tables.{CallTable, LegTable}
+use Rattle.leg_labels.proofs.CallLegs.{Fine, calm-fine}
+use Rattle.leg_labels.proofs.OwnContention.{contended-with}
+use Rattle.leg_labels.proofs.RuleChanges.{message-may}
 use Rattle.call_control.specs.Handlers.{answer_here, whole_answer}
 use Rattle.call_control.specs.Ingress.{AllNameByRole, IngressFits, IsArmedAsBackup, NamesByRole, role_at}
 use Rattle.call_control.specs.Searches.{RowsAreKnown}
 use Rattle.call_control.proofs.AfterLeg.{Becomes, puts-then}
 use Rattle.call_control.proofs.Kept.{Keeps}
 use Rattle.call_control.proofs.Named.{Stays}
-use Rattle.call_control.proofs.Roles.{BeginAlone, alone-with, calls-stay, changed-stay, fits-alone, named-as, none-there}
+use Rattle.call_control.proofs.Roles.{calls-stay, changed-stay, named-as}
+
+-- what follows the first change of a leg
+pub rest-fine : (p : LocalNode) (legs : List Leg) (x : LegChange) (outs : List Out) (a : Answer) →
+    Fine p legs (followed_by (record nothing { legs = x ∷ []; sent = outs }) a) → Fine p (leg_changed x legs) a
+rest-fine p legs x outs a fine = calm-fine p (leg_changed x legs) a (fine.0.1, fine.1.1)
 
 -- the whole rule is what was done to the leg and then what is done to the call
 pub record Follows (before t : LegTable) (c : CallTable) (u : NodeId) (m : Msg) : Type 0 where
@@ -78,12 +88,9 @@ module _ (before : LegTable) (c : CallTable) (u : NodeId) (fits : IngressFits be
         calls-stay p.id.0 c.lsp c.lsp before.legs after.legs c.calls (omega arith)
         (changed-stay c.lsp h before.legs (ap role_at there ∙ ap Some (sym became.role))) fits.names
 
-    pub alone-after : BeginAlone p after.legs
-    alone-after =
-        let leg : LegFits p c.lsp g = found-all (LegFits p c.lsp) l before.legs g became.found fits.kept.legs.each in
-        alone-with p h before.legs
-        (became.in_fibre ∙ none-there g.in_fibre (alone-fibre g.prev g.in_fibre leg.in_fibre became.first))
-        (fits-alone p s fits.kept)
+    -- the marked legs of other LSPs are those that were
+    pub contended-alike : is_contended after.legs h ≡ is_contended before.legs h
+    contended-alike = contended-with h h before.legs (same_lsp-refl h.lsp)
 
     pub armed-after : AllByRecursion (IsArmedAsBackup p.id.0) after.legs
     armed-after =
@@ -114,6 +121,8 @@ module _ (before : LegTable) (c : CallTable) (u : NodeId) (fits : IngressFits be
             kept = subst (NodeFits p) (ap (changed s) (sym whole) ∙ state)
                 (messages-fit p s u m fits.links fits.kept).kept;
             stays = subst (Stays p (state_of after c)) (sym part) stays;
-            no_row = ap (λ b. b.rows) part ∙ sym (ap (λ b. b.rows) became.whole) ∙ message-learns_nothing p s u m;
+            fine = subst (Fine p after.legs) (sym part)
+                (rest-fine p before.legs (leg.Put h) [] a (subst (Fine p before.legs) became.whole
+                (message-may p s c.lsp u m fits.links fits.kept.legs.each fits.kept.calls.each)));
           };
         }

@@ -1,5 +1,4 @@
--- After each rule of calls they name LSPs by their roles, backups alone are Armed, and no leg that changes took a label
--- or takes one.
+-- After each rule of calls they name LSPs by their roles, and backups alone are Armed.
 use Rattle.std.proofs.Common.{◌≡◌, ◌+◌, ℕ, Bool, true, false, cond, nat_eq, nat_lt, not, List, [], ◌∷◌, drop, refl, sym, ap, subst, ◌∙◌, arith}
 use Rattle.std.specs.Prelude.{◌&&◌, Option, Some, None, IfSome, is_some}
 use Rattle.std.specs.List.{AllByRecursion}
@@ -20,7 +19,6 @@ use Rattle.ason_base.specs.declared.steps.Step.{Step}
 use Rattle.ason_base.specs.declared.tables.CallRec.{CallRec}
 use Rattle.ason_base.specs.declared.tables.Leg.{Leg}
 use Rattle.mesh_rules.specs.declared.changes.CallChange.TheVariants as call
-use Rattle.mesh_rules.specs.declared.changes.LegChange.TheVariants as leg
 use Rattle.mesh_rules.specs.declared.limits.TheConstants.{LAST_NUMBER}
 use Rattle.mesh_rules.specs.Calls.{find_call, is_bare, pairing, unbacked, without_call}
 use Rattle.mesh_rules.specs.Changes.{Answer, changed, changes_calls, followed_by, nothing}
@@ -39,22 +37,18 @@ use Rattle.mesh_nodes.proofs.CallList.{all-with_call}
 use Rattle.mesh_nodes.proofs.Cases.{if_cases}
 use Rattle.mesh_nodes.proofs.LegList.{all-filter, all-with_leg, find-with_leg, found-lsp, same_lsp-eq}
 use Rattle.mesh_nodes.proofs.Links.{found-one}
-use Rattle.leg_table.specs.LegClaims.{ChangesNoLabel, taken_of}
 use Rattle.call_control.specs.Ingress.{AllNameByRole, IsArmedAsBackup, IsNamedAs, NamesByRole, role_at}
-use Rattle.call_control.proofs.Roles.{BeginAlone, RolesStay, calls-stay, changed-stay, lone-taken, lsp-stays, new-stay, none-taken, own-role}
+use Rattle.call_control.proofs.Roles.{RolesStay, calls-stay, changed-stay, lsp-stays, new-stay, own-role}
 
 -- of an answer at node p, which keeps s
 pub record Stays (p : LocalNode) (s : NodeState) (a : Answer) : Type 0 where
   pub names : AllNameByRole p (changed s a)
   pub armed : AllByRecursion (IsArmedAsBackup p.id.0) (legs_changed a.legs s.legs)
-  pub labels : AllByRecursion (ChangesNoLabel s.legs) a.legs
-  pub no_down : a.down ≡ None
 
 -- a leg of this role that begins here, as one of its LSP does that stands
 pub record Begins (p : LocalNode) (legs : List Leg) (r : Role) (g : Leg) : Type 0 where
   pub there : role_at (find_leg g.lsp legs) ≡ Some g.role
   pub begun : g.lsp.ingress.0 ≡ p.id.0
-  pub alone : g.in_fibre ≡ None
   pub role : g.role ≡ r
 
 -- a closed leg isn't Armed
@@ -71,21 +65,17 @@ not-armed n g begun = go g.phase g.role
     go Closing r e = absurd (cc e)
     go Falling r e = absurd (cc e)
 
-module _ (p : LocalNode) (s : NodeState) (all : AllNameByRole p s) (alone : BeginAlone p s.legs)
+module _ (p : LocalNode) (s : NodeState) (all : AllNameByRole p s)
     (armed : AllByRecursion (IsArmedAsBackup p.id.0) s.legs) where
   abbrev Names : CallRec → Type 0
   Names c = NamesByRole p.id.0 s.lsp s.legs c
 
-  pub none : (l : Lsp) → l.ingress.0 ≡ p.id.0 → taken_of (find_leg l s.legs) ≡ None
-  none = none-taken p s.legs alone
-
   pub nothing-stays : Stays p s nothing
-  nothing-stays = record { names = all; armed = armed; labels = tt; no_down = refl }
+  nothing-stays = record { names = all; armed = armed }
 
   -- a call is put in its place
   pub put-stays : (c : CallRec) → Names c → Stays p s (call_put c)
-  put-stays c here =
-      record { names = all-with_call Names c s.calls here all; armed = armed; labels = tt; no_down = refl }
+  put-stays c here = record { names = all-with_call Names c s.calls here all; armed = armed }
 
   pub armed-with : (g : Leg) → IsArmedAsBackup p.id.0 g → AllByRecursion (IsArmedAsBackup p.id.0) (with_leg g s.legs)
   armed-with g here = all-with_leg (IsArmedAsBackup p.id.0) g s.legs here armed
@@ -111,8 +101,6 @@ module _ (p : LocalNode) (s : NodeState) (all : AllNameByRole p s) (alone : Begi
               (calls-stay p.id.0 s.lsp (s.lsp + 1) s.legs (with_leg g s.legs) s.calls (omega arith)
               (new-stay s.lsp g s.legs refl) all);
           armed = asked-with (working_lsp p s w out route);
-          labels = ((none (next_lsp p s) refl, refl), tt);
-          no_down = refl;
         }
 
     admitted-stays : (out : LinkSpec) (route : List Step) → Stays p s (admitted_setup p s w out route)
@@ -158,8 +146,6 @@ module _ (p : LocalNode) (s : NodeState) (all : AllNameByRole p s) (alone : Begi
                 (calls-stay p.id.0 s.lsp (s.lsp + 1) s.legs (with_leg g s.legs) s.calls (omega arith)
                 (new-stay s.lsp g s.legs refl) all);
             armed = asked-with (backup_lsp p s w out route);
-            labels = ((none l begun, refl), tt);
-            no_down = refl;
           }
 
       backed-stays : (route : List Step) (o : Option LinkSpec) → Stays p s (over_backup p s c w route o)
@@ -219,24 +205,17 @@ module _ (p : LocalNode) (s : NodeState) (all : AllNameByRole p s) (alone : Begi
         all-filter (NamesByRole p.id.0 s.lsp legs) (λ d. not (nat_eq d.call.0 n.0)) s.calls
         (calls-stay p.id.0 s.lsp s.lsp s.legs legs s.calls (omega arith) stay all)
 
-    closes : (r : Role) (g : Leg) → Begins p s.legs r g → ChangesNoLabel s.legs (leg.Put (closed g))
-    closes r g here = (none g.lsp here.begun, lone-taken (closed g) here.alone)
-
     tears-stay : (a b : Option Leg) → IfSome a (Begins p s.legs Work) → IfSome b (Begins p s.legs Back) →
         Stays p s (followed_by (tears a) (followed_by (tears b) (changes_calls (call.Goes n ∷ []))))
     tears-stay None None this that =
-        record { names = less s.legs (λ l r small here. here); armed = armed; labels = tt; no_down = refl }
+        record { names = less s.legs (λ l r small here. here); armed = armed }
     tears-stay None (Some h) this that = record {
       names = less (with_leg (closed h) s.legs) (changed-stay s.lsp (closed h) s.legs that.there);
       armed = armed-with (closed h) (not-armed p.id.0 h);
-      labels = (closes Back h that, tt);
-      no_down = refl;
     }
     tears-stay (Some g) None this that = record {
       names = less (with_leg (closed g) s.legs) (changed-stay s.lsp (closed g) s.legs this.there);
       armed = armed-with (closed g) (not-armed p.id.0 g);
-      labels = (closes Work g this, tt);
-      no_down = refl;
     }
     tears-stay (Some g) (Some h) this that = record {
       names = less (with_leg (closed h) (with_leg (closed g) s.legs))
@@ -245,8 +224,6 @@ module _ (p : LocalNode) (s : NodeState) (all : AllNameByRole p s) (alone : Begi
           (changed-stay s.lsp (closed g) s.legs this.there l r small here));
       armed = all-with_leg (IsArmedAsBackup p.id.0) (closed h) (with_leg (closed g) s.legs) (not-armed p.id.0 h)
           (armed-with (closed g) (not-armed p.id.0 g));
-      labels = (closes Work g this, (closes Back h that, tt));
-      no_down = refl;
     }
 
   pub leg_of-begins : (r : Role) (o : Option Lsp) → IfSome o (IsNamedAs p.id.0 s.lsp s.legs r) →
@@ -262,7 +239,6 @@ module _ (p : LocalNode) (s : NodeState) (all : AllNameByRole p s) (alone : Begi
           record {
             there = ap role_at (subst (λ k. find_leg k s.legs ≡ Some g) (sym is) found);
             begun = begun;
-            alone = alone l g found named.ingress;
             role = subst (λ o. IfSome (role_at o) (λ q. q ≡ r)) found named.role;
           }
 

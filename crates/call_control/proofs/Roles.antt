@@ -1,6 +1,6 @@
 -- The roles of legs, and calls that name LSPs by them, after a leg comes, changes or goes.
-use Rattle.std.proofs.Common.{◌≡◌, ◌≤◌, ◌<◌, ℕ, Bool, true, false, cond, not, nat_eq, List, refl, sym, ap, subst, ◌∙◌, arith}
-use Rattle.std.specs.Prelude.{◌||◌, Option, Some, None, IfSome, is_some}
+use Rattle.std.proofs.Common.{◌≡◌, ◌≤◌, ◌<◌, ℕ, Bool, true, false, cond, List, refl, sym, ap, subst, arith}
+use Rattle.std.specs.Prelude.{◌||◌, Option, Some, None, IfSome}
 use Rattle.std.specs.List.{AllByRecursion}
 use Rattle.ason_base.specs.Lsps.{is_lsp, same_lsp}
 use Rattle.ason_base.specs.declared.calls.Role.{Role}
@@ -9,12 +9,8 @@ use Rattle.ason_base.specs.declared.ids.Lsp.{Lsp}
 use Rattle.ason_base.specs.declared.tables.CallRec.{CallRec}
 use Rattle.ason_base.specs.declared.tables.Leg.{Leg}
 use Rattle.mesh_rules.specs.Calls.{names}
-use Rattle.mesh_rules.specs.Legs.{find_leg, is_beyond_asked, with_leg, without_leg}
-use Rattle.mesh_rules.specs.LocalNodes.{LocalNode}
-use Rattle.mesh_rules.specs.State.{NodeState}
-use Rattle.mesh_nodes.specs.Kept.{LegFits, NodeFits}
-use Rattle.mesh_nodes.proofs.LegList.{all-then, find-with_leg, find-without_leg, found-all, found-lsp, same_lsp-eq, same_lsp-refl}
-use Rattle.leg_table.specs.LegClaims.{taken, taken_of, taken_over}
+use Rattle.mesh_rules.specs.Legs.{find_leg, with_leg, without_leg}
+use Rattle.mesh_nodes.proofs.LegList.{all-then, find-with_leg, find-without_leg, same_lsp-eq, same_lsp-refl}
 use Rattle.call_control.specs.Handlers.{named_role}
 use Rattle.call_control.specs.Ingress.{IsNamedAs, NamesByRole, role_at}
 
@@ -104,56 +100,3 @@ pub role-is : (n next : ℕ) (legs : List Leg) (c : CallRec) (l : Lsp) (g : Leg)
     names l c ≡ true → find_leg l legs ≡ Some g → g.role ≡ named_role c l
 role-is n next legs c l g here named found =
     subst (λ o. IfSome (role_at o) (λ q. q ≡ named_role c l)) found (named-as n next legs c l here named).role
-
--- Labels
-
--- the leg of an LSP that begins here has no fibre in
-abbrev pub BeginAlone : LocalNode → List Leg → Type 0
-BeginAlone p legs = (l : Lsp) (g : Leg) → find_leg l legs ≡ Some g → l.ingress.0 ≡ p.id.0 → g.in_fibre ≡ None
-
--- without one it takes no label
-pub lone-taken : (g : Leg) → g.in_fibre ≡ None → taken g ≡ None
-lone-taken g none =
-    ap (λ o. cond (is_beyond_asked g.phase) (taken_over o g.in_label) None) none ∙ go (is_beyond_asked g.phase)
-  where
-    go : (b : Bool) → cond b (taken_over None g.in_label) None ≡ None
-    go true = refl
-    go false = refl
-
-pub none-taken : (p : LocalNode) (legs : List Leg) → BeginAlone p legs → (l : Lsp) → l.ingress.0 ≡ p.id.0 →
-    taken_of (find_leg l legs) ≡ None
-none-taken p legs alone l begun = go (find_leg l legs) refl
-  where
-    go : (o : Option Leg) → find_leg l legs ≡ o → taken_of o ≡ None
-    go None found = refl
-    go (Some g) found = lone-taken g (alone l g found begun)
-
-pub none-there : {X : Type 0} (o : Option X) → is_some o ≡ false → o ≡ None
-none-there None e = refl
-none-there (Some x) e = absurd (cc e)
-
-pub fits-alone : (p : LocalNode) (s : NodeState) → NodeFits p s → BeginAlone p s.legs
-fits-alone p s fits l g found begun =
-    let leg : LegFits p s.lsp g = found-all (LegFits p s.lsp) l s.legs g found fits.legs.each in
-    let is : g.lsp ≡ l = found-lsp l s.legs g found in
-    let same : g.lsp.ingress.0 ≡ p.id.0 = ap (λ (k : Lsp). k.ingress.0) is ∙ begun in
-    let here : nat_eq g.lsp.ingress.0 p.id.0 ≡ true = grind arith in
-    none-there g.in_fibre (leg.in_fibre ∙ leg.prev ∙ ap not here)
-
--- such a leg comes or changes
-pub alone-with : (p : LocalNode) (g : Leg) (legs : List Leg) → g.in_fibre ≡ None → BeginAlone p legs →
-    BeginAlone p (with_leg g legs)
-alone-with p g legs none alone l h found begun = go (same_lsp g.lsp l) (sym (find-with_leg g legs l) ∙ found)
-  where
-    go : (b : Bool) → cond b (Some g) (find_leg l legs) ≡ Some h → h.in_fibre ≡ None
-    go true e = let is : g ≡ h = cc e in subst (λ k. k.in_fibre ≡ None) is none
-    go false e = alone l h e begun
-
--- a leg goes
-pub alone-without : (p : LocalNode) (k : Lsp) (legs : List Leg) → BeginAlone p legs →
-    BeginAlone p (without_leg k legs)
-alone-without p k legs alone l h found begun = go (same_lsp k l) (sym (find-without_leg k legs l) ∙ found)
-  where
-    go : (b : Bool) → cond b None (find_leg l legs) ≡ Some h → h.in_fibre ≡ None
-    go true e = absurd (cc e)
-    go false e = alone l h e begun

@@ -27,9 +27,9 @@ module _ (t : LegTable) (c : CallTable) (l : Lsp) (e at : NodeId) (k : LinkId) (
   pub notify-decides : (g : Leg) (down : Bool) (f : Fibre) (d told : CallRec) → find_leg l t.legs ≡ Some g →
       reported code ≡ Some down → fibre_into (route_from (local_of t) g) g.egress at k ≡ Some f →
       call_with g.lsp c.calls ≡ Some d → told ≡ with_report d g.lsp down f →
-      decide told (leg_of told.back t.legs) ≡ reported_here t c (Notify l e at k code)
+      decide t.legs told (leg_of told.back t.legs) ≡ reported_here t c (Notify l e at k code)
   notify-decides g down f d told found says into called is =
-      ap (λ (r : CallRec). decide r (leg_of r.back t.legs)) is
-      ∙ ap (λ o. decide (with_report d g.lsp down f) (leg_of o t.legs)) (back-same d g.lsp down f)
+      ap (λ (r : CallRec). decide t.legs r (leg_of r.back t.legs)) is
+      ∙ ap (λ o. decide t.legs (with_report d g.lsp down f) (leg_of o t.legs)) (back-same d g.lsp down f)
       ∙ sym (ap (λ o. told_here t c at k o (reported code)) found ∙ ap (told_here t c at k (Some g)) says
       ∙ ap (reported_on (state_of t c) g down) into ∙ ap (call_reported (state_of t c) g.lsp down f) called)

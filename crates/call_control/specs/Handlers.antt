@@ -109,15 +109,15 @@ is_activated g = not (is_work g.role) && is_in_use g.phase
 
 abbrev pub resv_here : LegTable → CallTable → Option Leg → Answer
 resv_here t c None = nothing
-resv_here t c (Some g) = if is_activated g then turned_here c g else answered_here t c g
+resv_here t c (Some g) = if is_activated g then turned_here t c g else answered_here t c g
 
-abbrev pub busy_here : CallTable → Option Leg → Answer
-busy_here c None = nothing
-busy_here c (Some g) = contended_here c g
+abbrev pub busy_here : LegTable → CallTable → Option Leg → Answer
+busy_here t c None = nothing
+busy_here t c (Some g) = contended_here t c g
 
 abbrev pub err_here : LegTable → CallTable → Lsp → Bool → ErrCode → Answer
 err_here t c l true code = gone_here c l code
-err_here t c l false code = busy_here c (find_leg l t.legs)
+err_here t c l false code = busy_here t c (find_leg l t.legs)
 
 -- what is done at these tables; a message of another kind does nothing
 abbrev pub answer_here : LegTable → CallTable → Msg → Answer

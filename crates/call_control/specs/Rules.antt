@@ -74,12 +74,12 @@ abbrev pub answered_here : LegTable → CallTable → Leg → Answer
 answered_here t c g = call_answered (local_of t) (state_of t c) g (call_with g.lsp c.calls)
 
 -- the call of a backup that is Live now, from end to end
-abbrev pub turned_here : CallTable → Leg → Answer
-turned_here c b = call_turned b (call_with b.lsp c.calls)
+abbrev pub turned_here : LegTable → CallTable → Leg → Answer
+turned_here t c b = call_turned (state_of t c) b (call_with b.lsp c.calls)
 
 -- the call of a backup that is Held again, since a label of it is in use
-abbrev pub contended_here : CallTable → Leg → Answer
-contended_here c b = call_contended b (call_with b.lsp c.calls)
+abbrev pub contended_here : LegTable → CallTable → Leg → Answer
+contended_here t c b = call_contended (state_of t c) b (call_with b.lsp c.calls)
 
 -- a call whose LSP of this role is refused
 abbrev pub refused_as : ErrCode → Role → CallRec → Answer

@@ -4,12 +4,14 @@ ghost use Rattle.std.specs.Prelude.{◌≡◌, OnOk};
 ghost use Rattle.std.specs.Option.{option_copied};
 ghost use Rattle.mesh_rules.specs.Changes.{followed_by};
 ghost use Rattle.mesh_nodes.specs.LocalNodes.{LocalNodeFits};
+ghost use Rattle.leg_table.specs.LegClaims.{ClaimsFit};
 ghost use Rattle.leg_table.specs.States.{local_of};
 ghost use Rattle.call_control.specs.Handlers.{gone_here, named_role};
 ghost use Rattle.call_control.specs.Rules.{answered_here, contended_here, refused_as, refused_here, turned_here};
 ghost use Rattle.call_control.specs.Searches.{IsBackupFor, RowsAreKnown, has_no_backup, is_paired_by_resv, sought_by_resv};
 
 use crate::call_states::{bare, blocked, guarded, is_asking, is_turning, stuck, turned};
+use crate::ingress::IngressParts;
 use crate::pairs::{PairRequest, leave_bare, pair};
 use crate::turns::decide;
 use ason_base::codes::BUSY;
@@ -52,19 +54,19 @@ pub fn sought_by_resv<'a>(calls: &Calls, leg: &'a Leg) -> Option<&'a Leg>
 pub fn answer_resv(
     alloc: Global,
     change: &mut Change,
-    tables: &NodeTables,
-    calls: &Calls,
+    parts: &IngressParts<'_>,
     leg: &Leg,
     backup: Option<&Steps>,
 ) -> Result<(), OutOfMemory>
-    requires links { LocalNodeFits (local_of tables.now) }
-    requires rows { RowsAreKnown tables.now }
-    requires backup { IsBackupFor tables.now
-        (sought_by_resv calls.now leg.now) (option_copied backup) }
-    ensures { OnOk result
-        (change.new ≡ followed_by change.old (answered_here tables.now calls.now leg.now)) }
+    requires links { LocalNodeFits (local_of parts.now.tables.now) }
+    requires rows { RowsAreKnown parts.now.tables.now }
+    requires claims { ClaimsFit parts.now.tables.now.legs parts.now.owner.now }
+    requires backup { IsBackupFor parts.now.tables.now
+        (sought_by_resv parts.now.calls.now leg.now) (option_copied backup) }
+    ensures { OnOk result (change.new ≡ followed_by change.old
+        (answered_here parts.now.tables.now parts.now.calls.now leg.now)) }
 {
-    let Some(call) = calls.with_lsp(leg.lsp) else {
+    let Some(call) = parts.calls.with_lsp(leg.lsp) else {
         return Ok(());
     };
     if is_paired_by_resv(call, leg) {
@@ -73,12 +75,12 @@ pub fn answer_resv(
             work: leg,
             found: backup,
         };
-        return pair(alloc, change, tables, calls, &request);
+        return pair(alloc, change, parts.tables, parts.calls, &request);
     }
     match (leg.role, call.state) {
         (Role::Work, CallState::Asking) => change.put_call(bare(call.copy(alloc)?)),
         (Role::Back, CallState::Pairing) => {
-            decide(alloc, change, guarded(call.copy(alloc)?), Some(leg))
+            decide(alloc, change, parts, guarded(call.copy(alloc)?), Some(leg))
         }
         _ => Ok(()),
     }
@@ -89,14 +91,16 @@ pub fn answer_resv(
 pub fn answer_confirmed(
     alloc: Global,
     change: &mut Change,
-    calls: &Calls,
+    parts: &IngressParts<'_>,
     leg: &Leg,
 ) -> Result<(), OutOfMemory>
-    ensures { OnOk result (change.new ≡ followed_by change.old (turned_here calls.now leg.now)) }
+    requires { ClaimsFit parts.now.tables.now.legs parts.now.owner.now }
+    ensures { OnOk result (change.new ≡ followed_by change.old
+        (turned_here parts.now.tables.now parts.now.calls.now leg.now)) }
 {
-    match calls.with_lsp(leg.lsp) {
+    match parts.calls.with_lsp(leg.lsp) {
         Some(call) if is_turning(call.state) => {
-            decide(alloc, change, turned(call.copy(alloc)?), Some(leg))
+            decide(alloc, change, parts, turned(call.copy(alloc)?), Some(leg))
         }
         _ => Ok(()),
     }
@@ -109,16 +113,17 @@ pub fn answer_confirmed(
 pub fn answer_busy(
     alloc: Global,
     change: &mut Change,
-    calls: &Calls,
+    parts: &IngressParts<'_>,
     leg: &Leg,
 ) -> Result<(), OutOfMemory>
-    ensures { OnOk result
-        (change.new ≡ followed_by change.old (contended_here calls.now leg.now)) }
+    requires { ClaimsFit parts.now.tables.now.legs parts.now.owner.now }
+    ensures { OnOk result (change.new ≡ followed_by change.old
+        (contended_here parts.now.tables.now parts.now.calls.now leg.now)) }
 {
-    match calls.with_lsp(leg.lsp) {
+    match parts.calls.with_lsp(leg.lsp) {
         Some(call) if is_turning(call.state) => {
             let call = stuck(call.copy(alloc)?, Cause::Code(BUSY));
-            decide(alloc, change, call, Some(leg))
+            decide(alloc, change, parts, call, Some(leg))
         }
         _ => Ok(()),
     }

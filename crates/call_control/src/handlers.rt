@@ -1,11 +1,12 @@
-//! Commands, Resvs, PathErrs and Notifies at an ingress, carried out over its tables and its calls.
+//! Commands, Resvs, PathErrs and Notifies at an ingress, carried out over its tables, the owner of its
+//! labels, the shares of its backups and its calls.
 
 ghost use Rattle.std.specs.Prelude.{◌≡◌, IfOk, OnErr, OnOk};
 ghost use Rattle.std.specs.Option.{option_copied};
 ghost use Rattle.mesh_rules.specs.Changes.{followed_by};
 ghost use Rattle.mesh_rules.specs.Legs.{find_leg};
 ghost use Rattle.mesh_nodes.specs.LocalNodes.{LocalNodeFits};
-ghost use Rattle.leg_table.specs.LegClaims.{StaysOfOneNode};
+ghost use Rattle.leg_table.specs.LegClaims.{AreOfOneNode, ClaimsFit};
 ghost use Rattle.leg_table.specs.States.{local_of, state_of};
 ghost use Rattle.leg_table.specs.Tables.{LegTable};
 ghost use Rattle.call_control.specs.Handlers.{AreSentFor, IsKeptAfter, IsRouteOf, WereBefore, after_command, after_setup, answer_here, command_answer, is_activated, resv_here, setup_answer, sought_at, sought_by_answer, sought_by_command};
@@ -13,15 +14,18 @@ ghost use Rattle.call_control.specs.Ingress.{IngressFits};
 ghost use Rattle.call_control.specs.Searches.{IsBackupFor, RowsAreKnown};
 
 use crate::call_steps::{answer_busy, answer_confirmed, answer_resv, refuse_gone, sought_by_resv};
+use crate::ingress::IngressParts;
 use crate::protects::protect;
 use crate::releases::release;
 use crate::reports::answer_report;
 use crate::retries::retry;
 use crate::setups::{SetupRequest, set_up};
 use ason_base::{Command, Leg, Lsp, Msg, NodeId, OutOfMemory, Outs, Steps};
-use leg_table::handling::handle_calls;
+use leg_labels::carry_out;
 use leg_table::one_leg::{is_in_use, is_work};
 use leg_table::{Calls, Change, NodeTables};
+use link_owner::Owner;
+use share_check::Shares;
 use std::alloc::Global;
 
 // Setups
@@ -74,11 +78,14 @@ fn setup_change(
 pub fn setup(
     alloc: Global,
     tables: &mut NodeTables,
+    owner: &mut Owner,
+    shares: &mut Shares,
     calls: &mut Calls,
     command: &Command,
     route: Option<&Steps>,
 ) -> Result<Outs, OutOfMemory>
     requires fits { IngressFits tables.old calls.old }
+    requires node { AreOfOneNode tables.old owner.old shares.old }
     requires route { IsRouteOf tables.old calls.old command.now (option_copied route) }
     ensures ok { OnOk result
         (state_of tables.new calls.new ≡ after_setup tables.old calls.old command.now) }
@@ -86,33 +93,39 @@ pub fn setup(
         (λ outs. outs ≡ (setup_answer tables.old calls.old command.now).sent) }
     ensures fits { IngressFits tables.new calls.new }
     ensures local { local_of tables.new ≡ local_of tables.old }
-    ensures labels { StaysOfOneNode tables.old tables.new }
+    ensures node { AreOfOneNode tables.new owner.new shares.new }
     ensures err { OnErr result (tables.new ≡ tables.old) }
+    ensures err_owner { OnErr result (owner.new ≡ owner.old) }
+    ensures err_shares { OnErr result (shares.new ≡ shares.old) }
     ensures err_calls { OnErr result (calls.new ≡ calls.old) }
 {
     let change = setup_change(alloc, tables, calls, command, route)?;
-    handle_calls(alloc, tables, calls, change)
+    carry_out(change, tables, owner, shares, calls)
 }
 
 // Other commands
 
 fn command_change(
     alloc: Global,
-    tables: &NodeTables,
-    calls: &Calls,
+    parts: &IngressParts<'_>,
     command: &Command,
     backup: Option<&Steps>,
 ) -> Result<Change, OutOfMemory>
-    requires links { LocalNodeFits (local_of tables.now) }
-    requires rows { RowsAreKnown tables.now }
-    requires backup { IsBackupFor tables.now
-        (sought_by_command tables.now calls.now command.now) (option_copied backup) }
-    ensures { IfOk result (λ c. c ≡ command_answer tables.now calls.now command.now) }
+    requires links { LocalNodeFits (local_of parts.now.tables.now) }
+    requires rows { RowsAreKnown parts.now.tables.now }
+    requires claims { ClaimsFit parts.now.tables.now.legs parts.now.owner.now }
+    requires backup { IsBackupFor parts.now.tables.now
+        (sought_by_command parts.now.tables.now parts.now.calls.now command.now)
+        (option_copied backup) }
+    ensures { IfOk result
+        (λ c. c ≡ command_answer parts.now.tables.now parts.now.calls.now command.now) }
 {
+    let tables = parts.tables;
+    let calls = parts.calls;
     match command {
         Command::Release { call, from } => release(alloc, tables, calls, *call, *from),
         Command::Protect { call, from } => protect(alloc, tables, calls, *call, *from, backup),
-        Command::Retry { call, from } => retry(alloc, tables, calls, *call, *from),
+        Command::Retry { call, from } => retry(alloc, parts, *call, *from),
         Command::Setup { .. }
         | Command::Revert { .. }
         | Command::Fail { .. }
@@ -127,11 +140,14 @@ fn command_change(
 pub fn command(
     alloc: Global,
     tables: &mut NodeTables,
+    owner: &mut Owner,
+    shares: &mut Shares,
     calls: &mut Calls,
     command: &Command,
     backup: Option<&Steps>,
 ) -> Result<Outs, OutOfMemory>
     requires fits { IngressFits tables.old calls.old }
+    requires node { AreOfOneNode tables.old owner.old shares.old }
     requires backup { IsBackupFor tables.old
         (sought_by_command tables.old calls.old command.now) (option_copied backup) }
     ensures ok { OnOk result
@@ -140,12 +156,19 @@ pub fn command(
         (λ outs. outs ≡ (command_answer tables.old calls.old command.now).sent) }
     ensures fits { IngressFits tables.new calls.new }
     ensures local { local_of tables.new ≡ local_of tables.old }
-    ensures labels { StaysOfOneNode tables.old tables.new }
+    ensures node { AreOfOneNode tables.new owner.new shares.new }
     ensures err { OnErr result (tables.new ≡ tables.old) }
+    ensures err_owner { OnErr result (owner.new ≡ owner.old) }
+    ensures err_shares { OnErr result (shares.new ≡ shares.old) }
     ensures err_calls { OnErr result (calls.new ≡ calls.old) }
 {
-    let change = command_change(alloc, tables, calls, command, backup)?;
-    handle_calls(alloc, tables, calls, change)
+    let parts = IngressParts {
+        tables,
+        owner,
+        calls,
+    };
+    let change = command_change(alloc, &parts, command, backup)?;
+    carry_out(change, tables, owner, shares, calls)
 }
 
 // Messages
@@ -161,55 +184,58 @@ fn is_activated(leg: &Leg) -> bool
 fn follow_resv(
     alloc: Global,
     change: &mut Change,
-    tables: &NodeTables,
-    calls: &Calls,
+    parts: &IngressParts<'_>,
     lsp: Lsp,
     backup: Option<&Steps>,
 ) -> Result<(), OutOfMemory>
-    requires links { LocalNodeFits (local_of tables.now) }
-    requires rows { RowsAreKnown tables.now }
-    requires backup { IsBackupFor tables.now
-        (sought_at calls.now (find_leg lsp tables.now.legs)) (option_copied backup) }
-    ensures { OnOk result (change.new ≡ followed_by change.old
-        (resv_here tables.now calls.now (find_leg lsp tables.now.legs))) }
+    requires links { LocalNodeFits (local_of parts.now.tables.now) }
+    requires rows { RowsAreKnown parts.now.tables.now }
+    requires claims { ClaimsFit parts.now.tables.now.legs parts.now.owner.now }
+    requires backup { IsBackupFor parts.now.tables.now
+        (sought_at parts.now.calls.now (find_leg lsp parts.now.tables.now.legs))
+        (option_copied backup) }
+    ensures { OnOk result (change.new ≡ followed_by change.old (resv_here parts.now.tables.now
+        parts.now.calls.now (find_leg lsp parts.now.tables.now.legs))) }
 {
-    match tables.get(&lsp) {
+    match parts.tables.get(&lsp) {
         None => Ok(()),
-        Some(leg) if is_activated(leg) => answer_confirmed(alloc, change, calls, leg),
-        Some(leg) => answer_resv(alloc, change, tables, calls, leg, backup),
+        Some(leg) if is_activated(leg) => answer_confirmed(alloc, change, parts, leg),
+        Some(leg) => answer_resv(alloc, change, parts, leg, backup),
     }
 }
 
 fn answer_change(
     alloc: Global,
-    tables: &NodeTables,
-    calls: &Calls,
+    parts: &IngressParts<'_>,
     msg: &Msg,
     backup: Option<&Steps>,
 ) -> Result<Change, OutOfMemory>
-    requires links { LocalNodeFits (local_of tables.now) }
-    requires rows { RowsAreKnown tables.now }
-    requires backup { IsBackupFor tables.now
-        (sought_by_answer tables.now calls.now msg.now) (option_copied backup) }
-    ensures { IfOk result (λ c. c ≡ answer_here tables.now calls.now msg.now) }
+    requires links { LocalNodeFits (local_of parts.now.tables.now) }
+    requires rows { RowsAreKnown parts.now.tables.now }
+    requires claims { ClaimsFit parts.now.tables.now.legs parts.now.owner.now }
+    requires backup { IsBackupFor parts.now.tables.now
+        (sought_by_answer parts.now.tables.now parts.now.calls.now msg.now)
+        (option_copied backup) }
+    ensures { IfOk result
+        (λ c. c ≡ answer_here parts.now.tables.now parts.now.calls.now msg.now) }
 {
     let mut change = Change::nothing(alloc);
     match msg {
         Msg::Resv { lsp, .. } => {
-            follow_resv(alloc, &mut change, tables, calls, *lsp, backup)?;
+            follow_resv(alloc, &mut change, parts, *lsp, backup)?;
         }
         Msg::PathErr {
             lsp,
             removed: true,
             code,
             ..
-        } => refuse_gone(alloc, &mut change, calls, *lsp, *code)?,
+        } => refuse_gone(alloc, &mut change, parts.calls, *lsp, *code)?,
         Msg::PathErr { lsp, .. } => {
-            if let Some(leg) = tables.get(lsp) {
-                answer_busy(alloc, &mut change, calls, leg)?;
+            if let Some(leg) = parts.tables.get(lsp) {
+                answer_busy(alloc, &mut change, parts, leg)?;
             }
         }
-        Msg::Notify { .. } => answer_report(alloc, &mut change, tables, calls, msg)?,
+        Msg::Notify { .. } => answer_report(alloc, &mut change, parts, msg)?,
         Msg::Path { .. } | Msg::PathTear { .. } => {}
     }
     Ok(change)
@@ -232,12 +258,15 @@ pub fn sought_by_answer<'a>(tables: &'a NodeTables, calls: &Calls, msg: &Msg) ->
 pub fn answer(
     alloc: Global,
     tables: &mut NodeTables,
+    owner: &mut Owner,
+    shares: &mut Shares,
     calls: &mut Calls,
     from: NodeId,
     msg: &Msg,
     backup: Option<&Steps>,
 ) -> Result<Outs, OutOfMemory>
     requires before { (t : LegTable) × WereBefore tables.old calls.old from msg.now t }
+    requires node { AreOfOneNode tables.old owner.old shares.old }
     requires backup { IsBackupFor tables.old
         (sought_by_answer tables.old calls.old msg.now) (option_copied backup) }
     ensures ok { OnOk result
@@ -245,11 +274,18 @@ pub fn answer(
     ensures sent { IfOk result (AreSentFor tables.old calls.old from msg.now) }
     ensures fits { OnOk result (IngressFits tables.new calls.new) }
     ensures local { local_of tables.new ≡ local_of tables.old }
-    ensures labels { StaysOfOneNode tables.old tables.new }
+    ensures node { AreOfOneNode tables.new owner.new shares.new }
     ensures err { OnErr result (tables.new ≡ tables.old) }
+    ensures err_owner { OnErr result (owner.new ≡ owner.old) }
+    ensures err_shares { OnErr result (shares.new ≡ shares.old) }
     ensures err_calls { OnErr result (calls.new ≡ calls.old) }
 {
     let _from = from;
-    let change = answer_change(alloc, tables, calls, msg, backup)?;
-    handle_calls(alloc, tables, calls, change)
+    let parts = IngressParts {
+        tables,
+        owner,
+        calls,
+    };
+    let change = answer_change(alloc, &parts, msg, backup)?;
+    carry_out(change, tables, owner, shares, calls)
 }

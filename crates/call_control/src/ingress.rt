@@ -9,8 +9,17 @@ ghost use Rattle.mesh_nodes.specs.LocalNodes.{LocalNodeFits};
 ghost use Rattle.leg_table.specs.States.{legs_state, local_of};
 
 use ason_base::{Leg, LinkId, LinkSpec, Lsp, NodeId, Steps};
-use leg_table::NodeTables;
+use leg_table::{Calls, NodeTables};
+use link_owner::Owner;
 use mesh_rules::limits::{MOST_LEGS, MOST_LINKS_OF_ROUTE};
+
+/// What an ingress has, for reading: its tables, the owner of its labels and its calls.
+#[derive(Clone, Copy, Drop)]
+pub struct IngressParts<'a> {
+    pub tables: &'a NodeTables,
+    pub owner: &'a Owner,
+    pub calls: &'a Calls,
+}
 
 /// The node's number.
 pub fn id_of(tables: &NodeTables) -> NodeId

@@ -22,7 +22,7 @@ pub use call_states::is_turned;
 pub use call_steps::{answer_busy, answer_confirmed, answer_resv, refuse_lsp, sought_by_resv};
 pub use going_back::goes_back;
 pub use handlers::{answer, command, setup, sought_by_answer};
-pub use ingress::{id_of, leg_of};
+pub use ingress::{IngressParts, id_of, leg_of};
 pub use pairs::route_from;
 pub use protects::{protect, sought_by_protect};
 pub use releases::release;

@@ -5,16 +5,17 @@ ghost use Rattle.std.specs.Prelude.{◌≡◌, IfOk, OnOk};
 ghost use Rattle.mesh_rules.specs.Changes.{followed_by};
 ghost use Rattle.mesh_rules.specs.Pairs.{route_from};
 ghost use Rattle.mesh_rules.specs.Reports.{fibre_into, fibres_after, first_node, reported, with_fibre, with_report};
+ghost use Rattle.leg_table.specs.LegClaims.{ClaimsFit};
 ghost use Rattle.leg_table.specs.States.{local_of};
 ghost use Rattle.call_control.specs.Rules.{reported_here};
 
-use crate::ingress::{id_of, leg_of};
+use crate::ingress::{IngressParts, id_of, leg_of};
 use crate::turns::{decide, has_any};
 use ason_base::codes::{FIBRE_DOWN, FIBRE_UP};
 use ason_base::{
     CallRec, Copied, ErrCode, Fibre, Fibres, Leg, LinkId, Lsp, Msg, NodeId, OutOfMemory, Step,
 };
-use leg_table::{Calls, Change, NodeTables};
+use leg_table::{Change, NodeTables};
 use std::alloc::Global;
 
 // What is reported
@@ -124,12 +125,12 @@ fn with_report(call: CallRec, lsp: Lsp, down: bool, fibre: Fibre) -> Result<Call
 pub fn answer_report(
     alloc: Global,
     change: &mut Change,
-    tables: &NodeTables,
-    calls: &Calls,
+    parts: &IngressParts<'_>,
     msg: &Msg,
 ) -> Result<(), OutOfMemory>
-    ensures { OnOk result (change.new
-        ≡ followed_by change.old (reported_here tables.now calls.now msg.now)) }
+    requires { ClaimsFit parts.now.tables.now.legs parts.now.owner.now }
+    ensures { OnOk result (change.new ≡ followed_by change.old
+        (reported_here parts.now.tables.now parts.now.calls.now msg.now)) }
 {
     let Msg::Notify {
         lsp,
@@ -141,16 +142,16 @@ pub fn answer_report(
     else {
         return Ok(());
     };
-    let (Some(leg), Some(down)) = (tables.get(lsp), reported(*code)) else {
+    let (Some(leg), Some(down)) = (parts.tables.get(lsp), reported(*code)) else {
         return Ok(());
     };
-    let Some(fibre) = fibre_of(tables, leg, *at, *link) else {
+    let Some(fibre) = fibre_of(parts.tables, leg, *at, *link) else {
         return Ok(());
     };
-    let Some(call) = calls.with_lsp(leg.lsp) else {
+    let Some(call) = parts.calls.with_lsp(leg.lsp) else {
         return Ok(());
     };
     let call = with_report(call.copy(alloc)?, leg.lsp, down, fibre)?;
-    let back = leg_of(tables, call.back);
-    decide(alloc, change, call, back)
+    let back = leg_of(parts.tables, call.back);
+    decide(alloc, change, parts, call, back)
 }

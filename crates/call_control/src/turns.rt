@@ -6,13 +6,17 @@ ghost use Rattle.std.specs.Option.{option_copied};
 ghost use Rattle.mesh_rules.specs.Activations.{path_to};
 ghost use Rattle.mesh_rules.specs.Changes.{followed_by, sends};
 ghost use Rattle.mesh_rules.specs.Legs.{following};
-ghost use Rattle.mesh_rules.specs.Turns.{arms, decide, disarms, go_back, has_any, turn};
+ghost use Rattle.mesh_rules.specs.Turns.{arms, decide, disarms, go_back, has_any, turn, turn_to};
+ghost use Rattle.leg_table.specs.LegClaims.{ClaimsFit};
 ghost use Rattle.call_control.specs.Turning.{role_again, sent_again};
 
 use crate::call_states::{guarded, stuck, turning};
+use crate::ingress::IngressParts;
+use ason_base::codes::BUSY;
 use ason_base::{
     CallRec, CallState, Cause, Copied, Fibres, Leg, Msg, OutOfMemory, PathRole, Phase,
 };
+use leg_labels::is_contended;
 use leg_table::Change;
 use leg_table::one_leg::{following, is_held, is_in_use, with_phase};
 use mesh_rules::Neighbour;
@@ -89,18 +93,40 @@ fn arm(alloc: Global, change: &mut Change, call: CallRec, back: &Leg) -> Result<
     change.put_call(turning(call))
 }
 
-/// The call turns to its backup, which begins here: it is activated if it is Held.
+// The backup is activated where no label of it is in use; else the call is stuck.
+fn turn_to(
+    alloc: Global,
+    change: &mut Change,
+    parts: &IngressParts<'_>,
+    call: CallRec,
+    back: &Leg,
+) -> Result<(), OutOfMemory>
+    requires { ClaimsFit parts.now.tables.now.legs parts.now.owner.now }
+    ensures { OnOk result (change.new
+        ≡ followed_by change.old (turn_to parts.now.tables.now.legs call back.now)) }
+{
+    if is_contended(parts.tables, parts.owner, back) {
+        change.put_call(stuck(call, Cause::Code(BUSY)))
+    } else {
+        arm(alloc, change, call, back)
+    }
+}
+
+/// The call turns to its backup, which begins here: it is activated if it is Held. Where another
+/// backup's leg is activated on a label of it, the call is stuck.
 pub(crate) fn turn(
     alloc: Global,
     change: &mut Change,
+    parts: &IngressParts<'_>,
     call: CallRec,
     back: Option<&Leg>,
 ) -> Result<(), OutOfMemory>
-    ensures { OnOk result
-        (change.new ≡ followed_by change.old (turn call (option_copied back.entry))) }
+    requires { ClaimsFit parts.now.tables.now.legs parts.now.owner.now }
+    ensures { OnOk result (change.new ≡ followed_by change.old
+        (turn parts.now.tables.now.legs call (option_copied back.entry))) }
 {
     match back {
-        Some(back) if is_held(back.phase) => arm(alloc, change, call, back),
+        Some(back) if is_held(back.phase) => turn_to(alloc, change, parts, call, back),
         _ => change.put_call(call),
     }
 }
@@ -148,16 +174,18 @@ pub fn has_any(fibres: &Fibres) -> bool
 pub(crate) fn decide(
     alloc: Global,
     change: &mut Change,
+    parts: &IngressParts<'_>,
     call: CallRec,
     back: Option<&Leg>,
 ) -> Result<(), OutOfMemory>
-    ensures { OnOk result
-        (change.new ≡ followed_by change.old (decide call (option_copied back.entry))) }
+    requires { ClaimsFit parts.now.tables.now.legs parts.now.owner.now }
+    ensures { OnOk result (change.new ≡ followed_by change.old
+        (decide parts.now.tables.now.legs call (option_copied back.entry))) }
 {
     let works = has_any(&call.work_reports);
     let backs = has_any(&call.back_reports);
     match (call.state, works, backs) {
-        (CallState::Guarded, true, false) => turn(alloc, change, call, back),
+        (CallState::Guarded, true, false) => turn(alloc, change, parts, call, back),
         (CallState::Guarded, true, true) => change.put_call(stuck(call, Cause::BackDown)),
         (CallState::Turned, false, true) => go_back(alloc, change, call, back),
         (CallState::Stuck, false, _) => change.put_call(guarded(call)),

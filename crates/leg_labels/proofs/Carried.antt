@@ -6,8 +6,8 @@ use Rattle.ason_base.specs.declared.ids.Fibre.{Fibre}
 use Rattle.ason_base.specs.declared.ids.Lsp.{Lsp}
 use Rattle.ason_base.specs.declared.tables.Leg.{Leg}
 use Rattle.ason_base.specs.Lsps.{same_lsp}
-use Rattle.link_owner.specs.Claims.{FibreClaims, IsLeast, NoClaim, freed, has, is_of_lsp}
-use Rattle.link_owner.specs.Owners.{claim_added, claims_of, comes_in, has_label}
+use Rattle.link_owner.specs.Claims.{IsLeast, NoClaim, freed, has, is_of_lsp}
+use Rattle.link_owner.specs.Owners.{OwnerState, claims_of, comes_in, has_label, labels_of}
 use Rattle.link_owner.specs.declared.claims.Claim.{Claim}
 use Rattle.share_check.specs.Guards.{Guard}
 use Rattle.mesh_rules.specs.Legs.{find_leg, with_leg}
@@ -19,9 +19,9 @@ use Rattle.mesh_nodes.proofs.Cases.{both_right}
 use Rattle.mesh_nodes.proofs.LegList.{find-with_leg, same_lsp-eq, same_lsp-refl}
 use Rattle.mesh_nodes.proofs.Links.{any-left}
 use Rattle.leg_table.specs.declared.labels.TakenLabel.{TakenLabel}
-use Rattle.leg_table.specs.LegClaims.{ClaimsFit, IsClaimOfLeg, LabelsFit, MayAllEnter, MayBeFirst, MayBeMade, MayClaim, MayEnter, MayHave, MayKeep, MayTake, OwnerFits, SameFibres, first_claim, freed_of, kind_here, taken, taken_of}
-use Rattle.leg_labels.proofs.ClaimChanges.{Entered, claimed-fit, freed-fit}
-use Rattle.leg_table.proofs.LeftLabels.{Left, kind-none, left-fit, none-kind}
+use Rattle.leg_table.specs.LegClaims.{ClaimsFit, IsClaimOfLeg, LabelsFit, MarksJust, MayAllEnter, MayBeFirst, MayBeMade, MayClaim, MayEnter, MayHave, MayKeep, MayTake, OwnerFits, SameFibres, claim_by, claimed_by, freed_of, kind_here, taken, taken_of}
+use Rattle.leg_labels.proofs.ClaimChanges.{ClaimsJust, Entered, claimed-fit, freed-fit, just-of, left-fit}
+use Rattle.leg_table.proofs.LeftLabels.{Left, kind-none, none-kind}
 use Rattle.leg_table.proofs.OwnerFibres.{comes-kept, labels-kept}
 use Rattle.leg_table.proofs.TakenLabels.{taken-takes}
 use Rattle.leg_labels.proofs.UsableLabels.{usable-unclaimed, usable-within}
@@ -38,64 +38,81 @@ entered-with g legs e = record {
 
 -- Claims after the change
 
-pub given-up : (l : Lsp) (legs after : List Leg) (o : List FibreClaims) → ClaimsFit legs o → Left l legs after →
-    ClaimsFit after (freed_of l (taken_of (find_leg l legs)) o)
+pub given-up : (l : Lsp) (legs after : List Leg) (o : OwnerState) → ClaimsFit legs o → Left l legs after →
+    ClaimsJust after (freed_of l (taken_of (find_leg l legs)) o).claims
 given-up l legs after o fit left = go (find_leg l legs) refl
   where
-    go : (k : Option Leg) → find_leg l legs ≡ k → ClaimsFit after (freed_of l (taken_of k) o)
-    go None found = left-fit l legs after o fit left (λ f x. ap (kind_here f x) found)
+    just : ClaimsJust legs o.claims
+    just = just-of legs o fit
+
+    go : (k : Option Leg) → find_leg l legs ≡ k → ClaimsJust after (freed_of l (taken_of k) o).claims
+    go None found = left-fit l legs after o.claims just left (λ f x. ap (kind_here f x) found)
     go (Some k) found = one (taken k) refl
       where
-        one : (t : Option TakenLabel) → taken k ≡ t → ClaimsFit after (freed_of l t o)
-        one None has = left-fit l legs after o fit left (λ f x. ap (kind_here f x) found ∙ none-kind f x k has)
-        one (Some t) has = freed-fit l legs after o k t fit left found has
+        one : (t : Option TakenLabel) → taken k ≡ t → ClaimsJust after (freed_of l t o).claims
+        one None has = left-fit l legs after o.claims just left (λ f x. ap (kind_here f x) found ∙ none-kind f x k has)
+        one (Some t) has = freed-fit l legs after o.claims k t just left found has
 
-pub claimed-here : (l : Lsp) (legs : List Leg) (o : List FibreClaims) → ClaimsFit legs o →
-    IfSome (taken_of (find_leg l legs)) (λ t. has_label o t.fibre t.label l ≡ true)
+-- the marks stay
+pub freed-marks : (l : Lsp) (t : Option TakenLabel) (o : OwnerState) → (freed_of l t o).marks ≡ o.marks
+freed-marks l None o = refl
+freed-marks l (Some t) o = refl
+
+pub claimed-here : (l : Lsp) (legs : List Leg) (o : OwnerState) → ClaimsFit legs o →
+    IfSome (taken_of (find_leg l legs)) (λ t. has_label o.claims t.fibre t.label l ≡ true)
 claimed-here l legs o fit = go (find_leg l legs) refl
   where
-    go : (k : Option Leg) → find_leg l legs ≡ k → IfSome (taken_of k) (λ t. has_label o t.fibre t.label l ≡ true)
+    go : (k : Option Leg) → find_leg l legs ≡ k →
+        IfSome (taken_of k) (λ t. has_label o.claims t.fibre t.label l ≡ true)
     go None found = tt
     go (Some k) found = one (taken k) refl
       where
-        one : (t : Option TakenLabel) → taken k ≡ t → IfSome t (λ t. has_label o t.fibre t.label l ≡ true)
+        one : (t : Option TakenLabel) → taken k ≡ t → IfSome t (λ t. has_label o.claims t.fibre t.label l ≡ true)
         one None has = tt
         one (Some t) has = fit.all t.fibre t.label l k found (taken-takes k t has)
 
-pub entered-fit : (g : Leg) (legs : List Leg) (o : List FibreClaims) (t : TakenLabel) → ClaimsFit legs o →
-    taken g ≡ Some t →
-    MayClaim o legs g t → ClaimsFit (with_leg g legs) (claim_added t.fibre (first_claim g.role t.label g.lsp) o)
+pub entered-fit : (g : Leg) (legs : List Leg) (o : OwnerState) (t : TakenLabel) → ClaimsFit legs o →
+    taken g ≡ Some t → MayClaim o legs g t → ClaimsJust (with_leg g legs) (claimed_by g t o).claims
 entered-fit g legs o t fit has may =
-    claimed-fit g legs (with_leg g legs) o t fit (entered-with g legs may.fresh) has may.first may.comes_in may.within
+    claimed-fit g legs (with_leg g legs) o.claims t (just-of legs o fit) (entered-with g legs may.fresh) has
+    may.comes_in may.within
 
 -- The fibres stay
 
-pub same-fibres : (o : List FibreClaims) → SameFibres o o
-same-fibres o = record { fibres = λ f. refl; labels = λ f. refl }
-
-pub freed-fibres : (l : Lsp) (t : Option TakenLabel) (o : List FibreClaims) → SameFibres o (freed_of l t o)
-freed-fibres l None o = same-fibres o
+pub freed-fibres : (l : Lsp) (t : Option TakenLabel) (o : OwnerState) → SameFibres o (freed_of l t o)
+freed-fibres l None o = record { fibres = λ f. refl; labels = λ f. refl; marked = λ f. refl }
 freed-fibres l (Some t) o = record {
-  fibres = λ f. comes-kept t.fibre f (freed t.label l (claims_of t.fibre o)) o;
-  labels = λ f. labels-kept t.fibre f (freed t.label l (claims_of t.fibre o)) o;
+  fibres = λ f. comes-kept t.fibre f (freed t.label l (claims_of t.fibre o.claims)) o.claims;
+  labels = λ f. labels-kept t.fibre f (freed t.label l (claims_of t.fibre o.claims)) o.claims;
+  marked = λ f. refl;
 }
 
-pub claimed-fibres : (f : Fibre) (c : Claim) (o : List FibreClaims) → SameFibres o (claim_added f c o)
-claimed-fibres f c o = record {
-  fibres = λ h. comes-kept f h (claims_of f o ++ c ∷ []) o;
-  labels = λ h. labels-kept f h (claims_of f o ++ c ∷ []) o;
+pub claimed-fibres : (g : Leg) (t : TakenLabel) (o : OwnerState) → SameFibres o (claimed_by g t o)
+claimed-fibres g t o = record {
+  fibres = λ f. comes-kept t.fibre f (claims_of t.fibre o.claims ++ claim_by g.role t.label g.lsp ∷ []) o.claims;
+  labels = λ f. labels-kept t.fibre f (claims_of t.fibre o.claims ++ claim_by g.role t.label g.lsp ∷ []) o.claims;
+  marked = λ f. refl;
+}
+
+-- then marks change alone
+pub marked-fibres : (l : Lsp) (g : Option Leg) (a b c : OwnerState) → SameFibres a b → MarksJust l g b c →
+    SameFibres a c
+marked-fibres l g a b c same just = record {
+  fibres = λ f. ap (λ o. comes_in o f) just.claims ∙ same.fibres f;
+  labels = λ f. ap (labels_of f) just.claims ∙ same.labels f;
+  marked = λ f. just.fibres f ∙ same.marked f;
 }
 
 -- What the owner allows
 
-pub may-enter : (p : LocalNode) (legs : List Leg) (o : List FibreClaims) (s : List Guard) (c : LegChange) →
+pub may-enter : (p : LocalNode) (legs : List Leg) (o : OwnerState) (s : List Guard) (c : LegChange) →
     order.LegsRise legs → LabelsFit legs o s → OwnerFits p o → MayBeFirst p legs c → MayEnter o legs c
 may-enter p legs o s (Goes l) rise fit owner may = tt
 may-enter p legs o s (Put g) rise fit owner may = go (taken g) may
   where
     claims : (t : TakenLabel) → MayTake p legs g t → MayClaim o legs g t
     claims t may =
-        let comes : comes_in o t.fibre ≡ true = owner.fibres t.fibre ∙ may.comes_in in
+        let comes : comes_in o.claims t.fibre ≡ true = owner.fibres t.fibre ∙ may.comes_in in
         record {
           first = may.first;
           fresh = may.fresh;
@@ -120,9 +137,9 @@ is-none true f = absurd (f refl)
 is-none false f = refl
 
 -- an LSP whose leg takes no label has no claim
-pub none-had : (l : Lsp) (legs : List Leg) (o : List FibreClaims) (f : Fibre) (x : ℕ) → ClaimsFit legs o →
-    taken_of (find_leg l legs) ≡ None → not (has_label o f x l) ≡ true
-none-had l legs o f x fit bare = is-none (has_label o f x l) (none (claims_of f o) (fit.each f))
+pub none-had : (l : Lsp) (legs : List Leg) (o : OwnerState) (f : Fibre) (x : ℕ) → ClaimsFit legs o →
+    taken_of (find_leg l legs) ≡ None → not (has_label o.claims f x l) ≡ true
+none-had l legs o f x fit bare = is-none (has_label o.claims f x l) (none (claims_of f o.claims) (fit.each f))
   where
     apart : (c : Claim) → IsClaimOfLeg legs f c → is_of_lsp x l c ≡ true → ⊥
     apart c of e =
@@ -146,7 +163,7 @@ pub none-least : (p : Claim → Bool) (l : Lsp) (claims : List Claim) → NoClai
 none-least p l claims none least =
     no-true (list_any p claims) none (any-left p (λ c. same_lsp c.lsp l) claims least.passes)
 
-pub may-all-enter : (p : LocalNode) (legs : List Leg) (o : List FibreClaims) (s : List Guard) (cs : List LegChange) →
+pub may-all-enter : (p : LocalNode) (legs : List Leg) (o : OwnerState) (s : List Guard) (cs : List LegChange) →
     order.LegsRise legs → LabelsFit legs o s → OwnerFits p o → MayBeMade p legs cs → MayAllEnter o legs cs
 may-all-enter p legs o s [] rise fit owner may = tt
 may-all-enter p legs o s (c ∷ cs) rise fit owner may = (may-enter p legs o s c rise fit owner may.0, may.1)

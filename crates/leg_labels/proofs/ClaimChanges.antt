@@ -1,37 +1,72 @@
 -- The claims and the legs, after a leg gives up its label or takes one.
 use Rattle.std.proofs.Common.{◌≡◌, ◌≤◌, ℕ, Bool, true, false, not, nat_eq, List, [], ◌∷◌, ◌++◌, refl, sym, ap, subst, ◌∙◌}
-use Rattle.std.specs.Prelude.{◌&&◌, Some, None, is_some}
+use Rattle.std.specs.Prelude.{◌&&◌, Some, None}
 use Rattle.std.specs.List.{AllByRecursion, list_any}
-use Rattle.ason_base.specs.declared.calls.Phase.TheVariants as phase
-use Rattle.ason_base.specs.declared.calls.Role.{Role}
-use Rattle.ason_base.specs.declared.calls.Role.TheVariants.{Work, Back}
 use Rattle.ason_base.specs.declared.ids.Fibre.{Fibre}
 use Rattle.ason_base.specs.declared.ids.Lsp.{Lsp}
 use Rattle.ason_base.specs.declared.tables.Leg.{Leg}
 use Rattle.ason_base.specs.Lsps.{same_fibre, same_lsp}
 use Rattle.link_owner.specs.Claims.{FibreClaims, freed, is_of_lsp}
-use Rattle.link_owner.specs.Owners.{claim_added, claims_of, comes_in, has_label, label_freed, labels_of}
+use Rattle.link_owner.specs.Owners.{OwnerState, claim_added, claims_of, comes_in, has_label, label_freed, labels_of}
 use Rattle.link_owner.specs.declared.claims.Claim.{Claim}
-use Rattle.mesh_rules.specs.Legs.{find_leg, is_work, reserved}
+use Rattle.mesh_rules.specs.Legs.{find_leg}
 use Rattle.mesh_nodes.proofs.Cases.{both_right}
 use Rattle.mesh_nodes.proofs.LegList.{same_lsp-eq, same_lsp-refl}
 use Rattle.leg_table.specs.declared.labels.TakenLabel.{TakenLabel}
-use Rattle.leg_table.specs.LegClaims.{ClaimsFit, IsClaimOfLeg, claim_kind, first_claim, first_kind, kind_here, taken, takes_in}
+use Rattle.leg_table.specs.LegClaims.{ClaimsFit, IsClaimOfLeg, MarksFit, claim_by, claim_kind, kind_here, taken, takes_in}
 use Rattle.leg_table.proofs.OwnerFibres.{claimed-comes, claims-elsewhere, claims-there, labels-kept, same_fibre-eq, same_fibre-refl}
-use Rattle.leg_table.proofs.LeftLabels.{Left, all-to, left-live, left-within}
+use Rattle.leg_table.proofs.LeftLabels.{Left, all-to, left-old}
 use Rattle.leg_table.proofs.TakenLabels.{taken-takes, takes-taken}
 use Rattle.leg_labels.proofs.ClaimLists.{all-left, all-one_more, any-left_in, any-first, any-last, same_number, kind-of}
 
+-- the claims are exactly the labels that legs take
+pub record ClaimsJust (legs : List Leg) (o : List FibreClaims) : Type 0 where
+  pub each : (f : Fibre) → AllByRecursion (IsClaimOfLeg legs f) (claims_of f o)
+  pub all : (f : Fibre) (x : ℕ) (l : Lsp) (g : Leg) → find_leg l legs ≡ Some g → takes_in f x g ≡ true →
+      has_label o f x l ≡ true
+  pub within : (f : Fibre) (x : ℕ) (l : Lsp) (g : Leg) → find_leg l legs ≡ Some g → takes_in f x g ≡ true →
+      x ≤ labels_of f o
+
+pub just-of : (legs : List Leg) (o : OwnerState) → ClaimsFit legs o → ClaimsJust legs o.claims
+just-of legs o fit = record { each = fit.each; all = fit.all; within = fit.within }
+
+-- with the marks of the legs they fit
+pub fit-of : (legs : List Leg) (o : OwnerState) → ClaimsJust legs o.claims → MarksFit legs o → ClaimsFit legs o
+fit-of legs o just marks = record { each = just.each; all = just.all; within = just.within; marks = marks }
+
+-- labels that are left are labels of their fibres
+left-within : (l : Lsp) (legs after : List Leg) (o : List FibreClaims) → ClaimsJust legs o → Left l legs after →
+    (f : Fibre) (x : ℕ) (m : Lsp) (g : Leg) → find_leg m after ≡ Some g → takes_in f x g ≡ true → x ≤ labels_of f o
+left-within l legs after o fit left f x m g found t =
+    fit.within f x m g (left-old l legs after left m g _ found (takes-taken f x g t)) t
+
+-- the leg of the LSP took no label: nothing has to be freed
+pub left-fit : (l : Lsp) (legs after : List Leg) (o : List FibreClaims) → ClaimsJust legs o → Left l legs after →
+    ((f : Fibre) (x : ℕ) → kind_here f x (find_leg l legs) ≡ None) → ClaimsJust after o
+left-fit l legs after o fit left bare = record {
+  each =
+      λ f. all-to (IsClaimOfLeg legs f) (IsClaimOfLeg after f) (claims_of f o)
+      (λ c e. kept f c (same_lsp l c.lsp) refl e) (fit.each f);
+  all = λ f x m g found t. fit.all f x m g (left-old l legs after left m g _ found (takes-taken f x g t)) t;
+  within = left-within l legs after o fit left;
+}
+  where
+    kept : (f : Fibre) (c : Claim) (b : Bool) → same_lsp l c.lsp ≡ b → IsClaimOfLeg legs f c → IsClaimOfLeg after f c
+    kept f c true s e =
+        let none : kind_here f c.label (find_leg c.lsp legs) ≡ None =
+        subst (λ m. kind_here f c.label (find_leg m legs) ≡ None) (same_lsp-eq l c.lsp s) (bare f c.label) in
+        absurd (cc (none, e))
+    kept f c false s e = subst (λ o. kind_here f c.label o ≡ Some c.kind) (sym (left.others c.lsp s)) e
+
 -- the label that the leg of the LSP took is freed
 pub freed-fit : (l : Lsp) (legs after : List Leg) (o : List FibreClaims) (k : Leg) (t : TakenLabel) →
-    ClaimsFit legs o → Left l legs after →
-    find_leg l legs ≡ Some k → taken k ≡ Some t → ClaimsFit after (label_freed t.fibre t.label l o)
+    ClaimsJust legs o → Left l legs after →
+    find_leg l legs ≡ Some k → taken k ≡ Some t → ClaimsJust after (label_freed t.fibre t.label l o)
 freed-fit l legs after o k t fit left found has = record {
   each = λ f. go f (same_fibre t.fibre f) refl;
   all = λ f x m g there it. stays f x m g (same_lsp l m) refl there it;
   within =
       λ f x m g there it. rw (labels-kept t.fibre f rest o) (left-within l legs after o fit left f x m g there it);
-  live = left-live l legs after fit.live left;
 }
   where
     before : List Claim
@@ -107,7 +142,7 @@ freed-fit l legs after o k t fit left found has = record {
         let is : l ≡ m = same_lsp-eq l m s in
         let none : kind_here f x (find_leg m after) ≡ None =
         subst (λ k. kind_here f x (find_leg k after) ≡ None) is (left.none f x) in
-        let some : kind_here f x (find_leg m after) ≡ Some (claim_kind g.role g.phase) = rw (there, taking) refl in
+        let some : kind_here f x (find_leg m after) ≡ Some (claim_kind g.role) = rw (there, taking) refl in
         absurd (cc (none, some))
     stays f x m g false s there taking = put (same_fibre t.fibre f) refl
       where
@@ -138,33 +173,23 @@ freed-fit l legs after o k t fit left found has = record {
 
 -- A leg that takes a label: its LSP took none before
 
--- it has the claim that a leg has at first
-pub reserved-kind : (r : Role) → claim_kind r (reserved r) ≡ first_kind r
-reserved-kind Work = refl
-reserved-kind Back = refl
-
-reserved-live : (r : Role) → is_work r ≡ true → reserved r ≡ phase.Live
-reserved-live Work e = refl
-reserved-live Back e = absurd (cc e)
-
 pub record Entered (g : Leg) (legs after : List Leg) : Type 0 where
   pub others : (m : Lsp) → same_lsp g.lsp m ≡ false → find_leg m after ≡ find_leg m legs
   pub here : find_leg g.lsp after ≡ Some g
   pub bare : (f : Fibre) (x : ℕ) → kind_here f x (find_leg g.lsp legs) ≡ None
 
-pub claimed-fit : (g : Leg) (legs after : List Leg) (o : List FibreClaims) (t : TakenLabel) → ClaimsFit legs o →
+pub claimed-fit : (g : Leg) (legs after : List Leg) (o : List FibreClaims) (t : TakenLabel) → ClaimsJust legs o →
     Entered g legs after →
-    taken g ≡ Some t → g.phase ≡ reserved g.role → comes_in o t.fibre ≡ true → t.label ≤ labels_of t.fibre o →
-    ClaimsFit after (claim_added t.fibre (first_claim g.role t.label g.lsp) o)
-claimed-fit g legs after o t fit entered has first comes below = record {
+    taken g ≡ Some t → comes_in o t.fibre ≡ true → t.label ≤ labels_of t.fibre o →
+    ClaimsJust after (claim_added t.fibre (claim_by g.role t.label g.lsp) o)
+claimed-fit g legs after o t fit entered has comes below = record {
   each = λ f. go f (same_fibre t.fibre f) refl;
   all = λ f x m h there it. claimed f x m h (same_lsp g.lsp m) refl there it;
   within = λ f x m h there it. rw (labels-kept t.fibre f more o) (within f x m h (same_lsp g.lsp m) refl there it);
-  live = λ m h there some work. live m h (same_lsp g.lsp m) refl there some work;
 }
   where
     c0 : Claim
-    c0 = first_claim g.role t.label g.lsp
+    c0 = claim_by g.role t.label g.lsp
 
     before : List Claim
     before = claims_of t.fibre o
@@ -189,13 +214,6 @@ claimed-fit g legs after o t fit entered has first comes below = record {
         subst (λ (u : TakenLabel). u.label ≤ labels_of u.fibre o) (sym same) below
     within f x m h false s there taking = fit.within f x m h (sym (entered.others m s) ∙ there) taking
 
-    live : (m : Lsp) (h : Leg) (b : Bool) → same_lsp g.lsp m ≡ b → find_leg m after ≡ Some h →
-        is_some (taken h) ≡ true → is_work h.role ≡ true → h.phase ≡ phase.Live
-    live m h true s there some work =
-        let is = its m h s there in
-        ap (λ k. k.phase) is ∙ first ∙ reserved-live g.role (sym (ap (λ k. is_work k.role) is) ∙ work)
-    live m h false s there some work = fit.live m h (sym (entered.others m s) ∙ there) some work
-
     old : (f : Fibre) (c : Claim) (b : Bool) → same_lsp g.lsp c.lsp ≡ b → IsClaimOfLeg legs f c → IsClaimOfLeg after f c
     old f c true s e =
         let is : g.lsp ≡ c.lsp = same_lsp-eq g.lsp c.lsp s in
@@ -206,8 +224,8 @@ claimed-fit g legs after o t fit entered has first comes below = record {
 
     new : IsClaimOfLeg after t.fibre c0
     new =
-        subst (λ o. kind_here t.fibre t.label o ≡ Some (first_kind g.role)) (sym entered.here)
-        (rw (taken-takes g t has) (ap (λ p. Some (claim_kind g.role p)) first ∙ ap Some (reserved-kind g.role)))
+        subst (λ o. kind_here t.fibre t.label o ≡ Some (claim_kind g.role)) (sym entered.here)
+        (rw (taken-takes g t has) refl)
 
     go : (f : Fibre) (b : Bool) → same_fibre t.fibre f ≡ b →
         AllByRecursion (IsClaimOfLeg after f) (claims_of f o2)

@@ -74,6 +74,6 @@ not-of false e = refl
 pub kind-of : (f : Fibre) (x : ℕ) (g : Leg) (k : ClaimKind) → kind_here f x (Some g) ≡ Some k → takes_in f x g ≡ true
 kind-of f x g k e = go (takes_in f x g) refl e
   where
-    go : (b : Bool) → takes_in f x g ≡ b → cond b (Some (claim_kind g.role g.phase)) None ≡ Some k → b ≡ true
+    go : (b : Bool) → takes_in f x g ≡ b → cond b (Some (claim_kind g.role)) None ≡ Some k → b ≡ true
     go true t e = refl
     go false t e = absurd (cc e)

@@ -9,8 +9,8 @@ use Rattle.ason_base.specs.declared.risks.Risk.{Risk}
 use Rattle.ason_base.specs.declared.tables.Leg.{Leg}
 use Rattle.ason_base.specs.Lsps.{same_lsp}
 use Rattle.ason_base.proofs.MaskMembers.{filter-agree}
-use Rattle.link_owner.specs.Claims.{FibreClaims, has, unclaimed}
-use Rattle.link_owner.specs.Owners.{claims_of, comes_in, labels_of}
+use Rattle.link_owner.specs.Claims.{has, unclaimed}
+use Rattle.link_owner.specs.Owners.{OwnerState, claims_of, comes_in, labels_of}
 use Rattle.link_owner.specs.declared.claims.Claim.{Claim}
 use Rattle.mesh_rules.specs.Legs.{find_leg, is_usable, takes, usable}
 use Rattle.mesh_rules.specs.LocalNodes.{LocalNode, own_link}
@@ -69,27 +69,27 @@ of_each {X} p P (x ∷ xs) all h = go (p x) refl h (of_each p P xs all.1)
     go true e h later = all.0 e
     go false e h later = later h
 
-legs_claim : (legs : List Leg) (o : List FibreClaims) (f : Fibre) (x : ℕ) → LegsRise legs → OneWay legs →
-    ClaimsFit legs o → list_any (takes f x) legs ≡ true → list_any (has x) (claims_of f o) ≡ true
+legs_claim : (legs : List Leg) (o : OwnerState) (f : Fibre) (x : ℕ) → LegsRise legs → OneWay legs →
+    ClaimsFit legs o → list_any (takes f x) legs ≡ true → list_any (has x) (claims_of f o.claims) ≡ true
 legs_claim legs o f x rise one fit h =
-    of_each (takes f x) (list_any (has x) (claims_of f o) ≡ true) legs
-    (all-found (λ g. takes f x g ≡ true → list_any (has x) (claims_of f o) ≡ true) legs rise
-    (λ l g found t. any-left (λ c. nat_eq c.label x) (λ c. same_lsp c.lsp l) (claims_of f o)
+    of_each (takes f x) (list_any (has x) (claims_of f o.claims) ≡ true) legs
+    (all-found (λ g. takes f x g ≡ true → list_any (has x) (claims_of f o.claims) ≡ true) legs rise
+    (λ l g found t. any-left (λ c. nat_eq c.label x) (λ c. same_lsp c.lsp l) (claims_of f o.claims)
     (fit.all f x l g found (sym (one l g found f x) ∙ t))))
     h
 
 -- some leg claims a label exactly where some leg takes it
-pub claimed-taken : (legs : List Leg) (o : List FibreClaims) (f : Fibre) (x : ℕ) → LegsRise legs → OneWay legs →
-    ClaimsFit legs o → list_any (has x) (claims_of f o) ≡ list_any (takes f x) legs
+pub claimed-taken : (legs : List Leg) (o : OwnerState) (f : Fibre) (x : ℕ) → LegsRise legs → OneWay legs →
+    ClaimsFit legs o → list_any (has x) (claims_of f o.claims) ≡ list_any (takes f x) legs
 claimed-taken legs o f x rise one fit =
-    iff _ _ (claims_take legs f x (claims_of f o) (fit.each f)) (legs_claim legs o f x rise one fit)
+    iff _ _ (claims_take legs f x (claims_of f o.claims) (fit.each f)) (legs_claim legs o f x rise one fit)
 
 -- the labels that no leg claims are those that a working leg may take
-pub unclaimed-usable : (p : LocalNode) (legs : List Leg) (risks : List Risk) (o : List FibreClaims) (f : Fibre) →
-    LegsRise legs → OneWay legs → ClaimsFit legs o → OwnerFits p o → comes_in o f ≡ true →
-    unclaimed (labels_of f o) (claims_of f o) ≡ usable p legs Work risks f
+pub unclaimed-usable : (p : LocalNode) (legs : List Leg) (risks : List Risk) (o : OwnerState) (f : Fibre) →
+    LegsRise legs → OneWay legs → ClaimsFit legs o → OwnerFits p o → comes_in o.claims f ≡ true →
+    unclaimed (labels_of f o.claims) (claims_of f o.claims) ≡ usable p legs Work risks f
 unclaimed-usable p legs risks o f rise one fit owner comes =
     rw (owner.labels f comes)
-    (filter-agree (λ x. not (list_any (has x) (claims_of f o))) (is_usable Work risks legs f)
+    (filter-agree (λ x. not (list_any (has x) (claims_of f o.claims))) (is_usable Work risks legs f)
     (up_to (local.labels_of (own_link p f.link)))
     (λ x h. ap not (claimed-taken legs o f x rise one fit)))

@@ -1,5 +1,5 @@
 -- The legs that a Path, a PathTear, a Resv or a PathErr changes may be changed so: just the first takes a label, and one
--- that is usable.
+-- that is usable; and one is marked just where it was or isn't contended.
 use Rattle.std.proofs.Common.{◌≡◌, inl, ℕ, Bool, true, false, cond, not, nat_eq, List, [], ◌∷◌, refl, sym, ap, subst, ◌∙◌, drop}
 use Rattle.std.specs.Prelude.{◌&&◌, Option, Some, None, IfSome}
 use Rattle.std.specs.List.{AllByRecursion}
@@ -19,30 +19,30 @@ use Rattle.ason_base.specs.declared.tables.Leg.{Leg}
 use Rattle.ason_base.specs.declared.tables.Out.{Out}
 use Rattle.mesh_rules.specs.declared.arrivals.Arrival.{Arrival}
 use Rattle.mesh_rules.specs.declared.neighbours.Neighbour.{Neighbour}
-use Rattle.mesh_rules.specs.CallSteps.{call_answered}
+use Rattle.mesh_rules.specs.CallSteps.{call_answered, call_refused}
 use Rattle.mesh_rules.specs.Calls.{call_with}
-use Rattle.mesh_rules.specs.Changes.{Answer, followed_by, puts}
-use Rattle.mesh_rules.specs.Legs.{connected, find_leg, following, is_asked, is_closing, is_node, is_over, label_through, neighbour_over, only, previous, reserved}
+use Rattle.mesh_rules.specs.Changes.{followed_by, puts}
+use Rattle.mesh_rules.specs.Legs.{connected, find_leg, following, is_asked, is_closing, is_node, is_over, label_through, neighbour_over, only, previous, reserved, with_leg, without_leg}
 use Rattle.mesh_rules.specs.LocalNodes.{LocalNode, fibre_in, leads, own_link}
 use Rattle.mesh_rules.specs.PathErrs.{PathFailure, err_passed, on_path_err, path_err_with, removed}
-use Rattle.mesh_rules.specs.Paths.{PathRequest, admitted, at_egress, checks, egress_leg, first_failure, first_path, in_transit, is_active, judged, offered_labels, on_path, path_with, risks_here, role_of}
+use Rattle.mesh_rules.specs.Paths.{PathRequest, admitted, at_egress, checks, egress_leg, first_failure, first_path, in_transit, is_active, judged, offered_labels, on_path, path_with, risks_here, role_of, transit_leg}
 use Rattle.mesh_rules.specs.Resvs.{answered, is_expected, labels_left, on_resv, passed_back, resv_with}
 use Rattle.mesh_rules.specs.State.{NodeState}
 use Rattle.mesh_rules.specs.Tears.{on_tear, tear_with, torn}
 use Rattle.mesh_nodes.specs.Kept.{LegFits}
-use Rattle.mesh_nodes.specs.LocalNodes.{is_upstream}
-use Rattle.mesh_nodes.proofs.Cases.{both_left, if_cases}
+use Rattle.mesh_nodes.specs.LocalNodes.{LocalNodeFits, is_upstream}
+use Rattle.mesh_nodes.proofs.Cases.{both_left, both_right, if_cases}
+use Rattle.mesh_nodes.proofs.Kept.{alone-fibre, connected-fits, over-fibre}
 use Rattle.mesh_nodes.proofs.LegList.{found-all, found-lsp}
 use Rattle.mesh_nodes.proofs.Links.{any-found}
-use Rattle.leg_table.specs.LegClaims.{MayBeMade, MayBePut, MayHave, MayTake, WorksAreLive, is_fibre_in, taken, taken_of, taken_over}
+use Rattle.leg_table.specs.LegClaims.{MayBePut, MayHave, MayTake, OverOwnFibres, is_fibre_in, is_own_fibre, taken, taken_of, taken_over}
+use Rattle.leg_table.proofs.OwnFibres.{over-own}
 use Rattle.leg_labels.proofs.Activated.{contended-may, path_again-may, resv_again-may}
-use Rattle.leg_labels.proofs.CallLegs.{answered-none, bare, connected-never, refused-none}
+use Rattle.leg_labels.proofs.CallLegs.{Fine, answered-calm, bare, connected-never, dark-calm, put-turns, refused-dark}
 use Rattle.leg_labels.proofs.InFibres.{upstream-fibre_in}
+use Rattle.leg_labels.proofs.MayMark.{closed-marks, dark, plain, reserved-plain}
 use Rattle.leg_labels.proofs.MayPut.{asked-taken, closed-may, least-has, met-usable}
 use Rattle.leg_table.proofs.OwnerFibres.{same_fibre-refl}
-
-abbrev pub Fine : LocalNode → List Leg → Answer → Type 0
-Fine p legs a = MayBeMade p legs a.legs
 
 -- a leg that gets its label takes it, if it has a fibre in
 reserved-taken : (r : Role) (g : Leg) → g.phase ≡ reserved r → taken g ≡ taken_over g.in_fibre g.in_label
@@ -83,90 +83,106 @@ module _ (p : LocalNode) (s : NodeState) (m : PathRequest) (absent : find_leg m.
 
   egress-may : (link : LinkSpec) (o : Option ℕ) → own_link p m.arrival.link ≡ Some link →
       least (offered_labels p s m link) ≡ o →
-      MayBeMade p s.legs (at_egress p m link (risks_here p s m) (offered_labels p s m link) o).legs
-  egress-may link None own e = tt
-  egress-may link (Some x) own e = (
-    egress-taken link (offered_labels p s m link) x (record {
-      first = refl;
-      fresh = ap taken_of absent;
-      comes_in = own-in p m link own;
-      usable = met-usable p s.legs (role_of m.role) (risks_here p s m) (fibre_in link p.id) m.set x
-          (least-has (offered_labels p s m link) x e);
-    }),
-    tt,
-  )
+      Fine p s.legs (at_egress p m link (risks_here p s m) (offered_labels p s m link) o)
+  egress-may link None own e = (tt, tt)
+  egress-may link (Some x) own e =
+      let g = egress_leg p m link (risks_here p s m) (offered_labels p s m link) x in
+      let may : MayTake p s.legs g (record { fibre = fibre_in link p.id; label = x }) = record {
+        first = refl;
+        fresh = ap taken_of absent;
+        comes_in = own-in p m link own;
+        usable = met-usable p s.legs (role_of m.role) (risks_here p s m) (fibre_in link p.id) m.set x
+            (least-has (offered_labels p s m link) x e);
+      } in (
+        (egress-taken link (offered_labels p s m link) x may, tt),
+        (dark (is_own_fibre p) s.legs g (reserved-plain (role_of m.role)), tt),
+      )
 
   transit-may : (link : LinkSpec) (risks : List Risk) (route : List Step) (offered : List ℕ) (o : Option LinkSpec) →
-      MayBeMade p s.legs (in_transit p m link risks route offered o).legs
-  transit-may link risks route offered None = tt
-  transit-may link risks route offered (Some out) = (tt, tt)
+      Fine p s.legs (in_transit p m link risks route offered o)
+  transit-may link risks route offered None = (tt, tt)
+  transit-may link risks route offered (Some out) = (
+    (tt, tt),
+    (
+      dark (is_own_fibre p) s.legs (transit_leg p m link risks out route offered)
+          (plain (transit_leg p m link risks out route offered) refl),
+      tt,
+    ),
+  )
 
   admitted-may : (link : LinkSpec) (route : List Step) → own_link p m.arrival.link ≡ Some link →
-      MayBeMade p s.legs (admitted p m link (risks_here p s m) (offered_labels p s m link) route).legs
+      Fine p s.legs (admitted p m link (risks_here p s m) (offered_labels p s m link) route)
   admitted-may link [] own = egress-may link (least (offered_labels p s m link)) own refl
   admitted-may link (hop ∷ route) own =
       transit-may link (risks_here p s m) route (offered_labels p s m link) (own_link p hop.link)
 
   judged-may : (link : LinkSpec) (o : Option ErrCode) → own_link p m.arrival.link ≡ Some link →
-      MayBeMade p s.legs (judged p s m link o).legs
+      Fine p s.legs (judged p s m link o)
   judged-may link None own = admitted-may link m.route own
-  judged-may link (Some code) own = tt
+  judged-may link (Some code) own = (tt, tt)
 
-  first-may : (o : Option LinkSpec) → own_link p m.arrival.link ≡ o → MayBeMade p s.legs (first_path p s m o).legs
-  first-may None own = tt
+  first-may : (o : Option LinkSpec) → own_link p m.arrival.link ≡ o → Fine p s.legs (first_path p s m o)
+  first-may None own = (tt, tt)
   first-may (Some link) own =
       if_cases (Fine p s.legs)
       (not (is_active m.role) && (leads (Some link) m.arrival.from p.id
       && not (nat_eq m.arrival.lsp.ingress.0 p.id.0))) _ _
-      (λ e. judged-may link (first_failure (checks p s m link)) own) (λ e. tt)
+      (λ e. judged-may link (first_failure (checks p s m link)) own) (λ e. (tt, tt))
 
 -- the first Path of an LSP
 pub first_path-may : (p : LocalNode) (s : NodeState) (m : PathRequest) → find_leg m.arrival.lsp s.legs ≡ None →
-    MayBeMade p s.legs (first_path p s m (own_link p m.arrival.link)).legs
+    Fine p s.legs (first_path p s m (own_link p m.arrival.link))
 first_path-may p s m absent = first-may p s m absent (own_link p m.arrival.link) refl
 
-path-with : (p : LocalNode) (s : NodeState) (m : PathRequest) (o : Option Leg) → WorksAreLive s.legs →
-    find_leg m.arrival.lsp s.legs ≡ o → MayBeMade p s.legs (path_with p s m o).legs
-path-with p s m None live absent = first_path-may p s m absent
-path-with p s m (Some g) live found =
-    path_again-may p s g live (found-itself m.arrival.lsp s.legs g found) m.arrival (drop 1 m.route) m.role
-
-pub path-may : (p : LocalNode) (s : NodeState) (m : PathRequest) → WorksAreLive s.legs →
-    MayBeMade p s.legs (on_path p s m).legs
-path-may p s m live = path-with p s m (find_leg m.arrival.lsp s.legs) live refl
+pub path-may : (p : LocalNode) (s : NodeState) (next : ℕ) (m : PathRequest) → LocalNodeFits p →
+    AllByRecursion (LegFits p next) s.legs → Fine p s.legs (on_path p s m)
+path-may p s next m links each = go (find_leg m.arrival.lsp s.legs) refl
+  where
+    go : (o : Option Leg) → find_leg m.arrival.lsp s.legs ≡ o → Fine p s.legs (path_with p s m o)
+    go None absent = first_path-may p s m absent
+    go (Some g) found =
+        path_again-may p s next g links (found-all (LegFits p next) m.arrival.lsp s.legs g found each)
+        (found-itself m.arrival.lsp s.legs g found) m.arrival (drop 1 m.route) m.role
 
 -- PathTear
 
 torn-may : (p : LocalNode) (legs : List Leg) (g : Leg) (out : Out) (o : Option Neighbour) →
-    MayBeMade p legs (torn g out o).legs
-torn-may p legs g out None = (tt, tt)
-torn-may p legs g out (Some h) = (closed-may p legs g, tt)
+    find_leg g.lsp legs ≡ Some g → Fine p legs (torn g out o)
+torn-may p legs g out None there = ((tt, tt), (tt, tt))
+torn-may p legs g out (Some h) there = ((closed-may p legs g, tt), (closed-marks (is_own_fibre p) legs g there, tt))
 
-pub tear-may : (p : LocalNode) (s : NodeState) (a : Arrival) → MayBeMade p s.legs (on_tear p s a).legs
-tear-may p s a = go (find_leg a.lsp s.legs)
+pub tear-may : (p : LocalNode) (s : NodeState) (a : Arrival) → Fine p s.legs (on_tear p s a)
+tear-may p s a = go (find_leg a.lsp s.legs) refl
   where
-    go : (o : Option Leg) → MayBeMade p s.legs (tear_with p a o).legs
-    go None = tt
-    go (Some g) =
+    go : (o : Option Leg) → find_leg a.lsp s.legs ≡ o → Fine p s.legs (tear_with p a o)
+    go None found = (tt, tt)
+    go (Some g) found =
         if_cases (Fine p s.legs) (not (is_closing g.phase) && is_over (previous g) a.from a.link) _ _
-        (λ e. torn-may p s.legs g _ (following g)) (λ e. tt)
+        (λ e. torn-may p s.legs g _ (following g) (found-itself a.lsp s.legs g found)) (λ e. (tt, tt))
 
 -- Resv
 
 connected-may : (p : LocalNode) (s : NodeState) (g : Leg) (x : ℕ) (o : Option CallRec) →
-    MayBeMade p s.legs (followed_by (puts (connected g None x) []) (call_answered p s (connected g None x) o)).legs
-connected-may p s g x o = (
-  bare p s.legs (connected g None x) (connected-never g x (reserved g.role)),
-  answered-none p s (connected g None x) o (connected-never g x),
-)
+    OverOwnFibres p (connected g None x) →
+    Fine p s.legs (followed_by (puts (connected g None x) []) (call_answered p s (connected g None x) o))
+connected-may p s g x o over =
+    let c = connected g None x in
+    let never = connected-never g x in
+    let calm = answered-calm p s (with_leg c s.legs) c o (put-turns p s.legs c never over) in (
+      (bare p s.legs c (never (reserved g.role)), calm.0),
+      (dark (is_own_fibre p) s.legs c (reserved-plain g.role), calm.1),
+    )
 
 beside : (n : Option NodeId) (f : Option Fibre) (h : Neighbour) → neighbour_over n f ≡ Some h → f ≡ Some h.fibre
 beside None f h e = absurd (cc e)
 beside (Some n) None h e = absurd (cc e)
 beside (Some n) (Some f) h e = let is : record { node = n; fibre = f } ≡ h = cc in ap (λ k. Some k.fibre) is
 
-module _ (p : LocalNode) (s : NodeState) (a : Arrival) (x : ℕ) (g : Leg) (found : find_leg a.lsp s.legs ≡ Some g)
-    (upstream : IfSome (previous g) (λ h. is_upstream p h ≡ true)) (wait : is_asked g.phase ≡ true) where
+module _ (p : LocalNode) (s : NodeState) (next : ℕ) (a : Arrival) (x : ℕ) (g : Leg) (links : LocalNodeFits p)
+    (fits : LegFits p next g) (there : find_leg g.lsp s.legs ≡ Some g) (takes : is_expected a x g ≡ true) where
+  rest : (is_over (following g) a.from a.link && has g.sent x) ≡ true
+  rest = both_right (is_asked g.phase) _ takes
+
   -- the leg that gets a label takes it
   passed-taken : (y : ℕ) (h : Neighbour) → g.in_fibre ≡ Some h.fibre →
       MayTake p s.legs (connected g (Some y) x) (record { fibre = h.fibre; label = y }) →
@@ -176,61 +192,67 @@ module _ (p : LocalNode) (s : NodeState) (a : Arrival) (x : ℕ) (g : Leg) (foun
       (sym (reserved-taken g.role (connected g (Some y) x) refl ∙ ap (λ i. taken_over i (Some y)) before)) (inl may)
 
   passed-may : (h : Neighbour) (o : Option ℕ) → previous g ≡ Some h → label_through p (labels_left p s g h) x ≡ o →
-      MayBeMade p s.legs (passed_back p a g h x o).legs
-  passed-may h None before e = (closed-may p s.legs g, tt)
+      Fine p s.legs (passed_back p a g h x o)
+  passed-may h None before e = ((closed-may p s.legs g, tt), (closed-marks (is_own_fibre p) s.legs g there, tt))
   passed-may h (Some y) before e = (
-    passed-taken y h (beside g.prev g.in_fibre h before) may,
-    tt,
+    (passed-taken y h (beside g.prev g.in_fibre h before) may, tt),
+    (dark (is_own_fibre p) s.legs (connected g (Some y) x) (reserved-plain g.role), tt),
   )
     where
       may : MayTake p s.legs (connected g (Some y) x) (record { fibre = h.fibre; label = y })
       may = record {
         first = refl;
-        fresh = ap taken_of (found-itself a.lsp s.legs g found) ∙ asked-taken g wait;
-        comes_in = upstream-fibre_in p h (subst (λ o. IfSome o (λ h. is_upstream p h ≡ true)) before upstream);
+        fresh = ap taken_of there ∙ asked-taken g (both_left (is_asked g.phase) _ takes);
+        comes_in = upstream-fibre_in p h (subst (λ o. IfSome o (λ h. is_upstream p h ≡ true)) before fits.upstream);
         usable = met-usable p s.legs g.role g.risks h.fibre g.offered y
             (label-has p.convert (labels_left p s g h) x y e);
       }
 
-  answered-may : (o : Option Neighbour) → previous g ≡ o → MayBeMade p s.legs (answered p s a x g o).legs
-  answered-may None before = connected-may p s g x (call_with g.lsp s.calls)
+  answered-may : (o : Option Neighbour) → previous g ≡ o → Fine p s.legs (answered p s a x g o)
+  answered-may None before =
+      let alone = alone-fibre g.prev g.in_fibre fits.in_fibre before in
+      let out = over-fibre g.next g.out_fibre a.from a.link (both_left (is_over (following g) a.from a.link) _ rest) in
+      connected-may p s g x (call_with g.lsp s.calls)
+      (over-own p next (connected g None x) links (connected-fits p next g None x fits (sym alone) out))
   answered-may (Some h) before = passed-may h (label_through p (labels_left p s g h) x) before refl
 
--- the legs come from neighbours
-pub resv-may : (p : LocalNode) (s : NodeState) (next : ℕ) (a : Arrival) (x : ℕ) →
-    AllByRecursion (LegFits p next) s.legs → WorksAreLive s.legs → MayBeMade p s.legs (on_resv p s a x).legs
-resv-may p s next a x each live = go (find_leg a.lsp s.legs) refl
+pub resv-may : (p : LocalNode) (s : NodeState) (next : ℕ) (a : Arrival) (x : ℕ) → LocalNodeFits p →
+    AllByRecursion (LegFits p next) s.legs → Fine p s.legs (on_resv p s a x)
+resv-may p s next a x links each = go (find_leg a.lsp s.legs) refl
   where
-    go : (o : Option Leg) → find_leg a.lsp s.legs ≡ o → MayBeMade p s.legs (resv_with p s a x o).legs
-    go None found = tt
+    go : (o : Option Leg) → find_leg a.lsp s.legs ≡ o → Fine p s.legs (resv_with p s a x o)
+    go None found = (tt, tt)
     go (Some g) found =
         let fits = found-all (LegFits p next) a.lsp s.legs g found each in
+        let there = found-itself a.lsp s.legs g found in
         if_cases (Fine p s.legs) (is_expected a x g) _ _
-        (λ e. answered-may p s a x g found fits.upstream
-        (both_left (is_asked g.phase) (is_over (following g) a.from a.link && has g.sent x) e) (previous g) refl)
-        (λ e. resv_again-may p s g live (found-itself a.lsp s.legs g found) next a x fits)
+        (λ e. answered-may p s next a x g links fits there e (previous g) refl)
+        (λ e. resv_again-may p s next g links fits there a x)
 
 -- PathErr
 
 passed_err-may : (p : LocalNode) (s : NodeState) (g : Leg) (e : PathFailure) (o : Option Neighbour) →
-    MayBeMade p s.legs (err_passed s g e o).legs
-passed_err-may p s g e (Some h) = (tt, tt)
-passed_err-may p s g e None = (tt, refused-none e.code g (call_with g.lsp s.calls))
+    Fine p s.legs (err_passed s g e o)
+passed_err-may p s g e (Some h) = ((tt, tt), (tt, tt))
+passed_err-may p s g e None =
+    let a = call_refused e.code g (call_with g.lsp s.calls) in
+    let calm = dark-calm p (without_leg g.lsp s.legs) a (refused-dark e.code g (call_with g.lsp s.calls)) in
+    ((tt, calm.0), (tt, calm.1))
 
-pub removed-may : (p : LocalNode) (s : NodeState) (g : Leg) (e : PathFailure) → MayBeMade p s.legs (removed s g e).legs
+pub removed-may : (p : LocalNode) (s : NodeState) (g : Leg) (e : PathFailure) → Fine p s.legs (removed s g e)
 removed-may p s g e =
     if_cases (Fine p s.legs) (is_asked g.phase) _ _ (λ t. passed_err-may p s g e (previous g))
-    (λ t. if_cases (Fine p s.legs) (is_closing g.phase) _ _ (λ t. (tt, tt)) (λ t. tt))
+    (λ t. if_cases (Fine p s.legs) (is_closing g.phase) _ _ (λ t. ((tt, tt), (tt, tt))) (λ t. (tt, tt)))
 
-pub err-may : (p : LocalNode) (s : NodeState) (next : ℕ) (u : NodeId) (e : PathFailure) →
-    AllByRecursion (LegFits p next) s.legs → WorksAreLive s.legs → MayBeMade p s.legs (on_path_err s u e).legs
-err-may p s next u e each live = go (find_leg e.lsp s.legs) refl
+pub err-may : (p : LocalNode) (s : NodeState) (next : ℕ) (u : NodeId) (e : PathFailure) → LocalNodeFits p →
+    AllByRecursion (LegFits p next) s.legs → Fine p s.legs (on_path_err s u e)
+err-may p s next u e links each = go (find_leg e.lsp s.legs) refl
   where
-    go : (o : Option Leg) → find_leg e.lsp s.legs ≡ o → MayBeMade p s.legs (path_err_with s u e o).legs
-    go None found = tt
+    go : (o : Option Leg) → find_leg e.lsp s.legs ≡ o → Fine p s.legs (path_err_with s u e o)
+    go None found = (tt, tt)
     go (Some g) found =
         if_cases (Fine p s.legs) (is_node (following g) u) _ _
         (λ t. if_cases (Fine p s.legs) e.removed _ _ (λ t. removed-may p s g e)
-        (λ t. contended-may p s g live (found-itself e.lsp s.legs g found) next e.msg
-        (found-all (LegFits p next) e.lsp s.legs g found each)))
-        (λ t. tt)
+        (λ t. contended-may p s next g links (found-all (LegFits p next) e.lsp s.legs g found each)
+        (found-itself e.lsp s.legs g found) e.msg))
+        (λ t. (tt, tt))

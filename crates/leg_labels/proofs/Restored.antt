@@ -8,11 +8,11 @@ use Rattle.ason_base.specs.declared.ids.Lsp.{Lsp}
 use Rattle.ason_base.specs.declared.tables.Leg.{Leg}
 use Rattle.ason_base.specs.Lsps.{same_fibre}
 use Rattle.link_owner.specs.Claims.{FibreClaims, freed, is_of_lsp}
-use Rattle.link_owner.specs.Owners.{claims_of, comes_in, has_label, label_freed, with_claims}
+use Rattle.link_owner.specs.Owners.{OwnerState, claims_of, comes_in, has_label, label_freed, with_claims}
 use Rattle.link_owner.specs.declared.claims.Claim.{Claim}
 use Rattle.mesh_nodes.proofs.LegList.{same_lsp-refl}
 use Rattle.leg_table.specs.declared.labels.TakenLabel.{TakenLabel}
-use Rattle.leg_table.specs.LegClaims.{claimed_by, first_claim}
+use Rattle.leg_table.specs.LegClaims.{claim_by, claimed_by}
 use Rattle.leg_labels.proofs.ClaimLists.{or_true, same_number}
 use Rattle.leg_table.proofs.OwnerFibres.{claims-there, comes-kept}
 
@@ -27,7 +27,7 @@ set-again f claims later (r ∷ o) = go (same_fibre r.fibre f) refl (set-again f
     go true e rest = rw e refl
     go false e rest = rw e (ap (λ s. r ∷ s) rest)
 
-pub set-same : (f : Fibre) (o : List FibreClaims) → with_claims f (claims_of f o) o ≡ o
+set-same : (f : Fibre) (o : List FibreClaims) → with_claims f (claims_of f o) o ≡ o
 set-same f [] = refl
 set-same f (r ∷ o) = go (same_fibre r.fibre f) (set-same f o)
   where
@@ -48,33 +48,34 @@ last-freed x l (d ∷ claims) c none of = go (is_of_lsp x l d) none (λ rest. la
     go true none later = absurd (cc none)
     go false none later = ap (λ s. d ∷ s) (later none)
 
-module _ (g : Leg) (t : TakenLabel) (o : List FibreClaims) (comes : comes_in o t.fibre ≡ true) where
+module _ (g : Leg) (t : TakenLabel) (o : OwnerState) (comes : comes_in o.claims t.fibre ≡ true) where
   abbrev c : Claim
-  c = first_claim g.role t.label g.lsp
+  c = claim_by g.role t.label g.lsp
 
   its : is_of_lsp t.label g.lsp c ≡ true
   its = rw (same_number t.label) (same_lsp-refl g.lsp)
 
-  there : claims_of t.fibre (claimed_by g t o) ≡ claims_of t.fibre o ++ c ∷ []
-  there = claims-there t.fibre (claims_of t.fibre o ++ c ∷ []) o comes
+  there : claims_of t.fibre (claimed_by g t o).claims ≡ claims_of t.fibre o.claims ++ c ∷ []
+  there = claims-there t.fibre (claims_of t.fibre o.claims ++ c ∷ []) o.claims comes
 
-  pub claimed-comes : comes_in (claimed_by g t o) t.fibre ≡ true
-  claimed-comes = comes-kept t.fibre t.fibre (claims_of t.fibre o ++ c ∷ []) o ∙ comes
+  pub claimed-comes : comes_in (claimed_by g t o).claims t.fibre ≡ true
+  claimed-comes = comes-kept t.fibre t.fibre (claims_of t.fibre o.claims ++ c ∷ []) o.claims ∙ comes
 
-  pub claimed-has : has_label (claimed_by g t o) t.fibre t.label g.lsp ≡ true
+  pub claimed-has : has_label (claimed_by g t o).claims t.fibre t.label g.lsp ≡ true
   claimed-has =
       ap (list_any (is_of_lsp t.label g.lsp)) there
-      ∙ list_any-append (is_of_lsp t.label g.lsp) (claims_of t.fibre o) (c ∷ [])
-      ∙ rw its (or_true (list_any (is_of_lsp t.label g.lsp) (claims_of t.fibre o)))
+      ∙ list_any-append (is_of_lsp t.label g.lsp) (claims_of t.fibre o.claims) (c ∷ [])
+      ∙ rw its (or_true (list_any (is_of_lsp t.label g.lsp) (claims_of t.fibre o.claims)))
 
-  pub claimed-freed : not (has_label o t.fibre t.label g.lsp) ≡ true →
-      label_freed t.fibre t.label g.lsp (claimed_by g t o) ≡ o
+  pub claimed-freed : not (has_label o.claims t.fibre t.label g.lsp) ≡ true →
+      label_freed t.fibre t.label g.lsp (claimed_by g t o).claims ≡ o.claims
   claimed-freed new =
-      ap (λ claims. with_claims t.fibre (freed t.label g.lsp claims) (claimed_by g t o)) there
-      ∙ ap (λ claims. with_claims t.fibre claims (claimed_by g t o))
-      (last-freed t.label g.lsp (claims_of t.fibre o) c (absent (has_label o t.fibre t.label g.lsp) new) its)
-      ∙ set-again t.fibre (claims_of t.fibre o ++ c ∷ []) (claims_of t.fibre o) o
-      ∙ set-same t.fibre o
+      ap (λ claims. with_claims t.fibre (freed t.label g.lsp claims) (claimed_by g t o).claims) there
+      ∙ ap (λ claims. with_claims t.fibre claims (claimed_by g t o).claims)
+      (last-freed t.label g.lsp (claims_of t.fibre o.claims) c (absent (has_label o.claims t.fibre t.label g.lsp) new)
+      its)
+      ∙ set-again t.fibre (claims_of t.fibre o.claims ++ c ∷ []) (claims_of t.fibre o.claims) o.claims
+      ∙ set-same t.fibre o.claims
     where
       absent : (b : Bool) → not b ≡ true → b ≡ false
       absent true e = absurd (cc e)

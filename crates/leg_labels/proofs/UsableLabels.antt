@@ -4,8 +4,6 @@ use Rattle.std.specs.Prelude.{◌||◌, ◌&&◌, Option, Some, None, filter}
 use Rattle.std.specs.List.{AllByRecursion, list_any}
 use Rattle.ason_base.specs.Labels.{numbers_from, up_to}
 use Rattle.ason_base.specs.Labels as labels
-use Rattle.ason_base.specs.declared.calls.Phase.{Phase}
-use Rattle.ason_base.specs.declared.calls.Phase.TheVariants as phase
 use Rattle.ason_base.specs.declared.calls.Role.{Role}
 use Rattle.ason_base.specs.declared.calls.Role.TheVariants.{Work, Back}
 use Rattle.ason_base.specs.declared.ids.Fibre.{Fibre}
@@ -16,8 +14,8 @@ use Rattle.ason_base.specs.Lsps.{same_lsp}
 use Rattle.ason_base.specs.Risks.{has_risk, have_common}
 use Rattle.ason_base.proofs.RiskOrder.{common-there, contains-has_risk, has_risk-contains, there-common}
 use Rattle.ason_base.proofs.MaskMembers.{filter-agree, filter-filter, has-bound, has-filter}
-use Rattle.link_owner.specs.Claims.{FibreClaims, has, is_of_lsp, is_working, shareable, works_on}
-use Rattle.link_owner.specs.Owners.{claims_of, comes_in, labels_of}
+use Rattle.link_owner.specs.Claims.{has, is_of_lsp, is_working, shareable, works_on}
+use Rattle.link_owner.specs.Owners.{OwnerState, claims_of, comes_in, labels_of}
 use Rattle.link_owner.specs.declared.claims.Claim.{Claim}
 use Rattle.share_check.specs.Guards.{fits, fitting, is_guarded, Guard}
 use Rattle.share_check.proofs.Fitting.{fits-none, none-fits}
@@ -50,23 +48,18 @@ any-told {X} P p q (x ∷ xs) told all e = go (p x) refl e (any-told P p q xs to
 abbrev keeps_from : List Risk → Fibre → ℕ → Leg → Bool
 keeps_from risks f x g = takes f x g && not (is_apart risks g)
 
-working-is : (r : Role) (p : Phase) → is_working (claim_kind r p) ≡ true → is_work r ≡ true
-working-is Work p e = refl
-working-is Back phase.Asked e = absurd (cc e)
-working-is Back phase.Held e = absurd (cc e)
-working-is Back phase.Armed e = absurd (cc e)
-working-is Back phase.Live e = absurd (cc e)
-working-is Back phase.Closing e = absurd (cc e)
-working-is Back phase.Falling e = absurd (cc e)
+working-is : (r : Role) → is_working (claim_kind r) ≡ true → is_work r ≡ true
+working-is Work e = refl
+working-is Back e = absurd (cc e)
 
-module _ (legs : List Leg) (risks : List Risk) (o : List FibreClaims) (s : List Guard) (f : Fibre) (x : ℕ)
+module _ (legs : List Leg) (risks : List Risk) (o : OwnerState) (s : List Guard) (f : Fibre) (x : ℕ)
     (rise : LegsRise legs)
     (fit : LabelsFit legs o s) where
   -- the leg of a working claim keeps every backup from the label
-  works-keeps : list_any (works_on x) (claims_of f o) ≡ true → list_any (keeps_from risks f x) legs ≡ true
+  works-keeps : list_any (works_on x) (claims_of f o.claims) ≡ true → list_any (keeps_from risks f x) legs ≡ true
   works-keeps h =
-      of_each (works_on x) (list_any (keeps_from risks f x) legs ≡ true) (claims_of f o)
-      (each (claims_of f o) (fit.claims.each f)) h
+      of_each (works_on x) (list_any (keeps_from risks f x) legs ≡ true) (claims_of f o.claims)
+      (each (claims_of f o.claims) (fit.claims.each f)) h
     where
       one : (c : Claim) → IsClaimOfLeg legs f c → works_on x c ≡ true → list_any (keeps_from risks f x) legs ≡ true
       one c of works = go (find_leg c.lsp legs) refl of
@@ -79,10 +72,10 @@ module _ (legs : List Leg) (risks : List Risk) (o : List FibreClaims) (s : List 
           go None found e = absurd (cc e)
           go (Some g) found e =
               let t : takes_in f c.label g ≡ true = kind-of f c.label g c.kind e in
-              let kind : Some (claim_kind g.role g.phase) ≡ Some c.kind = rw t at e in
-              let is : claim_kind g.role g.phase ≡ c.kind = cc kind in
+              let kind : Some (claim_kind g.role) ≡ Some c.kind = rw t at e in
+              let is : claim_kind g.role ≡ c.kind = cc kind in
               let work : is_work g.role ≡ true =
-              working-is g.role g.phase (ap is_working is ∙ both_right (has x c) (is_working c.kind) works) in
+              working-is g.role (ap is_working is ∙ both_right (has x c) (is_working c.kind) works) in
               let t' : takes_in f x g ≡ true = subst (λ y. takes_in f y g ≡ true) label t in
               any-found (keeps_from risks f x) (λ h. same_lsp h.lsp c.lsp) legs g found
               (rw (in-takes f x g t', work) refl)
@@ -117,21 +110,21 @@ module _ (legs : List Leg) (risks : List Risk) (o : List FibreClaims) (s : List 
           (both_right (takes_in f x g) (has_risk (guarded_risks g) q) e))
 
   -- a leg that keeps the backup from the label has a working claim of it, or guards one of the risks
-  keeps-one : OneWay legs → list_any (works_on x) (claims_of f o) ≡ false → fits s f risks x ≡ true → (l : Lsp)
+  keeps-one : OneWay legs → list_any (works_on x) (claims_of f o.claims) ≡ false → fits s f risks x ≡ true → (l : Lsp)
       (g : Leg) → find_leg l legs ≡ Some g → keeps_from risks f x g ≡ true → ⊥
   keeps-one one none fitting l g found keeps = role (is_work g.role) refl
     where
       t : takes_in f x g ≡ true
       t = sym (one l g found f x) ∙ both_left (takes f x g) (not (is_apart risks g)) keeps
 
-      works : is_work g.role ≡ true → list_any (works_on x) (claims_of f o) ≡ true
+      works : is_work g.role ≡ true → list_any (works_on x) (claims_of f o.claims) ≡ true
       works work =
-          any-told (IsClaimOfLeg legs f) (is_of_lsp x l) (works_on x) (claims_of f o) told (fit.claims.each f)
+          any-told (IsClaimOfLeg legs f) (is_of_lsp x l) (works_on x) (claims_of f o.claims) told (fit.claims.each f)
           (fit.claims.all f x l g found t)
         where
-          kind : (r : Role) (p : Phase) → is_work r ≡ true → is_working (claim_kind r p) ≡ true
-          kind Work p e = refl
-          kind Back p e = absurd (cc e)
+          kind : (r : Role) → is_work r ≡ true → is_working (claim_kind r) ≡ true
+          kind Work e = refl
+          kind Back e = absurd (cc e)
 
           told : (c : Claim) → IsClaimOfLeg legs f c → is_of_lsp x l c ≡ true → works_on x c ≡ true
           told c of its =
@@ -141,9 +134,9 @@ module _ (legs : List Leg) (risks : List Risk) (o : List FibreClaims) (s : List 
               let there : kind_here f x (find_leg l legs) ≡ Some c.kind =
               subst (λ y. kind_here f y (find_leg l legs) ≡ Some c.kind) label
               (subst (λ k. kind_here f c.label (find_leg k legs) ≡ Some c.kind) is of) in
-              let claimed : Some (claim_kind g.role g.phase) ≡ Some c.kind = rw (found, t) at there in
-              let same : claim_kind g.role g.phase ≡ c.kind = cc claimed in
-              rw here (sym (ap is_working same) ∙ kind g.role g.phase work)
+              let claimed : Some (claim_kind g.role) ≡ Some c.kind = rw (found, t) at there in
+              let same : claim_kind g.role ≡ c.kind = cc claimed in
+              rw here (sym (ap is_working same) ∙ kind g.role work)
 
       guards : is_work g.role ≡ false → have_common risks g.risks ≡ true → ⊥
       guards back common =
@@ -165,13 +158,13 @@ module _ (legs : List Leg) (risks : List Risk) (o : List FibreClaims) (s : List 
           guards back (common-of (is_work g.role) (have_common risks g.risks) back
           (both_right (takes f x g) (not (is_apart risks g)) keeps))
 
-  pub shared-exact : OneWay legs → (not (list_any (works_on x) (claims_of f o)) && fits s f risks x) ≡
+  pub shared-exact : OneWay legs → (not (list_any (works_on x) (claims_of f o.claims)) && fits s f risks x) ≡
       not (list_any (keeps_from risks f x) legs)
   shared-exact one =
-      go (list_any (works_on x) (claims_of f o)) (fits s f risks x) (list_any (keeps_from risks f x) legs) refl refl
+      go (list_any (works_on x) (claims_of f o.claims)) (fits s f risks x) (list_any (keeps_from risks f x) legs) refl refl
       refl
     where
-      none-keeps : list_any (works_on x) (claims_of f o) ≡ false → fits s f risks x ≡ true →
+      none-keeps : list_any (works_on x) (claims_of f o.claims) ≡ false → fits s f risks x ≡ true →
           list_any (keeps_from risks f x) legs ≡ true → ⊥
       none-keeps none fitting h =
           of_each (keeps_from risks f x) ⊥ legs
@@ -185,7 +178,7 @@ module _ (legs : List Leg) (risks : List Risk) (o : List FibreClaims) (s : List 
           unguarded l q asked true e = absurd (cc (none, guards-keeps l q asked e))
           unguarded l q asked false e = refl
 
-      go : (a b k : Bool) → list_any (works_on x) (claims_of f o) ≡ a → fits s f risks x ≡ b →
+      go : (a b k : Bool) → list_any (works_on x) (claims_of f o.claims) ≡ a → fits s f risks x ≡ b →
           list_any (keeps_from risks f x) legs ≡ k → (not a && b) ≡ not k
       go true b k works fitting keeps = let is : k ≡ true = sym keeps ∙ works-keeps works in rw is refl
       go false true true works fitting keeps = absurd (none-keeps works fitting keeps)
@@ -193,20 +186,20 @@ module _ (legs : List Leg) (risks : List Risk) (o : List FibreClaims) (s : List 
       go false false true works fitting keeps = refl
       go false false false works fitting keeps = absurd (met-keeps fitting keeps)
 
-pub shared-usable : (p : LocalNode) (legs : List Leg) (risks : List Risk) (o : List FibreClaims) (s : List Guard)
-    (f : Fibre) → LegsRise legs → OneWay legs → LabelsFit legs o s → OwnerFits p o → comes_in o f ≡ true →
-    shareable (labels_of f o) (claims_of f o) ≡
-    filter (labels.has (shareable (labels_of f o) (claims_of f o))) (up_to 80) →
-    labels.meet (shareable (labels_of f o) (claims_of f o)) (fitting s f risks) ≡ usable p legs Back risks f
+pub shared-usable : (p : LocalNode) (legs : List Leg) (risks : List Risk) (o : OwnerState) (s : List Guard)
+    (f : Fibre) → LegsRise legs → OneWay legs → LabelsFit legs o s → OwnerFits p o → comes_in o.claims f ≡ true →
+    shareable (labels_of f o.claims) (claims_of f o.claims) ≡
+    filter (labels.has (shareable (labels_of f o.claims) (claims_of f o.claims))) (up_to 80) →
+    labels.meet (shareable (labels_of f o.claims) (claims_of f o.claims)) (fitting s f risks) ≡ usable p legs Back risks f
 shared-usable p legs risks o s f rise one fit owner comes narrow =
     filter-agree (labels.has (fitting s f risks)) (fits s f risks) left (λ x h. here x h)
-    ∙ filter-filter (λ x. not (list_any (works_on x) (claims_of f o))) (fits s f risks) (up_to (labels_of f o))
+    ∙ filter-filter (λ x. not (list_any (works_on x) (claims_of f o.claims))) (fits s f risks) (up_to (labels_of f o.claims))
     ∙ rw (owner.labels f comes)
-    (filter-agree (λ x. not (list_any (works_on x) (claims_of f o)) && fits s f risks x) (is_usable Back risks legs f)
+    (filter-agree (λ x. not (list_any (works_on x) (claims_of f o.claims)) && fits s f risks x) (is_usable Back risks legs f)
     (up_to (local.labels_of (own_link p f.link))) (λ x h. shared-exact legs risks o s f x rise fit one))
   where
     left : List ℕ
-    left = shareable (labels_of f o) (claims_of f o)
+    left = shareable (labels_of f o.claims) (claims_of f o.claims)
 
     -- a label that no working leg has is one of 1 to 80
     within : (x : ℕ) → labels.has left x ≡ true → labels.has (up_to 80) x ≡ true
@@ -247,14 +240,14 @@ unless true b then none = absurd (let some = then refl in cc (none, some))
 unless false b then none = refl
 
 -- no claim keeps a leg of this role from a label that is usable for it
-pub usable-unclaimed : (p : LocalNode) (legs : List Leg) (r : Role) (risks : List Risk) (o : List FibreClaims)
+pub usable-unclaimed : (p : LocalNode) (legs : List Leg) (r : Role) (risks : List Risk) (o : OwnerState)
     (s : List Guard) (f : Fibre) (x : ℕ) → LegsRise legs → LabelsFit legs o s →
-    labels.has (usable p legs r risks f) x ≡ true → list_any (bars r x) (claims_of f o) ≡ false
+    labels.has (usable p legs r risks f) x ≡ true → list_any (bars r x) (claims_of f o.claims) ≡ false
 usable-unclaimed p legs Work risks o s f x rise fit h =
-    unless (list_any (has x) (claims_of f o)) (list_any (takes f x) legs)
-    (claims_take legs f x (claims_of f o) (fit.claims.each f))
+    unless (list_any (has x) (claims_of f o.claims)) (list_any (takes f x) legs)
+    (claims_take legs f x (claims_of f o.claims) (fit.claims.each f))
     (not-of (list_any (takes f x) legs) (usable-is p legs Work risks f x h))
 usable-unclaimed p legs Back risks o s f x rise fit h =
-    unless (list_any (works_on x) (claims_of f o)) (list_any (keeps_from risks f x) legs)
+    unless (list_any (works_on x) (claims_of f o.claims)) (list_any (keeps_from risks f x) legs)
     (works-keeps legs risks o s f x rise fit)
     (not-of (list_any (keeps_from risks f x) legs) (usable-is p legs Back risks f x h))

@@ -1,16 +1,18 @@
-//! Carrying out what a rule changes: the legs with the labels that they take, the row that is learnt, the calls and
-//! the numbers.
+//! Carrying out what a rule changes: the legs with the labels that they take and their marks, the row that is learnt, the
+//! calls and the numbers.
 
 ghost use Rattle.std.specs.Prelude.{◌≡◌, ◌≤◌, ◌<◌, ◌+◌, ◌⊎◌, IfOk, IfSome, None, OnErr, OnOk, Some, length, vec_capacity, vec_len};
 ghost use Rattle.std.specs.List.{AllByRecursion};
 ghost use Rattle.std.specs.Option.{option_to_list};
+ghost use Rattle.link_owner.specs.Marks.{has_fibre};
 ghost use Rattle.mesh_rules.specs.Changes.{changed, learnt_after};
 ghost use Rattle.mesh_rules.specs.Legs.{find_leg, leg_changed, legs_changed, with_leg, without_leg};
-ghost use Rattle.leg_table.specs.LegClaims.{AreOfOneNode, ClaimsFit, ClaimsStay, LabelsFit, MayAllEnter, MayAllStay, MayBeMade, MayClaim, MayEnter, MayKeep, OwnerFits, SameFibres, SharesStay, StaysAs, TakesNone, taken, taken_of};
+ghost use Rattle.leg_table.specs.LegClaims.{AreOfOneNode, ClaimsFit, LabelsFit, MayAllEnter, MayAllMark, MayAllStay, MayBeMade, MayClaim, MayEnter, MayKeep, MayMark, MayMarkSo, OwnerFits, SameFibres, SharesStay, StaysAs, TakesNone, is_own_fibre, taken, taken_of};
 ghost use Rattle.leg_table.specs.States.{local_of, state_of};
 ghost use Rattle.leg_table.specs.Tables.{LegsRise};
 
-use crate::reserving::{free_label, has_taken, is_used, rearm, reserve};
+use crate::marking::{remark, unmark_lsp};
+use crate::reserving::{free_label, has_taken, reserve};
 use ason_base::{Lsp, OutOfMemory, Outs, TeRow};
 use leg_table::boxes::{BoxedChange, BoxedLeg, LegEdit};
 use leg_table::labels::{TakenLabel, taken};
@@ -33,6 +35,7 @@ fn remove_leg(legs: &mut Vec<BoxedLeg>, owner: &mut Owner, shares: &mut Shares, 
     ensures fibres { SameFibres owner.old owner.new }
 {
     free_label(legs, owner, shares, lsp);
+    unmark_lsp(legs, owner, lsp);
     let _leg = take_leg(legs, lsp);
 }
 
@@ -42,6 +45,7 @@ fn put_leg(legs: &mut Vec<BoxedLeg>, owner: &mut Owner, shares: &mut Shares, leg
     requires room { vec_len legs.old < vec_capacity legs.old }
     requires fit { LabelsFit legs.old.items owner.old shares.old }
     requires none { taken leg ≡ None }
+    requires marks { MayMark (has_fibre owner.old.marks) legs.old.items leg }
     ensures items { legs.new.items ≡ with_leg leg legs.old.items }
     ensures rising { LegsRise legs.new.items }
     ensures len { vec_len legs.new ≤ vec_len legs.old + 1 }
@@ -50,25 +54,7 @@ fn put_leg(legs: &mut Vec<BoxedLeg>, owner: &mut Owner, shares: &mut Shares, leg
     ensures fibres { SameFibres owner.old owner.new }
 {
     free_label(legs, owner, shares, leg.leg().lsp);
-    set_leg(legs, leg);
-}
-
-// Puts a leg that keeps this label. There is room for it.
-fn keep_leg(legs: &mut Vec<BoxedLeg>, owner: &mut Owner, leg: BoxedLeg, label: TakenLabel)
-    requires rising { LegsRise legs.old.items }
-    requires room { vec_len legs.old < vec_capacity legs.old }
-    requires fit { ClaimsFit legs.old.items owner.old }
-    requires taken { taken leg ≡ Some label }
-    requires may { MayKeep legs.old.items leg label }
-    ensures items { legs.new.items ≡ with_leg leg legs.old.items }
-    ensures rising { LegsRise legs.new.items }
-    ensures len { length legs.new.items ≡ length legs.old.items }
-    ensures capacity { vec_capacity legs.new ≡ vec_capacity legs.old }
-    ensures fit { ClaimsFit legs.new.items owner.new }
-    ensures fibres { SameFibres owner.old owner.new }
-{
-    let was = is_used(legs, leg.leg().lsp);
-    rearm(owner, leg.leg(), &label, was);
+    remark(legs, owner, leg.leg());
     set_leg(legs, leg);
 }
 
@@ -78,6 +64,7 @@ fn stay_leg(legs: &mut Vec<BoxedLeg>, owner: &mut Owner, leg: BoxedLeg)
     requires room { vec_len legs.old < vec_capacity legs.old }
     requires fit { ClaimsFit legs.old.items owner.old }
     requires may { StaysAs legs.old.items leg (taken leg) }
+    requires marks { MayMark (has_fibre owner.old.marks) legs.old.items leg }
     ensures items { legs.new.items ≡ with_leg leg legs.old.items }
     ensures rising { LegsRise legs.new.items }
     ensures len { length legs.new.items ≡ length legs.old.items }
@@ -85,22 +72,23 @@ fn stay_leg(legs: &mut Vec<BoxedLeg>, owner: &mut Owner, leg: BoxedLeg)
     ensures fit { ClaimsFit legs.new.items owner.new }
     ensures fibres { SameFibres owner.old owner.new }
 {
-    match taken(leg.leg()) {
-        None => set_leg(legs, leg),
-        Some(label) => keep_leg(legs, owner, leg, label),
-    }
+    remark(legs, owner, leg.leg());
+    set_leg(legs, leg);
 }
 
 // Takes a leg off that takes no label.
-fn drop_leg(legs: &mut Vec<BoxedLeg>, lsp: Lsp)
+fn drop_leg(legs: &mut Vec<BoxedLeg>, owner: &mut Owner, lsp: Lsp)
     requires rising { LegsRise legs.old.items }
+    requires fit { ClaimsFit legs.old.items owner.old }
     requires none { taken_of (find_leg lsp legs.old.items) ≡ None }
     ensures items { legs.new.items ≡ without_leg lsp legs.old.items }
     ensures rising { LegsRise legs.new.items }
     ensures len { length legs.new.items ≤ length legs.old.items }
     ensures capacity { vec_capacity legs.new ≡ vec_capacity legs.old }
-    ensures claims { ClaimsStay legs.old.items legs.new.items }
+    ensures fit { ClaimsFit legs.new.items owner.new }
+    ensures fibres { SameFibres owner.old owner.new }
 {
+    unmark_lsp(legs, owner, lsp);
     let _leg = take_leg(legs, lsp);
 }
 
@@ -110,6 +98,7 @@ fn keep_legs(legs: &mut Vec<BoxedLeg>, owner: &mut Owner, changes: Vec<LegEdit>)
     requires room { vec_len legs.old + vec_len changes ≤ vec_capacity legs.old }
     requires fit { ClaimsFit legs.old.items owner.old }
     requires may { MayAllStay legs.old.items changes.items }
+    requires marks { MayAllMark (has_fibre owner.old.marks) legs.old.items changes.items }
     ensures items { legs.new.items ≡ legs_changed changes.items legs.old.items }
     ensures rising { LegsRise legs.new.items }
     ensures len { length legs.new.items ≤ length legs.old.items }
@@ -118,7 +107,7 @@ fn keep_legs(legs: &mut Vec<BoxedLeg>, owner: &mut Owner, changes: Vec<LegEdit>)
 {
     for change in changes {
         match change.into_change() {
-            BoxedChange::Goes(lsp) => drop_leg(legs, lsp),
+            BoxedChange::Goes(lsp) => drop_leg(legs, owner, lsp),
             BoxedChange::Put(leg) => stay_leg(legs, owner, leg),
         }
     }
@@ -135,6 +124,7 @@ fn change_later(
     requires room { vec_len legs.old + vec_len changes ≤ vec_capacity legs.old }
     requires fit { LabelsFit legs.old.items owner.old shares.old }
     requires none { AllByRecursion TakesNone changes.items }
+    requires marks { MayAllMark (has_fibre owner.old.marks) legs.old.items changes.items }
     ensures items { legs.new.items ≡ legs_changed changes.items legs.old.items }
     ensures rising { LegsRise legs.new.items }
     ensures fit { LabelsFit legs.new.items owner.new shares.new }
@@ -163,6 +153,7 @@ fn enter_leg(
     requires fit { LabelsFit legs.old.items owner.old shares.old }
     requires taken { taken leg ≡ Some label }
     requires may { MayClaim owner.old legs.old.items leg label }
+    requires marks { MayMark (has_fibre owner.old.marks) legs.old.items leg }
     ensures ok { OnOk result (legs.new.items ≡ with_leg leg legs.old.items) }
     ensures err { OnErr result (legs.new.items ≡ legs.old.items) }
     ensures err_owner { OnErr result (owner.new ≡ owner.old) }
@@ -174,6 +165,7 @@ fn enter_leg(
     ensures fibres { SameFibres owner.old owner.new }
 {
     reserve(owner, shares, alloc, leg.leg(), &label)?;
+    remark(legs, owner, leg.leg());
     set_leg(legs, leg);
     Ok(())
 }
@@ -192,6 +184,7 @@ fn label_leg(
     requires fit { LabelsFit legs.old.items owner.old shares.old }
     requires taken { taken leg ≡ Some label }
     requires may { MayClaim owner.old legs.old.items leg label ⊎ MayKeep legs.old.items leg label }
+    requires marks { MayMark (has_fibre owner.old.marks) legs.old.items leg }
     ensures ok { OnOk result (legs.new.items ≡ with_leg leg legs.old.items) }
     ensures err { OnErr result (legs.new.items ≡ legs.old.items) }
     ensures err_owner { OnErr result (owner.new ≡ owner.old) }
@@ -204,7 +197,7 @@ fn label_leg(
 {
     let lsp = leg.leg().lsp;
     if has_taken(legs, lsp) {
-        keep_leg(legs, owner, leg, label);
+        stay_leg(legs, owner, leg);
         Ok(())
     } else {
         enter_leg(legs, owner, shares, alloc, leg, label)
@@ -224,6 +217,7 @@ fn change_first(
     requires room { vec_len legs.old < vec_capacity legs.old }
     requires fit { LabelsFit legs.old.items owner.old shares.old }
     requires may { MayEnter owner.old legs.old.items change }
+    requires marks { MayMarkSo (has_fibre owner.old.marks) legs.old.items change }
     ensures ok { OnOk result (legs.new.items ≡ leg_changed change legs.old.items) }
     ensures err { OnErr result (legs.new.items ≡ legs.old.items) }
     ensures err_owner { OnErr result (owner.new ≡ owner.old) }
@@ -261,6 +255,7 @@ fn change_legs(
     requires room { vec_len legs.old + vec_len changes ≤ vec_capacity legs.old }
     requires fit { LabelsFit legs.old.items owner.old shares.old }
     requires may { MayAllEnter owner.old legs.old.items changes.items }
+    requires marks { MayAllMark (has_fibre owner.old.marks) legs.old.items changes.items }
     ensures ok { OnOk result (legs.new.items ≡ legs_changed changes.items legs.old.items) }
     ensures err { OnErr result (legs.new.items ≡ legs.old.items) }
     ensures err_owner { OnErr result (owner.new ≡ owner.old) }
@@ -308,7 +303,7 @@ fn put_row(rows: &mut Vec<TeRow>, row: Option<TeRow>)
 // Answers
 
 /// Carries out changes of legs, one after the other, and puts the row, if there is one, after those that are known. The
-/// owner's claims and the guards of the shares follow the legs. After want of memory nothing has changed.
+/// owner's claims and marks and the guards of the shares follow the legs. After want of memory nothing has changed.
 pub(crate) fn carry_out_tables(
     alloc: Global,
     tables: &mut NodeTables,
@@ -319,6 +314,8 @@ pub(crate) fn carry_out_tables(
 ) -> Result<(), OutOfMemory>
     requires node { AreOfOneNode tables.old owner.old shares.old }
     requires may { MayBeMade (local_of tables.old) tables.old.legs changes.items }
+    requires marks { MayAllMark (is_own_fibre (local_of tables.old))
+        tables.old.legs changes.items }
     requires few { length (legs_changed changes.items tables.old.legs) ≤ 4096 }
     ensures ok { OnOk result
         (tables.new ≡ record tables.old {
@@ -337,8 +334,8 @@ pub(crate) fn carry_out_tables(
     Ok(())
 }
 
-/// Carries out changes of legs that stand and keep their labels, one after the other. The owner's claims are armed and
-/// disarmed with the legs. After want of memory nothing has changed.
+/// Carries out changes of legs that stand and keep their labels, one after the other. The owner's marks follow the legs.
+/// After want of memory nothing has changed.
 pub(crate) fn carry_out_kept(
     tables: &mut NodeTables,
     owner: &mut Owner,
@@ -347,6 +344,8 @@ pub(crate) fn carry_out_kept(
     requires claims { ClaimsFit tables.old.legs owner.old }
     requires fibres { OwnerFits (local_of tables.old) owner.old }
     requires may { MayAllStay tables.old.legs changes.items }
+    requires marks { MayAllMark (is_own_fibre (local_of tables.old))
+        tables.old.legs changes.items }
     ensures ok { OnOk result
         (tables.new ≡ record tables.old {
           legs = legs_changed changes.items tables.old.legs;
@@ -362,8 +361,8 @@ pub(crate) fn carry_out_kept(
     Ok(())
 }
 
-/// Carries out what a rule changes, and hands back what is to be sent, in order. The owner's claims and the guards of
-/// the shares follow the legs. After want of memory nothing has changed.
+/// Carries out what a rule changes, and hands back what is to be sent, in order. The owner's claims and marks and the
+/// guards of the shares follow the legs. After want of memory nothing has changed.
 pub fn carry_out(
     change: Change,
     tables: &mut NodeTables,
@@ -373,6 +372,7 @@ pub fn carry_out(
 ) -> Result<Outs, OutOfMemory>
     requires node { AreOfOneNode tables.old owner.old shares.old }
     requires may { MayBeMade (local_of tables.old) tables.old.legs change.legs }
+    requires marks { MayAllMark (is_own_fibre (local_of tables.old)) tables.old.legs change.legs }
     requires few { length (legs_changed change.legs tables.old.legs) ≤ 4096 }
     ensures ok { OnOk result
         (state_of tables.new calls.new ≡ changed (state_of tables.old calls.old) change) }

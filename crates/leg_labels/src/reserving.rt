@@ -1,31 +1,31 @@
 //! Labels that legs take and give up, at the owner and at the shares.
 
-ghost use Rattle.std.specs.Prelude.{◌≡◌, ◌≤◌, [], false, true, IfErr, IfSome, IsTrue, OnErr, OnOk, is_some, not};
-ghost use Rattle.link_owner.specs.Claims.{NoClaim, RefusedFor, is_busy};
-ghost use Rattle.link_owner.specs.Owners.{claims_of, comes_in, has_label, label_armed, labels_of};
-ghost use Rattle.mesh_rules.specs.Legs.{find_leg, is_in_use, is_work};
+ghost use Rattle.std.specs.Prelude.{◌≡◌, ◌≤◌, [], true, IfErr, IfSome, IsTrue, OnErr, OnOk, is_some, not};
+ghost use Rattle.link_owner.specs.Claims.{NoClaim, RefusedFor};
+ghost use Rattle.link_owner.specs.Owners.{claims_of, comes_in, has_label, labels_of};
+ghost use Rattle.mesh_rules.specs.Legs.{find_leg, is_work};
 ghost use Rattle.share_check.specs.Guards.{GuardsJust, GuardsNone};
-ghost use Rattle.leg_table.specs.LegClaims.{GuardsBy, GuardsNothing, GuardsOfLeg, LabelsFit, bars, claimed_by, freed_of, is_used_by, kept_claim, taken, taken_of};
+ghost use Rattle.leg_table.specs.LegClaims.{GuardsBy, GuardsNothing, GuardsOfLeg, LabelsFit, bars, claimed_by, freed_of, taken, taken_of};
 ghost use Rattle.leg_table.specs.Tables.{LegsRise};
 
 use ason_base::{Leg, Lsp, OutOfMemory, Role};
 use leg_table::boxes::BoxedLeg;
 use leg_table::labels::{TakenLabel, taken};
 use leg_table::legs::find_leg;
-use leg_table::one_leg::is_in_use;
 use link_owner::{ClaimFault, Owner};
 use share_check::Shares;
 use std::alloc::Global;
 
 // The label is given to the leg.
 fn give(owner: &mut Owner, alloc: Global, leg: &Leg, label: &TakenLabel) -> Result<(), ClaimFault>
-    requires comes_in { IsTrue (comes_in owner.old label.now.fibre) }
-    requires within { label.now.label ≤ labels_of label.now.fibre owner.old }
-    requires new { IsTrue (not (has_label owner.old label.now.fibre label.now.label leg.now.lsp)) }
+    requires comes_in { IsTrue (comes_in owner.old.claims label.now.fibre) }
+    requires within { label.now.label ≤ labels_of label.now.fibre owner.old.claims }
+    requires new { IsTrue
+        (not (has_label owner.old.claims label.now.fibre label.now.label leg.now.lsp)) }
     ensures ok { OnOk result (owner.new ≡ claimed_by leg.now label.now owner.old) }
     ensures err { OnErr result (owner.new ≡ owner.old) }
-    ensures fault { IfErr result
-        (RefusedFor (bars leg.now.role label.now.label) (claims_of label.now.fibre owner.old)) }
+    ensures fault { IfErr result (RefusedFor (bars leg.now.role label.now.label)
+        (claims_of label.now.fibre owner.old.claims)) }
 {
     match leg.role {
         Role::Work => owner.claim(alloc, label.fibre, label.label, leg.lsp),
@@ -34,11 +34,12 @@ fn give(owner: &mut Owner, alloc: Global, leg: &Leg, label: &TakenLabel) -> Resu
 }
 
 fn claim(owner: &mut Owner, alloc: Global, leg: &Leg, label: &TakenLabel) -> Result<(), OutOfMemory>
-    requires comes_in { IsTrue (comes_in owner.old label.now.fibre) }
-    requires within { label.now.label ≤ labels_of label.now.fibre owner.old }
-    requires new { IsTrue (not (has_label owner.old label.now.fibre label.now.label leg.now.lsp)) }
+    requires comes_in { IsTrue (comes_in owner.old.claims label.now.fibre) }
+    requires within { label.now.label ≤ labels_of label.now.fibre owner.old.claims }
+    requires new { IsTrue
+        (not (has_label owner.old.claims label.now.fibre label.now.label leg.now.lsp)) }
     requires free { NoClaim (bars leg.now.role label.now.label)
-        (claims_of label.now.fibre owner.old) }
+        (claims_of label.now.fibre owner.old.claims) }
     ensures ok { OnOk result (owner.new ≡ claimed_by leg.now label.now owner.old) }
     ensures err { OnErr result (owner.new ≡ owner.old) }
 {
@@ -74,11 +75,12 @@ pub(crate) fn reserve(
     leg: &Leg,
     label: &TakenLabel,
 ) -> Result<(), OutOfMemory>
-    requires comes_in { IsTrue (comes_in owner.old label.now.fibre) }
-    requires within { label.now.label ≤ labels_of label.now.fibre owner.old }
-    requires new { IsTrue (not (has_label owner.old label.now.fibre label.now.label leg.now.lsp)) }
+    requires comes_in { IsTrue (comes_in owner.old.claims label.now.fibre) }
+    requires within { label.now.label ≤ labels_of label.now.fibre owner.old.claims }
+    requires new { IsTrue
+        (not (has_label owner.old.claims label.now.fibre label.now.label leg.now.lsp)) }
     requires free { NoClaim (bars leg.now.role label.now.label)
-        (claims_of label.now.fibre owner.old) }
+        (claims_of label.now.fibre owner.old.claims) }
     requires none { GuardsNone shares.old label.now.fibre label.now.label leg.now.lsp }
     ensures ok { OnOk result (owner.new ≡ claimed_by leg.now label.now owner.old) }
     ensures guards { OnOk result (GuardsBy leg.now label.now shares.old shares.new) }
@@ -110,7 +112,7 @@ fn unguard(shares: &mut Shares, leg: &Leg, label: &TakenLabel)
 // The leg gives up the label that it took, and what it guarded there.
 fn free(owner: &mut Owner, shares: &mut Shares, leg: &Leg)
     requires claimed { IfSome (taken leg.now)
-        (λ t. IsTrue (has_label owner.old t.fibre t.label leg.now.lsp)) }
+        (λ t. IsTrue (has_label owner.old.claims t.fibre t.label leg.now.lsp)) }
     requires guarded { GuardsOfLeg leg.now shares.old }
     ensures owner { owner.new ≡ freed_of leg.now.lsp (taken leg.now) owner.old }
     ensures shares { GuardsNothing leg.now.lsp shares.old shares.new }
@@ -145,47 +147,5 @@ pub(crate) fn has_taken(legs: &[BoxedLeg], lsp: Lsp) -> bool
     match find_leg(legs, lsp) {
         None => false,
         Some(leg) => taken(leg).is_some(),
-    }
-}
-
-/// Whether the LSP's leg is Armed or Live.
-pub(crate) fn is_used(legs: &[BoxedLeg], lsp: Lsp) -> bool
-    requires { LegsRise legs.now }
-    ensures { result ≡ is_used_by (find_leg lsp legs.now) }
-{
-    match find_leg(legs, lsp) {
-        None => false,
-        Some(leg) => is_in_use(leg.phase),
-    }
-}
-
-// No other leg is in use on the label.
-fn arm(owner: &mut Owner, label: &TakenLabel, lsp: Lsp)
-    requires comes_in { IsTrue (comes_in owner.old label.now.fibre) }
-    requires within { label.now.label ≤ labels_of label.now.fibre owner.old }
-    requires there { IsTrue (has_label owner.old label.now.fibre label.now.label lsp) }
-    requires idle { NoClaim (is_busy label.now.label lsp) (claims_of label.now.fibre owner.old) }
-    ensures { owner.new ≡ label_armed label.now.fibre label.now.label lsp owner.old }
-{
-    match owner.arm(label.fibre, label.label, lsp) {
-        Ok(()) => {}
-        Err(_) => unreachable!(),
-    }
-}
-
-/// The claim of the label that the leg keeps is armed where the leg gets into use, and disarmed where it gets out of it.
-pub(crate) fn rearm(owner: &mut Owner, leg: &Leg, label: &TakenLabel, was: bool)
-    requires comes_in { IsTrue (comes_in owner.old label.now.fibre) }
-    requires within { label.now.label ≤ labels_of label.now.fibre owner.old }
-    requires there { IsTrue (has_label owner.old label.now.fibre label.now.label leg.now.lsp) }
-    requires idle { was ≡ false → is_in_use leg.now.phase ≡ true →
-        NoClaim (is_busy label.now.label leg.now.lsp) (claims_of label.now.fibre owner.old) }
-    ensures { owner.new ≡ kept_claim leg.now.lsp label.now was
-        (is_in_use leg.now.phase) owner.old }
-{
-    match (was, is_in_use(leg.phase)) {
-        (false, true) => arm(owner, label, leg.lsp),
-        (true, false) => owner.disarm(label.fibre, label.label, leg.lsp),
-        _ => {}
     }
 }

@@ -1,18 +1,15 @@
-//! The labels that a leg may take, and those that another leg keeps busy.
+//! The labels that a leg may take, and whether other legs keep its labels busy.
 
-ghost use Rattle.std.specs.Prelude.{◌≡◌, IsTrue, Some};
-ghost use Rattle.std.specs.List.{list_any};
-ghost use Rattle.link_owner.specs.Claims.{is_busy};
-ghost use Rattle.mesh_rules.specs.Activations.{is_contended};
-ghost use Rattle.mesh_rules.specs.Legs.{find_leg, is_beyond_asked, usable};
+ghost use Rattle.std.specs.Prelude.{◌≡◌, IsTrue};
+ghost use Rattle.mesh_rules.specs.Legs.{is_contended, usable};
 ghost use Rattle.leg_table.specs.Fits.{OwnLegsFit};
 ghost use Rattle.leg_table.specs.LegClaims.{AreOfOneNode, ClaimsFit, is_fibre_in};
 ghost use Rattle.leg_table.specs.States.{local_of};
 
-use ason_base::{Fibre, Label, LabelSet, Leg, Lsp, RiskSet, Role};
+use crate::marking::is_lit_over;
+use ason_base::{Fibre, LabelSet, Leg, RiskSet, Role};
 use leg_table::NodeTables;
-use leg_table::labels::taken;
-use link_owner::{Claim, ClaimKind, Owner};
+use link_owner::Owner;
 use share_check::Shares;
 
 /// The labels of a fibre that comes in which a leg of this role may take, whose primary has these risks: those that no
@@ -41,32 +38,12 @@ pub fn usable(
     }
 }
 
-// Whether it is another LSP's claim of the label, and in use.
-fn is_busy(claim: &Claim, label: Label, lsp: Lsp) -> bool
-    ensures { result ≡ is_busy label lsp claim.now }
-{
-    claim.label.number() == label.number()
-        && !matches!(claim.kind, ClaimKind::Backup)
-        && claim.lsp != lsp
-}
-
-fn has_busy(claims: &[Claim], label: Label, lsp: Lsp) -> bool
-    ensures { result ≡ list_any (is_busy label lsp) claims.now }
-{
-    claims.iter().any(|claim| is_busy(claim, label, lsp))
-}
-
-/// Whether another leg on the leg's label in is Armed or Live, so that the leg can't be activated. No leg is looked at.
+/// Whether a marked leg of another LSP uses a label that the leg uses, so that the leg can't be activated. No leg and no
+/// claim is looked at.
 pub fn is_contended(tables: &NodeTables, owner: &Owner, leg: &Leg) -> bool
-    requires legs { OwnLegsFit tables.now }
     requires claims { ClaimsFit tables.now.legs owner.now }
-    requires there { find_leg leg.now.lsp tables.now.legs ≡ Some leg.now }
-    requires beyond { IsTrue (is_beyond_asked leg.now.phase) }
-    ensures { result ≡ is_contended tables.now.legs leg.now leg.now.in_fibre leg.now.in_label }
+    ensures { result ≡ is_contended tables.now.legs leg.now }
 {
     tables.rises();
-    match taken(leg) {
-        None => false,
-        Some(t) => has_busy(owner.claims(t.fibre), t.label, leg.lsp),
-    }
+    is_lit_over(owner, leg)
 }

@@ -6,10 +6,12 @@ use Rattle.ason_base.specs.declared.ids.Fibre.{Fibre}
 use Rattle.ason_base.specs.declared.ids.NodeId.{NodeId}
 use Rattle.ason_base.specs.declared.network.LinkSpec.{LinkSpec}
 use Rattle.ason_base.specs.declared.network.NodeSpec.{NodeSpec}
-use Rattle.ason_base.specs.Lsps.{same_fibre}
+use Rattle.ason_base.specs.Lsps.{is_lsp, same_fibre}
 use Rattle.ason_base.specs.Network.{IsTopology, Network, find_node, row_of, touches}
-use Rattle.link_owner.specs.Owners.{claims_of, comes_in, fibre_unclaimed, is_fibre, none_claimed}
+use Rattle.link_owner.specs.Owners.{claims_of, comes_in, fibre_unclaimed, is_fibre, unowned}
 use Rattle.link_owner.proofs.FibresInto.{has_labels_into}
+use Rattle.link_owner.proofs.FibresOf.{either-comes, none-dark}
+use Rattle.mesh_rules.specs.Legs.{reverse}
 use Rattle.mesh_rules.specs.LocalNodes.{LocalNode, fibre_in, local_node, own_link}
 use Rattle.mesh_rules.specs.LocalNodes as local
 use Rattle.mesh_nodes.specs.LocalNodes.{LocalNodeFits}
@@ -67,27 +69,32 @@ none-learnt : {X Y : Type 0} (f : X → Y) (xs : List X) → map f xs ≡ map f 
 none-learnt f xs = sym (ap (λ ys. map f xs ++ ys) (dropped f xs) ∙ append-nil (map f xs))
 
 module _ (t : Network) (n : NodeId) (valid : IsTopology t) where
-  owner-fits : OwnerFits (local_node t n) (none_claimed t n)
+  owner-fits : OwnerFits (local_node t n) (unowned t n)
   owner-fits = record {
     fibres = λ f. all-come n f (filter (touches n) t.links);
     labels = λ f comes. has_labels_into local.labels_of (λ l. refl) t valid n f comes;
+    marked =
+        λ f. either-comes t n f ∙ rw (
+          all-come n f (filter (touches n) t.links),
+          all-come n (reverse f) (filter (touches n) t.links),
+        ) refl;
   }
 
-  claims-fit : ClaimsFit [] (none_claimed t n)
+  claims-fit : ClaimsFit [] (unowned t n)
   claims-fit = record {
     each = λ f. rw (none-there n f (filter (touches n) t.links)) tt;
     all = λ f x l g found takes. absurd (cc found);
     within = λ f x l g found takes. absurd (cc found);
-    live = λ l g found some work. absurd (cc found);
+    marks = λ f x l. ap (λ k. is_lsp k l) (none-dark t n f x);
   }
 
-  start-fits : TablesFit (new_table t n) (none_claimed t n) []
+  start-fits : TablesFit (new_table t n) (unowned t n) []
   start-fits = record {
     links = subst LocalNodeFits (sym (is-local t n)) (new-place t n valid);
     legs = (1, omega arith, record { rise = tt; each = tt; few = omega arith });
     node = record {
       labels = record { claims = claims-fit; guards = record { each = λ f x l q. refl } };
-      fibres = subst (λ p. OwnerFits p (none_claimed t n)) (sym (is-local t n)) owner-fits;
+      fibres = subst (λ p. OwnerFits p (unowned t n)) (sym (is-local t n)) owner-fits;
       rows = none-learnt row_of (filter (touches n) t.links);
     };
   }
@@ -100,5 +107,5 @@ at_start-is t n s is =
     (is-local t n, ap (λ rs. record new_node { learnt = rs }) rows)
 
 pub at_start-fits : (t : Network) (n : NodeId) (s : LegTable) → IsTopology t → s ≡ new_table t n →
-    TablesFit s (none_claimed t n) []
-at_start-fits t n s valid is = subst (λ x. TablesFit x (none_claimed t n) []) (sym is) (start-fits t n valid)
+    TablesFit s (unowned t n) []
+at_start-fits t n s valid is = subst (λ x. TablesFit x (unowned t n) []) (sym is) (start-fits t n valid)

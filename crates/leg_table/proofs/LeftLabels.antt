@@ -1,19 +1,17 @@
 -- Legs that give up their label, or take none: the claims and the guards that are left are those of the legs.
-use Rattle.std.proofs.Common.{◌≡◌, ◌≤◌, ℕ, Bool, true, false, cond, List, [], ◌∷◌, refl, sym, ap, subst, ◌∙◌}
+use Rattle.std.proofs.Common.{◌≡◌, ℕ, Bool, true, false, cond, List, [], ◌∷◌, refl, sym, ap, subst, ◌∙◌}
 use Rattle.std.specs.Prelude.{◌&&◌, Option, Some, None}
 use Rattle.std.specs.List.{AllByRecursion}
 use Rattle.ason_base.specs.declared.ids.Fibre.{Fibre}
 use Rattle.ason_base.specs.declared.ids.Lsp.{Lsp}
 use Rattle.ason_base.specs.declared.tables.Leg.{Leg}
 use Rattle.ason_base.specs.Lsps.{same_lsp}
-use Rattle.link_owner.specs.Claims.{FibreClaims, has}
-use Rattle.link_owner.specs.Owners.{claims_of, labels_of}
-use Rattle.link_owner.specs.declared.claims.Claim.{Claim}
+use Rattle.link_owner.specs.Claims.{has}
 use Rattle.mesh_rules.specs.Legs.{find_leg, with_leg, without_leg}
 use Rattle.mesh_nodes.proofs.LegList.{same_lsp-eq, same_lsp-refl, find-with_leg, find-without_leg}
 use Rattle.leg_table.specs.declared.labels.TakenLabel.{TakenLabel}
-use Rattle.leg_table.specs.LegClaims.{ClaimsFit, IsClaimOfLeg, WorksAreLive, claim_kind, kind_here, taken, taken_of, GuardsFit, GuardsNothing, guarded_risks, guards_here, takes_in}
-use Rattle.leg_table.proofs.TakenLabels.{none-takes, taken-some, taken-takes, takes-taken}
+use Rattle.leg_table.specs.LegClaims.{claim_kind, kind_here, taken, taken_of, GuardsFit, GuardsNothing, guarded_risks, guards_here, takes_in}
+use Rattle.leg_table.proofs.TakenLabels.{none-takes, taken-takes}
 use Rattle.share_check.specs.Guards.{Guard, GuardsNone, is_guarded}
 use Rattle.ason_base.specs.declared.risks.Risk.{Risk}
 use Rattle.ason_base.specs.Risks.{has_risk}
@@ -64,44 +62,10 @@ left-old l legs after left m g t found has = go (same_lsp l m) refl
         let is : l ≡ m = same_lsp-eq l m s in
         let none : kind_here t.fibre t.label (find_leg m after) ≡ None =
         subst (λ k. kind_here t.fibre t.label (find_leg k after) ≡ None) is (left.none t.fibre t.label) in
-        let some : kind_here t.fibre t.label (find_leg m after) ≡ Some (claim_kind g.role g.phase) =
+        let some : kind_here t.fibre t.label (find_leg m after) ≡ Some (claim_kind g.role) =
         rw (found, taken-takes g t has) refl in
         absurd (cc (none, some))
     go false s = sym (left.others m s) ∙ found
-
--- labels that are left are labels of their fibres
-pub left-within : (l : Lsp) (legs after : List Leg) (o : List FibreClaims) → ClaimsFit legs o → Left l legs after →
-    (f : Fibre) (x : ℕ) (m : Lsp) (g : Leg) → find_leg m after ≡ Some g → takes_in f x g ≡ true → x ≤ labels_of f o
-left-within l legs after o fit left f x m g found t =
-    fit.within f x m g (left-old l legs after left m g _ found (takes-taken f x g t)) t
-
--- working legs that are left are Live
-pub left-live : (l : Lsp) (legs after : List Leg) → WorksAreLive legs → Left l legs after → WorksAreLive after
-left-live l legs after live left m g found some work =
-    let has = taken-some g some in
-    live m g (left-old l legs after left m g has.0 found has.1) some work
-
--- the leg of the LSP took no label: nothing has to be freed
-pub left-fit : (l : Lsp) (legs after : List Leg) (o : List FibreClaims) → ClaimsFit legs o → Left l legs after →
-    ((f : Fibre) (x : ℕ) → kind_here f x (find_leg l legs) ≡ None) → ClaimsFit after o
-left-fit l legs after o fit left bare = record {
-  each =
-      λ f. all-to (IsClaimOfLeg legs f) (IsClaimOfLeg after f) (claims_of f o)
-      (λ c e. kept f c (same_lsp l c.lsp) refl e) (fit.each f);
-  all =
-      λ f x m g found t. fit.all f x m g (left-old l legs after left m g _ found (takes-taken f x g t)) t;
-  within = left-within l legs after o fit left;
-  live = left-live l legs after fit.live left;
-}
-  where
-    kept : (f : Fibre) (c : Claim) (b : Bool) → same_lsp l c.lsp ≡ b → IsClaimOfLeg legs f c → IsClaimOfLeg after f c
-    kept f c true s e =
-        let is : l ≡ c.lsp = same_lsp-eq l c.lsp s in
-        let none = bare f c.label in
-        let none' : kind_here f c.label (find_leg c.lsp legs) ≡ None =
-        subst (λ m. kind_here f c.label (find_leg m legs) ≡ None) is none in
-        absurd (cc (none', e))
-    kept f c false s e = subst (λ o. kind_here f c.label o ≡ Some c.kind) (sym (left.others c.lsp s)) e
 
 -- Guards
 
@@ -110,7 +74,7 @@ pub none-guards : (f : Fibre) (x : ℕ) (q : Risk) (o : Option Leg) → kind_her
 none-guards f x q None e = refl
 none-guards f x q (Some g) e = go (takes_in f x g) e
   where
-    go : (b : Bool) → cond b (Some (claim_kind g.role g.phase)) None ≡ None →
+    go : (b : Bool) → cond b (Some (claim_kind g.role)) None ≡ None →
         (b && has_risk (guarded_risks g) q) ≡ false
     go true e = absurd (cc e)
     go false e = refl

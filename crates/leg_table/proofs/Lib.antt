@@ -3,13 +3,13 @@ mod CallIndexes
 mod CallsByLsp
 mod Halved
 mod IndexChanges
-mod LabelsKept
 pub mod LeftLabels
 pub mod LegOrder
 mod LspIndex
 mod LspOrder
 mod NewPlaces
 mod Orders
+pub mod OwnFibres
 pub mod OwnerFibres
 pub mod Places
 pub mod TakenLabels

@@ -1,6 +1,6 @@
 -- Which labels a leg takes.
 use Rattle.std.proofs.Common.{◌≡◌, ◌∙◌, ℕ, Bool, true, false, cond, List, refl, ap, subst}
-use Rattle.std.specs.Prelude.{◌&&◌, IsSome, Option, Some, None}
+use Rattle.std.specs.Prelude.{◌&&◌, Option, Some, None}
 use Rattle.std.specs.List.{AllByRecursion}
 use Rattle.ason_base.specs.declared.ids.Fibre.{Fibre}
 use Rattle.ason_base.specs.declared.ids.Lsp.{Lsp}
@@ -46,13 +46,6 @@ none-takes g f x e = go (takes_in f x g) refl
     go : (b : Bool) → takes_in f x g ≡ b → b ≡ false
     go true t = absurd (cc (e, takes-taken f x g t))
     go false t = refl
-
-pub taken-some : (g : Leg) → IsSome (taken g) → (t : TakenLabel) × (taken g ≡ Some t)
-taken-some g e = go (taken g) refl e
-  where
-    go : (o : Option TakenLabel) → taken g ≡ o → IsSome o → (t : TakenLabel) × (taken g ≡ Some t)
-    go None is e = absurd (cc e)
-    go (Some t) is e = (t, is)
 
 -- Every label that a leg takes: those that it takes with its fibre in, as long as there is no way back
 

@@ -1,7 +1,7 @@
 -- The tables, the owner and the shares of one node.
 use Rattle.std.specs.Prelude.{ℕ, ◌≡◌, ◌≤◌, ◌++◌, List, map}
 use Rattle.ason_base.specs.Network.{row_of}
-use Rattle.link_owner.specs.Claims.{FibreClaims}
+use Rattle.link_owner.specs.Owners.{OwnerState}
 use Rattle.share_check.specs.Guards.{Guard}
 use Rattle.mesh_rules.specs.Changes.{Answer}
 use Rattle.mesh_rules.specs.Legs.{legs_changed}
@@ -15,15 +15,16 @@ use Rattle.leg_table.specs.Tables.{LegTable}
 abbrev pub OwnLegsFit : LegTable → Type 0
 OwnLegsFit t = (next : ℕ) × (1 ≤ next) × LegsFit (local_of t) next t.legs
 
--- the node is an end of each of its links; its legs come and go over them; the owner has the fibres that come in over
--- them, and its claims are the labels that the legs take; the shares guard the risks that backups among these record
-pub record TablesFit (t : LegTable) (o : List FibreClaims) (s : List Guard) : Type 0 where
+-- the node is an end of each of its links; its legs come and go over them; the owner has the fibres of these links, its
+-- claims are the labels that the legs take, and its marks those that marked ones use; the shares guard the risks that
+-- backups among the legs record
+pub record TablesFit (t : LegTable) (o : OwnerState) (s : List Guard) : Type 0 where
   pub links : LocalNodeFits (local_of t)
   pub legs : OwnLegsFit t
   pub node : AreOfOneNode t o s
 
 -- the same of the tables and the owner alone
-pub record TablesFitOwner (t : LegTable) (o : List FibreClaims) : Type 0 where
+pub record TablesFitOwner (t : LegTable) (o : OwnerState) : Type 0 where
   pub links : LocalNodeFits (local_of t)
   pub legs : OwnLegsFit t
   pub claims : ClaimsFit t.legs o

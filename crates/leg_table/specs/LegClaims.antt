@@ -1,26 +1,25 @@
--- Which labels the legs of a node take, the claims of its owner that they have, and the risks that they guard
--- (RFC 4872, section 9).
-use Rattle.std.specs.Prelude.{◌≡◌, ◌≤◌, ◌⊎◌, ◌&&◌, ◌++◌, ℕ, Bool, true, false, List, [], ◌∷◌, map, Option, Some, None, IfSome, IsSome, IsTrue, if◌then◌else◌}
+-- Which labels the legs of a node take and use, the claims and the marks of its owner that they have, and the risks
+-- that they guard (RFC 4872, section 9).
+use Rattle.std.specs.Prelude.{◌≡◌, ◌≤◌, ◌⊎◌, ◌&&◌, ◌||◌, ◌++◌, ℕ, Bool, true, false, List, [], ◌∷◌, map, Option, Some, None, IfSome, IsSome, IsTrue, if◌then◌else◌}
 use Rattle.std.specs.List.{AllByRecursion, list_any}
 use Rattle.ason_base.specs.Labels.{has}
 use Rattle.ason_base.specs.Lsps.{same_fibre, same_lsp}
 use Rattle.ason_base.specs.Network.{row_of}
 use Rattle.ason_base.specs.Risks.{has_risk}
-use Rattle.ason_base.specs.declared.calls.Phase.{Phase}
-use Rattle.ason_base.specs.declared.calls.Phase.TheVariants as phase
 use Rattle.ason_base.specs.declared.calls.Role.{Role}
 use Rattle.ason_base.specs.declared.calls.Role.TheVariants.{Work, Back}
 use Rattle.ason_base.specs.declared.ids.Fibre.{Fibre}
 use Rattle.ason_base.specs.declared.ids.Lsp.{Lsp}
 use Rattle.ason_base.specs.declared.risks.Risk.{Risk}
 use Rattle.ason_base.specs.declared.tables.Leg.{Leg}
-use Rattle.link_owner.specs.Claims.{FibreClaims, NoClaim, works_on}
+use Rattle.link_owner.specs.Claims.{NoClaim, works_on}
 use Rattle.link_owner.specs.Claims as claims
-use Rattle.link_owner.specs.Owners.{claim_added, claims_of, comes_in, has_label, label_armed, label_disarmed, label_freed, labels_of}
+use Rattle.link_owner.specs.Marks.{has_fibre, is_lit}
+use Rattle.link_owner.specs.Owners.{OwnerState, claim_added, claims_of, comes_in, has_label, label_freed, labels_of}
 use Rattle.link_owner.specs.declared.claims.Claim.{Claim}
 use Rattle.link_owner.specs.declared.claims.ClaimKind.{ClaimKind}
-use Rattle.link_owner.specs.declared.claims.ClaimKind.TheVariants.{Working, Backup, Armed}
-use Rattle.mesh_rules.specs.Legs.{find_leg, is_at, is_beyond_asked, is_busy, is_in_use, is_work, leg_changed, reserved, usable}
+use Rattle.link_owner.specs.declared.claims.ClaimKind.TheVariants.{Working, Backup}
+use Rattle.mesh_rules.specs.Legs.{find_leg, is_at, is_beyond_asked, is_contended, is_marked, is_work, leg_changed, reserved, reverse, usable, uses}
 use Rattle.mesh_rules.specs.LocalNodes.{LocalNode, fibre_in, own_link}
 use Rattle.mesh_rules.specs.LocalNodes as local
 use Rattle.mesh_rules.specs.declared.changes.LegChange.{LegChange}
@@ -51,20 +50,13 @@ takes_in f x g = is_beyond_asked g.phase && is_at g.in_fibre g.in_label f x
 
 -- Claims of legs
 
--- a working leg has its label alone; a backup shares it, and is armed exactly where it is Armed or Live
-abbrev pub claim_kind : Role → Phase → ClaimKind
-claim_kind Work p = Working
-claim_kind Back phase.Armed = Armed
-claim_kind Back phase.Live = Armed
-claim_kind Back p = Backup
+-- a working leg has its label alone, a backup shares it
+abbrev pub claim_kind : Role → ClaimKind
+claim_kind Work = Working
+claim_kind Back = Backup
 
--- how a leg has a label at first
-abbrev pub first_kind : Role → ClaimKind
-first_kind Work = Working
-first_kind Back = Backup
-
-abbrev pub first_claim : Role → ℕ → Lsp → Claim
-first_claim r x l = record { label = x; lsp = l; kind = first_kind r }
+abbrev pub claim_by : Role → ℕ → Lsp → Claim
+claim_by r x l = record { label = x; lsp = l; kind = claim_kind r }
 
 -- a claim that keeps a leg of this role from the label
 abbrev pub bars : Role → ℕ → Claim → Bool
@@ -74,36 +66,47 @@ bars Back x c = works_on x c
 -- how the leg has the label, if it takes it
 abbrev pub kind_here : Fibre → ℕ → Option Leg → Option ClaimKind
 kind_here f x None = None
-kind_here f x (Some g) = if takes_in f x g then Some (claim_kind g.role g.phase) else None
+kind_here f x (Some g) = if takes_in f x g then Some (claim_kind g.role) else None
 
 -- the leg of the claim's LSP takes the label, and has it in this way
 abbrev pub IsClaimOfLeg : List Leg → Fibre → Claim → Type 0
 IsClaimOfLeg legs f c = kind_here f c.label (find_leg c.lsp legs) ≡ Some c.kind
 
--- a working leg that takes a label is Live
-abbrev pub WorksAreLive : List Leg → Type 0
-WorksAreLive legs =
-    (l : Lsp) (g : Leg) → find_leg l legs ≡ Some g → IsSome (taken g) → is_work g.role ≡ true → g.phase ≡ phase.Live
+-- the leg is marked, and uses the label
+abbrev pub is_marked_on : Fibre → ℕ → Option Leg → Bool
+is_marked_on f x None = false
+is_marked_on f x (Some g) = is_marked g && uses f x g
 
--- the claims are exactly the labels that legs take
-pub record ClaimsFit (legs : List Leg) (o : List FibreClaims) : Type 0 where
+-- an LSP's mark is on a label just where its leg is marked and uses it
+abbrev pub MarksFit : List Leg → OwnerState → Type 0
+MarksFit legs o = (f : Fibre) (x : ℕ) (l : Lsp) → is_lit o.marks f x l ≡ is_marked_on f x (find_leg l legs)
+
+-- the claims are exactly the labels that legs take, and the marks those that marked legs use
+pub record ClaimsFit (legs : List Leg) (o : OwnerState) : Type 0 where
   -- each claim is one of a leg
-  pub each : (f : Fibre) → AllByRecursion (IsClaimOfLeg legs f) (claims_of f o)
+  pub each : (f : Fibre) → AllByRecursion (IsClaimOfLeg legs f) (claims_of f o.claims)
   -- each label that a leg takes is claimed by its LSP
   pub all : (f : Fibre) (x : ℕ) (l : Lsp) (g : Leg) → find_leg l legs ≡ Some g → IsTrue (takes_in f x g) →
-      IsTrue (has_label o f x l)
+      IsTrue (has_label o.claims f x l)
   -- and is a label of its fibre
   pub within : (f : Fibre) (x : ℕ) (l : Lsp) (g : Leg) → find_leg l legs ≡ Some g → IsTrue (takes_in f x g) →
-      x ≤ labels_of f o
-  pub live : WorksAreLive legs
-
--- claims that fitted the legs still do
-abbrev pub ClaimsStay : List Leg → List Leg → Type 0
-ClaimsStay before after = (o : List FibreClaims) → ClaimsFit before o → ClaimsFit after o
+      x ≤ labels_of f o.claims
+  pub marks : MarksFit legs o
 
 -- the claims with that of a leg that takes the label
-abbrev pub claimed_by : Leg → TakenLabel → List FibreClaims → List FibreClaims
-claimed_by g t o = claim_added t.fibre (first_claim g.role t.label g.lsp) o
+abbrev pub claimed_by : Leg → TakenLabel → OwnerState → OwnerState
+claimed_by g t o = record o { claims = claim_added t.fibre (claim_by g.role t.label g.lsp) o.claims }
+
+-- the LSP's marks are those of this leg
+abbrev pub MarksOfLeg : Lsp → Option Leg → OwnerState → Type 0
+MarksOfLeg l g o = (f : Fibre) (x : ℕ) → is_lit o.marks f x l ≡ is_marked_on f x g
+
+-- they are those of this leg after, and all else is as it was
+pub record MarksJust (l : Lsp) (g : Option Leg) (before after : OwnerState) : Type 0 where
+  pub claims : after.claims ≡ before.claims
+  pub fibres : (f : Fibre) → has_fibre after.marks f ≡ has_fibre before.marks f
+  pub lit : (f : Fibre) (x : ℕ) (m : Lsp) → is_lit after.marks f x m
+      ≡ (if same_lsp l m then is_marked_on f x g else is_lit before.marks f x m)
 
 -- Guards of legs
 
@@ -133,49 +136,44 @@ abbrev pub GuardsNothing : Lsp → List Guard → List Guard → Type 0
 GuardsNothing l before after = (f : Fibre) (x : ℕ) (m : Lsp) (q : Risk) →
     is_guarded after f x m q ≡ (if same_lsp l m then false else is_guarded before f x m q)
 
--- the claims and the guards are those of the legs
-pub record LabelsFit (legs : List Leg) (o : List FibreClaims) (s : List Guard) : Type 0 where
+-- the claims, the marks and the guards are those of the legs
+pub record LabelsFit (legs : List Leg) (o : OwnerState) (s : List Guard) : Type 0 where
   pub claims : ClaimsFit legs o
   pub guards : GuardsFit legs s
 
--- Fibres that come in
+-- Fibres of a node
 
 -- the fibre in of a link of the node
 abbrev pub is_fibre_in : LocalNode → Fibre → Bool
 is_fibre_in p f = list_any (λ l. same_fibre (fibre_in l p.id) f) p.own
 
--- the owner has the fibres in of the node's own links, with their labels
-pub record OwnerFits (p : LocalNode) (o : List FibreClaims) : Type 0 where
-  pub fibres : (f : Fibre) → comes_in o f ≡ is_fibre_in p f
-  pub labels : (f : Fibre) → IsTrue (comes_in o f) → labels_of f o ≡ local.labels_of (own_link p f.link)
+-- a fibre of a link of the node, in or out
+abbrev pub is_own_fibre : LocalNode → Fibre → Bool
+is_own_fibre p f = is_fibre_in p f || is_fibre_in p (reverse f)
+
+-- the owner has the fibres in of the node's own links, with their labels, and the marks of those in and out
+pub record OwnerFits (p : LocalNode) (o : OwnerState) : Type 0 where
+  pub fibres : (f : Fibre) → comes_in o.claims f ≡ is_fibre_in p f
+  pub labels : (f : Fibre) → IsTrue (comes_in o.claims f) → labels_of f o.claims ≡ local.labels_of (own_link p f.link)
+  pub marked : (f : Fibre) → has_fibre o.marks f ≡ is_own_fibre p f
 
 -- these are the tables, the owner and the shares of one node, and the rows that it knows begin with those of its own
 -- links
-pub record AreOfOneNode (t : LegTable) (o : List FibreClaims) (s : List Guard) : Type 0 where
+pub record AreOfOneNode (t : LegTable) (o : OwnerState) (s : List Guard) : Type 0 where
   pub labels : LabelsFit t.legs o s
   pub fibres : OwnerFits (local_of t) o
   pub rows : t.rows ≡ map row_of t.own ++ learnt_rows t
 
--- the same fibres come in, with as many labels
-pub record SameFibres (o after : List FibreClaims) : Type 0 where
-  pub fibres : (f : Fibre) → comes_in after f ≡ comes_in o f
-  pub labels : (f : Fibre) → labels_of f after ≡ labels_of f o
+-- the same fibres come in, with as many labels, and the same have marks
+pub record SameFibres (o after : OwnerState) : Type 0 where
+  pub fibres : (f : Fibre) → comes_in after.claims f ≡ comes_in o.claims f
+  pub labels : (f : Fibre) → labels_of f after.claims ≡ labels_of f o.claims
+  pub marked : (f : Fibre) → has_fibre after.marks f ≡ has_fibre o.marks f
 
 -- the claim of the LSP on the label, if it has one, is freed
-abbrev pub freed_of : Lsp → Option TakenLabel → List FibreClaims → List FibreClaims
+abbrev pub freed_of : Lsp → Option TakenLabel → OwnerState → OwnerState
 freed_of l None o = o
-freed_of l (Some t) o = label_freed t.fibre t.label l o
-
--- an activation has passed the leg
-abbrev pub is_used_by : Option Leg → Bool
-is_used_by None = false
-is_used_by (Some g) = is_in_use g.phase
-
--- the claim of a leg that keeps its label: armed where the leg is in use after and wasn't before, disarmed the other way
-abbrev pub kept_claim : Lsp → TakenLabel → Bool → Bool → List FibreClaims → List FibreClaims
-kept_claim l t false true o = label_armed t.fibre t.label l o
-kept_claim l t true false o = label_disarmed t.fibre t.label l o
-kept_claim l t before after o = o
+freed_of l (Some t) o = record o { claims = label_freed t.fibre t.label l o.claims }
 
 -- Changes of legs
 
@@ -186,15 +184,13 @@ pub record MayTake (p : LocalNode) (legs : List Leg) (g : Leg) (t : TakenLabel) 
   pub comes_in : IsTrue (is_fibre_in p t.fibre)
   pub usable : IsTrue (has (usable p legs g.role g.risks t.fibre) t.label)
 
--- a leg keeps the label that it has: it is activated only where no other leg on the label is Armed or Live
+-- a leg keeps the label that it has
 pub record MayKeep (legs : List Leg) (g : Leg) (t : TakenLabel) : Type 0 where
   pub before : Leg
   pub there : find_leg g.lsp legs ≡ Some before
   pub keeps : taken before ≡ Some t
   pub role : before.role ≡ g.role
   pub risks : before.risks ≡ g.risks
-  pub live : is_work g.role ≡ true → g.phase ≡ phase.Live
-  pub alone : is_in_use before.phase ≡ false → is_in_use g.phase ≡ true → is_busy legs g.lsp t.fibre t.label ≡ false
 
 abbrev pub MayHave : LocalNode → List Leg → Leg → TakenLabel → Type 0
 MayHave p legs g t = MayTake p legs g t ⊎ MayKeep legs g t
@@ -211,18 +207,18 @@ TakesNone (Goes l) = Unit {0}
 TakesNone (Put g) = taken g ≡ None
 
 -- the same, by the owner: no claim keeps the leg from the label
-pub record MayClaim (o : List FibreClaims) (legs : List Leg) (g : Leg) (t : TakenLabel) : Type 0 where
+pub record MayClaim (o : OwnerState) (legs : List Leg) (g : Leg) (t : TakenLabel) : Type 0 where
   pub first : g.phase ≡ reserved g.role
   pub fresh : taken_of (find_leg g.lsp legs) ≡ None
-  pub comes_in : IsTrue (comes_in o t.fibre)
-  pub within : t.label ≤ labels_of t.fibre o
-  pub free : NoClaim (bars g.role t.label) (claims_of t.fibre o)
+  pub comes_in : IsTrue (comes_in o.claims t.fibre)
+  pub within : t.label ≤ labels_of t.fibre o.claims
+  pub free : NoClaim (bars g.role t.label) (claims_of t.fibre o.claims)
 
-abbrev pub MayEnter : List FibreClaims → List Leg → LegChange → Type 0
+abbrev pub MayEnter : OwnerState → List Leg → LegChange → Type 0
 MayEnter o legs (Goes l) = Unit {0}
 MayEnter o legs (Put g) = IfSome (taken g) (λ t. MayClaim o legs g t ⊎ MayKeep legs g t)
 
-abbrev pub MayAllEnter : List FibreClaims → List Leg → List LegChange → Type 0
+abbrev pub MayAllEnter : OwnerState → List Leg → List LegChange → Type 0
 MayAllEnter o legs [] = Unit {0}
 MayAllEnter o legs (c ∷ cs) = MayEnter o legs c × AllByRecursion TakesNone cs
 
@@ -230,11 +226,6 @@ MayAllEnter o legs (c ∷ cs) = MayEnter o legs c × AllByRecursion TakesNone cs
 abbrev pub MayBeMade : LocalNode → List Leg → List LegChange → Type 0
 MayBeMade p legs [] = Unit {0}
 MayBeMade p legs (c ∷ cs) = MayBeFirst p legs c × AllByRecursion TakesNone cs
-
--- the LSP's leg takes no label, before the change or after it
-abbrev pub ChangesNoLabel : List Leg → LegChange → Type 0
-ChangesNoLabel legs (Goes l) = taken_of (find_leg l legs) ≡ None
-ChangesNoLabel legs (Put g) = (taken_of (find_leg g.lsp legs) ≡ None) × (taken g ≡ None)
 
 -- the LSP's leg, which stands, keeps its label, or takes none before and after
 abbrev pub StaysAs : List Leg → Leg → Option TakenLabel → Type 0
@@ -250,11 +241,45 @@ abbrev pub MayAllStay : List Leg → List LegChange → Type 0
 MayAllStay legs [] = Unit {0}
 MayAllStay legs (c ∷ cs) = MayStay legs c × MayAllStay (leg_changed c legs) cs
 
+-- Marks of legs that are put
+
+-- each label that the leg uses is of one of the fibres
+abbrev pub UsesOver : (Fibre → Bool) → Leg → Type 0
+UsesOver own g = (f : Fibre) (x : ℕ) → uses f x g ≡ true → IsTrue (own f)
+
+-- the labels that the leg uses are of the node's fibres
+abbrev pub OverOwnFibres : LocalNode → Leg → Type 0
+OverOwnFibres p g = UsesOver (is_own_fibre p) g
+
+-- its LSP's leg is marked and uses those labels
+pub record KeepsMark (legs : List Leg) (g : Leg) : Type 0 where
+  pub before : Leg
+  pub there : find_leg g.lsp legs ≡ Some before
+  pub marked : is_marked before ≡ true
+  pub uses : (f : Fibre) (x : ℕ) → uses f x g ≡ true → uses f x before ≡ true
+
+-- no marked leg of another LSP uses them, and they are of these fibres
+pub record GetsMark (own : Fibre → Bool) (legs : List Leg) (g : Leg) : Type 0 where
+  pub over : UsesOver own g
+  pub alone : is_contended legs g ≡ false
+
+abbrev pub MayMark : (Fibre → Bool) → List Leg → Leg → Type 0
+MayMark own legs g = is_marked g ≡ true → KeepsMark legs g ⊎ GetsMark own legs g
+
+abbrev pub MayMarkSo : (Fibre → Bool) → List Leg → LegChange → Type 0
+MayMarkSo own legs (Goes l) = Unit {0}
+MayMarkSo own legs (Put g) = MayMark own legs g
+
+-- each in its turn
+abbrev pub MayAllMark : (Fibre → Bool) → List Leg → List LegChange → Type 0
+MayAllMark own legs [] = Unit {0}
+MayAllMark own legs (c ∷ cs) = MayMarkSo own legs c × MayAllMark own (leg_changed c legs) cs
+
 -- shares that were of one node with the tables and the owner still are
-abbrev pub SharesStay : LegTable → List FibreClaims → LegTable → List FibreClaims → Type 0
+abbrev pub SharesStay : LegTable → OwnerState → LegTable → OwnerState → Type 0
 SharesStay before o after claimed = (s : List Guard) → AreOfOneNode before o s → AreOfOneNode after claimed s
 
 -- an owner and shares that were of one node with the tables still are
 abbrev pub StaysOfOneNode : LegTable → LegTable → Type 0
 StaysOfOneNode before after =
-    (o : List FibreClaims) (s : List Guard) → AreOfOneNode before o s → AreOfOneNode after o s
+    (o : OwnerState) (s : List Guard) → AreOfOneNode before o s → AreOfOneNode after o s

@@ -1,7 +1,7 @@
 //! The tables, the owner and the shares of a node at the start.
 
 ghost use Rattle.std.specs.Prelude.{◌≡◌, []};
-ghost use Rattle.link_owner.specs.Owners.{none_claimed};
+ghost use Rattle.link_owner.specs.Owners.{unowned};
 ghost use Rattle.leg_table.specs.Fits.{TablesFit};
 ghost use Rattle.leg_table.specs.Tables.{new_table};
 
@@ -13,7 +13,7 @@ use share_check::Shares;
 /// Law: the tables, the owner and the shares of a node fit at the start.
 pub fn at_start(t: &Topology, id: NodeId, tables: &NodeTables, owner: &Owner, shares: &Shares)
     requires tables { tables.now ≡ new_table t.now id }
-    requires owner { owner.now ≡ none_claimed t.now id }
+    requires owner { owner.now ≡ unowned t.now id }
     requires shares { shares.now ≡ [] }
     ensures { TablesFit tables.now owner.now shares.now }
 {

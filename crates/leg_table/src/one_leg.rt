@@ -28,7 +28,7 @@ pub fn is_armed(phase: Phase) -> bool
     matches!(phase, Phase::Armed)
 }
 
-/// Whether the leg is Armed or Live: no other leg on its label can be activated.
+/// Whether the leg is Armed or Live.
 pub fn is_in_use(phase: Phase) -> bool
     ensures { result ≡ is_in_use phase }
 {

@@ -5,9 +5,10 @@ use Rattle.std.specs.List.{list_any, position_or_len}
 use Rattle.ason_base.specs.declared.ids.Fibre.{Fibre}
 use Rattle.link_owner.specs.declared.claims.Claim.{Claim}
 use Rattle.link_owner.specs.Claims.{FibreClaims}
-use Rattle.link_owner.specs.Owners.{claims_of, comes_in, is_fibre, labels_of, with_claims}
+use Rattle.link_owner.specs.Marks.{FibreMarks}
+use Rattle.link_owner.specs.Owners.{OwnerState, claims_of, comes_in, is_fibre, labels_of, with_claims}
 
-one_more : (n : ℕ) → 1 + n ≡ suc n
+pub one_more : (n : ℕ) → 1 + n ≡ suc n
 one_more n = omega arith
 
 some_is : (b : Bool) (n i : ℕ) → cond b (Some n) None ≡ Some i → n ≡ i
@@ -28,16 +29,16 @@ within {X} p (x ∷ xs) h = go (p x) h (within p xs)
     go true h later = omega arith
     go false h later = omega (arith, later h)
 
-pub place-found : (f : Fibre) (o : List FibreClaims) → comes_in o f ≡ true → position (is_fibre f) o ≡ None → ⊥
-place-found f o h e =
-    let far = none_is (nat_lt (position_or_len (is_fibre f) o) (length o)) (position_or_len (is_fibre f) o) e in
-    let near : position_or_len (is_fibre f) o < length o = within (is_fibre f) o h in
-    let test : nat_lt (position_or_len (is_fibre f) o) (length o) ≡ false = far in
+pub place-found : {X : Type 0} (p : X → Bool) (xs : List X) → list_any p xs ≡ true → position p xs ≡ None → ⊥
+place-found p xs h e =
+    let far = none_is (nat_lt (position_or_len p xs) (length xs)) (position_or_len p xs) e in
+    let near : position_or_len p xs < length xs = within p xs h in
+    let test : nat_lt (position_or_len p xs) (length xs) ≡ false = far in
     grind arith
 
-place_is : (f : Fibre) (o : List FibreClaims) (i : ℕ) → position (is_fibre f) o ≡ Some i →
-    position_or_len (is_fibre f) o ≡ i
-place_is f o i e = some_is (nat_lt (position_or_len (is_fibre f) o) (length o)) (position_or_len (is_fibre f) o) i e
+-- where the first that passes stands
+pub place_is : {X : Type 0} (p : X → Bool) (xs : List X) (i : ℕ) → position p xs ≡ Some i → position_or_len p xs ≡ i
+place_is p xs i e = some_is (nat_lt (position_or_len p xs) (length xs)) (position_or_len p xs) i e
 
 set-first : (f : Fibre) (claims : List Claim) (o : List FibreClaims) (d : FibreClaims) →
     set o (position_or_len (is_fibre f) o) (record (get_or o (position_or_len (is_fibre f) o) d) { claims = claims })
@@ -82,37 +83,51 @@ labels-first f (r ∷ o) d h = go (is_fibre f r) h (labels-first f o d)
     go true h later = refl
     go false h later = rw (one_more n) (later h)
 
--- a fibre that was found, as it was read at its place
-pub record IsRead (f : Fibre) (o items : List FibreClaims) (i : ℕ) (r : FibreClaims) : Type 0 where
-  pub there : comes_in o f ≡ true
-  pub first : position (is_fibre f) o ≡ Some i
+-- a fibre that was found, as it was read at its place; the owner has these items and marks
+pub record IsRead (f : Fibre) (o : OwnerState) (items : List FibreClaims) (marks : List FibreMarks) (i : ℕ)
+    (r : FibreClaims) : Type 0 where
+  pub there : comes_in o.claims f ≡ true
+  pub first : position (is_fibre f) o.claims ≡ Some i
   pub read : r ≡ get_or items i r
-  pub same : items ≡ o
+  pub view : record { claims = items; marks = marks } ≡ o
 
-read-here : (f : Fibre) (o items : List FibreClaims) (i : ℕ) (r : FibreClaims) → IsRead f o items i r → r ≡ get_or o i r
-read-here f o items i r h = h.read ∙ ap (λ xs. get_or xs i r) h.same
+module _ {f : Fibre} {o : OwnerState} {items : List FibreClaims} {marks : List FibreMarks} {i : ℕ} {r : FibreClaims}
+    (h : IsRead f o items marks i r) where
+  same : items ≡ o.claims
+  same = ap (λ p. p.claims) h.view
 
-pub read-claims : (f : Fibre) (o items : List FibreClaims) (i : ℕ) (r : FibreClaims) → IsRead f o items i r →
-    r.claims ≡ claims_of f o
-read-claims f o items i r h =
-    ap (λ s. s.claims) (read-here f o items i r h)
-    ∙ subst (λ j. (get_or o j r).claims ≡ claims_of f o) (place_is f o i h.first) (claims-first f o r h.there)
+  place : position_or_len (is_fibre f) o.claims ≡ i
+  place = place_is (is_fibre f) o.claims i h.first
 
-pub read-labels : (f : Fibre) (o items : List FibreClaims) (i : ℕ) (r : FibreClaims) → IsRead f o items i r →
-    r.labels ≡ labels_of f o
-read-labels f o items i r h =
-    ap (λ s. s.labels) (read-here f o items i r h)
-    ∙ subst (λ j. (get_or o j r).labels ≡ labels_of f o) (place_is f o i h.first) (labels-first f o r h.there)
+  read-here : r ≡ get_or o.claims i r
+  read-here = h.read ∙ ap (λ xs. get_or xs i r) same
 
--- its claims changed, and put back
-pub put-back : (f : Fibre) (o items : List FibreClaims) (i : ℕ) (r s : FibreClaims)
-    (change : List Claim → List Claim) → IsRead f o items i r → s ≡ record r { claims = change r.claims } →
-    set items i s ≡ with_claims f (change (claims_of f o)) o
-put-back f o items i r s change h e =
-    let new : FibreClaims → FibreClaims = λ q. record q { claims = change r.claims } in
-    let put : set o i s ≡ set o i (new (get_or o i r)) = ap (set o i) (e ∙ ap new (read-here f o items i r h)) in
-    let here : set o i (new (get_or o i r)) ≡ with_claims f (change r.claims) o =
-    subst (λ j. set o j (new (get_or o j r)) ≡ with_claims f (change r.claims) o) (place_is f o i h.first)
-    (set-first f (change r.claims) o r) in
-    ap (λ xs. set xs i s) h.same ∙ put ∙ here ∙ ap (λ claims. with_claims f (change claims) o)
-    (read-claims f o items i r h)
+  pub read-claims : r.claims ≡ claims_of f o.claims
+  read-claims =
+      ap (λ s. s.claims) read-here
+      ∙ subst (λ j. (get_or o.claims j r).claims ≡ claims_of f o.claims) place (claims-first f o.claims r h.there)
+
+  pub read-labels : r.labels ≡ labels_of f o.claims
+  read-labels =
+      ap (λ s. s.labels) read-here
+      ∙ subst (λ j. (get_or o.claims j r).labels ≡ labels_of f o.claims) place (labels-first f o.claims r h.there)
+
+  put-claims : (s : FibreClaims) (change : List Claim → List Claim) → s ≡ record r { claims = change r.claims } →
+      set items i s ≡ with_claims f (change (claims_of f o.claims)) o.claims
+  put-claims s change e =
+      let new : FibreClaims → FibreClaims = λ q. record q { claims = change r.claims } in
+      let put : set o.claims i s ≡ set o.claims i (new (get_or o.claims i r)) =
+      ap (set o.claims i) (e ∙ ap new read-here) in
+      let there : set o.claims i (new (get_or o.claims i r)) ≡ with_claims f (change r.claims) o.claims =
+      subst (λ j. set o.claims j (new (get_or o.claims j r)) ≡ with_claims f (change r.claims) o.claims) place
+      (set-first f (change r.claims) o.claims r) in
+      ap (λ xs. set xs i s) same ∙ put ∙ there ∙ ap (λ claims. with_claims f (change claims) o.claims) read-claims
+
+  -- its claims changed, and put back
+  pub put-back : (s : FibreClaims) (change : List Claim → List Claim) → s ≡ record r { claims = change r.claims } →
+      record { claims = set items i s; marks = marks }
+      ≡ record o { claims = with_claims f (change (claims_of f o.claims)) o.claims }
+  put-back s change e =
+      let claims = put-claims s change e in
+      let kept = ap (λ p. p.marks) h.view in
+      λ j. record { claims = claims j; marks = kept j }

@@ -2,15 +2,12 @@
 use Rattle.std.proofs.Common.{◌≡◌, ℕ, Bool, true, false, not, nat_eq, List, [], ◌∷◌, ◌≤◌, ◌+◌, zero, suc, refl, sym, ap, ◌∙◌, arith}
 use Rattle.std.specs.Prelude.{◌&&◌, ◌||◌, filter}
 use Rattle.std.specs.List.{list_any}
-use Rattle.ason_base.specs.declared.ids.Lsp.{Lsp}
 use Rattle.ason_base.specs.Labels.{has as is_in, meet, numbers_from, up_to}
-use Rattle.ason_base.specs.Lsps.{same_lsp}
 use Rattle.ason_base.proofs.MaskMembers.{filter-agree, filter-filter, has-bound, has-filter, has-numbers}
 use Rattle.link_owner.specs.declared.claims.Claim.{Claim}
 use Rattle.link_owner.specs.declared.claims.ClaimKind.{ClaimKind}
-use Rattle.link_owner.specs.declared.claims.ClaimKind.TheVariants.{Working, Backup, Armed}
-use Rattle.link_owner.specs.Claims.{free_of, has, has_so, is_armed, is_backup, is_busy, is_in_use, is_working, unclaimed}
-use Rattle.link_owner.proofs.LeastClaims.{any-none}
+use Rattle.link_owner.specs.declared.claims.ClaimKind.TheVariants.{Working, Backup}
+use Rattle.link_owner.specs.Claims.{free_of, has, has_so, is_backup, is_working, unclaimed}
 
 or_swapped : (a b c d : Bool) → ((a || b) || (c || d)) ≡ ((a || c) || (b || d))
 or_swapped true b c d = refl
@@ -34,24 +31,7 @@ any-has claims x =
     here : (b : Bool) (k : ClaimKind) → b ≡ ((b && is_working k) || (b && is_backup k))
     here true Working = refl
     here true Backup = refl
-    here true Armed = refl
     here false k = refl
-
--- a label that no working leg has, and no backup that is Armed or Live, is busy for none
-pub none-busy : (claims : List Claim) (x : ℕ) (l : Lsp) → list_any (has_so is_working x) claims ≡ false →
-    list_any (has_so is_armed x) claims ≡ false → list_any (is_busy x l) claims ≡ false
-none-busy claims x l works arms =
-    any-none (is_busy x l) (λ c. has_so is_working x c || has_so is_armed x c) claims
-    (λ c h. here (nat_eq c.label x) c.kind (not (same_lsp c.lsp l)) h)
-    (any-either (has_so is_working x) (has_so is_armed x) (λ c. has_so is_working x c || has_so is_armed x c) claims
-    (λ c. refl) ∙ rw (works, arms) refl)
-  where
-    here : (b : Bool) (k : ClaimKind) (other : Bool) → (b && (is_in_use k && other)) ≡ true →
-        ((b && is_working k) || (b && is_armed k)) ≡ true
-    here true Working other h = refl
-    here true Backup other h = cc h
-    here true Armed other h = refl
-    here false k other h = cc h
 
 from-first : (n first y : ℕ) → is_in (numbers_from first n) y ≡ true → first ≤ y
 unfolding numbers_from

@@ -1,6 +1,6 @@
--- The labels that no leg has in some way, when claims come, change and go.
+-- The labels that no leg has in some way, when claims come and go.
 use Rattle.std.proofs.Common.{◌≡◌, ℕ, Bool, true, false, cond, not, nat_eq, List, [], ◌∷◌, ◌++◌, inl, inr, refl, sym, ap, subst, ◌∙◌, arith}
-use Rattle.std.specs.Prelude.{◌⊎◌, ◌&&◌, ◌||◌, filter, map}
+use Rattle.std.specs.Prelude.{◌⊎◌, ◌&&◌, ◌||◌, filter}
 use Rattle.std.specs.List.{list_any}
 use Rattle.std.proofs.lemmas.Map.Views.{any-filter_same}
 use Rattle.ason_base.specs.declared.ids.Lsp.{Lsp}
@@ -9,9 +9,7 @@ use Rattle.ason_base.specs.Lsps.{same_lsp}
 use Rattle.ason_base.proofs.MaskMembers.{filter-agree, filter-filter, has-filter}
 use Rattle.link_owner.specs.declared.claims.Claim.{Claim}
 use Rattle.link_owner.specs.declared.claims.ClaimKind.{ClaimKind}
-use Rattle.link_owner.specs.declared.claims.ClaimKind.TheVariants.{Working, Backup, Armed}
-use Rattle.link_owner.specs.declared.free_labels.FreeLabels.{FreeLabels}
-use Rattle.link_owner.specs.Claims.{AreFree, armed_kind, disarmed_kind, free_of, freed, has, has_so, is_armed, is_backup, is_of_lsp, is_working, with_free}
+use Rattle.link_owner.specs.Claims.{free_of, freed, has, has_so, is_of_lsp, with_free}
 use Rattle.link_owner.proofs.LabelTests.{left-kept, left-none, left-taken}
 
 same_number : (a b : ℕ) → nat_eq a b ≡ true → a ≡ b
@@ -22,12 +20,6 @@ both true b h = (refl, h)
 both false b h = absurd (cc h)
 
 -- Tests over claims
-
--- claims that change, and pass a test as they are changed
-pub any-changed : (p q : Claim → Bool) (change : Claim → Claim) (claims : List Claim) →
-    ((c : Claim) → p (change c) ≡ q c) → list_any p (map change claims) ≡ list_any q claims
-any-changed p q change [] same = refl
-any-changed p q change (c ∷ claims) same = rw (same c, any-changed p q change claims same) refl
 
 -- where no claim passes, none that is left does
 pub none-left : (p q : Claim → Bool) (claims : List Claim) → list_any p claims ≡ false →
@@ -115,72 +107,6 @@ freed-elsewhere so x l claims y e =
         cc (sym (apart c.label x y (of-label x l c f) e) ∙ (both (nat_eq c.label y) (so c.kind) h).0)
     go c h false f = refl
 
--- Claims armed and disarmed
-
--- the claim, changed in how its leg has the label where it is this LSP's of it
-abbrev pub changed : (ClaimKind → ClaimKind) → ℕ → Lsp → Claim → Claim
-changed change x l c = cond (is_of_lsp x l c) (record c { kind = change c.kind }) c
-
--- a change that keeps the way
-pub kept-so : (so : ClaimKind → Bool) (change : ClaimKind → ClaimKind) → ((k : ClaimKind) → so (change k) ≡ so k) →
-    (x y : ℕ) (l : Lsp) (c : Claim) → has_so so y (changed change x l c) ≡ has_so so y c
-kept-so so change keeps x y l c =
-    elim (is_of_lsp x l c) as (λ b. has_so so y (cond b (record c { kind = change c.kind }) c) ≡ has_so so y c) [
-      | true ↦ ap (λ b. nat_eq c.label y && b) (keeps c.kind)
-      | false ↦ refl
-    ]
-
--- a change of another label's claim
-changed-elsewhere : (so : ClaimKind → Bool) (change : ClaimKind → ClaimKind) (x y : ℕ) (l : Lsp) (c : Claim) →
-    nat_eq y x ≡ false → has_so so y (changed change x l c) ≡ has_so so y c
-changed-elsewhere so change x y l c e = go (is_of_lsp x l c) refl
-  where
-    go : (b : Bool) → is_of_lsp x l c ≡ b →
-        has_so so y (cond b (record c { kind = change c.kind }) c) ≡ has_so so y c
-    go true f =
-        let other : nat_eq c.label y ≡ false = apart c.label x y (of-label x l c f) e in
-        ap (λ b. b && so (change c.kind)) other ∙ sym (ap (λ b. b && so c.kind) other)
-    go false f = refl
-
--- claims of one label that are changed leave those of others
-pub all-elsewhere : (so : ClaimKind → Bool) (change : ClaimKind → ClaimKind) (x : ℕ) (l : Lsp) (claims : List Claim) →
-    StayElsewhere so x claims (map (changed change x l) claims)
-all-elsewhere so change x l claims y e =
-    any-changed (has_so so y) (has_so so y) (changed change x l) claims (λ c. changed-elsewhere so change x y l c e)
-
--- where each change keeps the way, all labels are as free as before
-pub all-kept : (so : ClaimKind → Bool) (change : ClaimKind → ClaimKind) → ((k : ClaimKind) → so (change k) ≡ so k) →
-    (x : ℕ) (l : Lsp) (claims : List Claim) → free_of so (map (changed change x l) claims) ≡ free_of so claims
-all-kept so change keeps x l claims =
-    filter-agree (λ y. not (list_any (has_so so y) (map (changed change x l) claims)))
-    (λ y. not (list_any (has_so so y) claims)) (up_to 80)
-    (λ y h. ap not (any-changed (has_so so y) (has_so so y) (changed change x l) claims
-    (λ c. kept-so so change keeps x y l c)))
-
--- an armed claim is as much a working one as before
-pub arming-works : (k : ClaimKind) → is_working (armed_kind k) ≡ is_working k
-arming-works Working = refl
-arming-works Backup = refl
-arming-works Armed = refl
-
--- and as much a backup's
-pub arming-holds : (k : ClaimKind) → is_backup (armed_kind k) ≡ is_backup k
-arming-holds Working = refl
-arming-holds Backup = refl
-arming-holds Armed = refl
-
--- a disarmed claim is as much a working one as before
-pub disarming-works : (k : ClaimKind) → is_working (disarmed_kind k) ≡ is_working k
-disarming-works Working = refl
-disarming-works Backup = refl
-disarming-works Armed = refl
-
--- and as much a backup's
-pub disarming-holds : (k : ClaimKind) → is_backup (disarmed_kind k) ≡ is_backup k
-disarming-holds Working = refl
-disarming-holds Backup = refl
-disarming-holds Armed = refl
-
 -- The labels that no leg has, after a change
 
 -- no claim, and all labels are free
@@ -208,22 +134,6 @@ pub more-other : (so : ClaimKind → Bool) (claims : List Claim) (c : Claim) →
 more-other so claims c other =
     sym (left-kept (has_so so) claims c (up_to 80)
     (λ y. ap (λ b. nat_eq c.label y && b) other ∙ and_false (nat_eq c.label y)))
-
--- an LSP's claim was changed in how its leg has the label, and is as much a working one and as much a backup's as
--- it was
-pub changed-free : (change : ClaimKind → ClaimKind) → ((k : ClaimKind) → is_working (change k) ≡ is_working k) →
-    ((k : ClaimKind) → is_backup (change k) ≡ is_backup k) → (before : List Claim) (x : ℕ) (l : Lsp)
-    (labels : FreeLabels) (free : Bool) → AreFree before labels →
-    free ≡ not (list_any (has_so is_armed x) (map (changed change x l) before)) →
-    AreFree (map (changed change x l) before) (record labels { of_armed = with_free labels.of_armed x free })
-changed-free change works holds before x l labels free are told = record {
-  of_working = are.of_working ∙ sym (all-kept is_working change works x l before);
-  of_backups = are.of_backups ∙ sym (all-kept is_backup change holds x l before);
-  of_armed =
-      ap (λ ls. with_free ls x free) are.of_armed
-      ∙ follows is_armed before (map (changed change x l) before) x free (all-elsewhere is_armed change x l before)
-      told;
-}
 
 -- an LSP's claim was taken off, and the label is looked for only where it wasn't free before
 pub freed-free : (so : ClaimKind → Bool) (before after : List Claim) (x : ℕ) (l : Lsp) (labels : List ℕ) (free : Bool) →

@@ -1,5 +1,5 @@
 -- The claims of the labels of one fibre.
-use Rattle.std.specs.Prelude.{ℕ, ◌≡◌, ◌==◌, ◌&&◌, Bool, true, false, not, List, filter, Option, Some, None, IsTrue, if◌then◌else◌}
+use Rattle.std.specs.Prelude.{ℕ, ◌≡◌, ◌==◌, ◌&&◌, Bool, true, false, not, List, filter, Option, Some, None, IsTrue}
 use Rattle.std.specs.List.{list_any}
 use Rattle.ason_base.specs.declared.ids.Fibre.{Fibre}
 use Rattle.ason_base.specs.declared.ids.Lsp.{Lsp}
@@ -9,9 +9,9 @@ use Rattle.link_owner.specs.declared.claims.Claim.{Claim}
 use Rattle.link_owner.specs.declared.claims.ClaimFault.{ClaimFault}
 use Rattle.link_owner.specs.declared.claims.ClaimFault.TheVariants.{Held, OutOfMemory}
 use Rattle.link_owner.specs.declared.claims.ClaimKind.{ClaimKind}
-use Rattle.link_owner.specs.declared.claims.ClaimKind.TheVariants.{Working, Backup, Armed}
+use Rattle.link_owner.specs.declared.claims.ClaimKind.TheVariants.{Working, Backup}
 use Rattle.link_owner.specs.declared.claims.Sought.{Sought}
-use Rattle.link_owner.specs.declared.claims.Sought.TheVariants.{Any, AnyWorking, AnyInUseBeside}
+use Rattle.link_owner.specs.declared.claims.Sought.TheVariants.{Any, AnyWorking}
 use Rattle.link_owner.specs.declared.free_labels.FreeLabels.{FreeLabels}
 
 -- a fibre, its number of labels, and who has them
@@ -25,35 +25,10 @@ pub record FibreClaims : Type 0 where
 abbrev pub is_working : ClaimKind → Bool
 is_working Working = true
 is_working Backup = false
-is_working Armed = false
 
--- the leg carries, or is to carry next
-abbrev pub is_in_use : ClaimKind → Bool
-is_in_use Working = true
-is_in_use Backup = false
-is_in_use Armed = true
-
--- as a backup leg
 abbrev pub is_backup : ClaimKind → Bool
 is_backup Working = false
 is_backup Backup = true
-is_backup Armed = true
-
--- as a backup leg that is Armed or Live
-abbrev pub is_armed : ClaimKind → Bool
-is_armed Working = false
-is_armed Backup = false
-is_armed Armed = true
-
-abbrev pub armed_kind : ClaimKind → ClaimKind
-armed_kind Working = Working
-armed_kind Backup = Armed
-armed_kind Armed = Armed
-
-abbrev pub disarmed_kind : ClaimKind → ClaimKind
-disarmed_kind Working = Working
-disarmed_kind Backup = Backup
-disarmed_kind Armed = Backup
 
 -- One claim
 
@@ -79,20 +54,9 @@ has_so so x c = c.label == x && so c.kind
 abbrev pub is_of_lsp : ℕ → Lsp → Claim → Bool
 is_of_lsp x l c = c.label == x && same_lsp c.lsp l
 
--- a working or an armed leg of another LSP has it
-abbrev pub is_busy : ℕ → Lsp → Claim → Bool
-is_busy x l c = c.label == x && (is_in_use c.kind && not (same_lsp c.lsp l))
-
 abbrev pub is_sought : Sought → ℕ → Claim → Bool
 is_sought Any x c = has x c
 is_sought AnyWorking x c = works_on x c
-is_sought (AnyInUseBeside l) x c = is_busy x l c
-
-abbrev pub armed : ℕ → Lsp → Claim → Claim
-armed x l c = if is_of_lsp x l c then record c { kind = armed_kind c.kind } else c
-
-abbrev pub disarmed : ℕ → Lsp → Claim → Claim
-disarmed x l c = if is_of_lsp x l c then record c { kind = disarmed_kind c.kind } else c
 
 -- All claims of a fibre
 
@@ -112,11 +76,10 @@ shareable n claims = filter (λ x. not (list_any (works_on x) claims)) (up_to n)
 abbrev pub free_of : (ClaimKind → Bool) → List Claim → List ℕ
 free_of so claims = filter (λ x. not (list_any (has_so so x) claims)) (up_to 80)
 
--- the labels that no working leg has, that no backup has, and that no backup has which is Armed or Live
+-- the labels that no working leg has, and those that no backup has
 pub record AreFree (claims : List Claim) (free : FreeLabels) : Type 0 where
   pub of_working : free.of_working ≡ free_of is_working claims
   pub of_backups : free.of_backups ≡ free_of is_backup claims
-  pub of_armed : free.of_armed ≡ free_of is_armed claims
 
 -- the labels with this one where it is free, and without it where it isn't
 abbrev pub with_free : List ℕ → ℕ → Bool → List ℕ

@@ -1,14 +1,20 @@
--- Who has the labels of the fibres that come in at a node.
-use Rattle.std.specs.Prelude.{ℕ, ◌==◌, ◌++◌, ◌≡◌, Bool, false, List, [], ◌∷◌, filter, map, Option, Some, None, if◌then◌else◌}
+-- Who has the labels of the fibres that come in at a node, and whose backup is activated on those of its fibres.
+use Rattle.std.specs.Prelude.{ℕ, ◌==◌, ◌++◌, ◌≡◌, ◌&&◌, ◌||◌, Bool, false, List, [], ◌∷◌, filter, map, Option, Some, None, if◌then◌else◌}
 use Rattle.std.specs.List.{list_any}
 use Rattle.ason_base.specs.declared.ids.Fibre.{Fibre}
 use Rattle.ason_base.specs.declared.ids.Lsp.{Lsp}
 use Rattle.ason_base.specs.declared.ids.NodeId.{NodeId}
 use Rattle.ason_base.specs.declared.network.LinkSpec.{LinkSpec}
 use Rattle.ason_base.specs.Lsps.{same_fibre}
-use Rattle.ason_base.specs.Network.{Network, receiver_of, touches}
-use Rattle.link_owner.specs.Claims.{FibreClaims, armed, disarmed, freed, is_of_lsp}
+use Rattle.ason_base.specs.Network.{Network, receiver_of, sender_of, touches}
+use Rattle.link_owner.specs.Claims.{FibreClaims, freed, is_of_lsp}
+use Rattle.link_owner.specs.Marks.{FibreMarks, has_fibre, is_lit, lit, none_lit}
 use Rattle.link_owner.specs.declared.claims.Claim.{Claim}
+
+-- the claims of each fibre that comes in, and the marks of each fibre, in and out
+pub record OwnerState : Type 0 where
+  pub claims : List FibreClaims
+  pub marks : List FibreMarks
 
 -- One fibre of a node's
 
@@ -40,14 +46,24 @@ with_claims f claims (r ∷ o) = if is_fibre f r then record r { claims = claims
 abbrev pub claim_added : Fibre → Claim → List FibreClaims → List FibreClaims
 claim_added f c o = with_claims f (claims_of f o ++ c ∷ []) o
 
-abbrev pub label_armed : Fibre → ℕ → Lsp → List FibreClaims → List FibreClaims
-label_armed f x l o = with_claims f (map (armed x l) (claims_of f o)) o
-
-abbrev pub label_disarmed : Fibre → ℕ → Lsp → List FibreClaims → List FibreClaims
-label_disarmed f x l o = with_claims f (map (disarmed x l) (claims_of f o)) o
-
 abbrev pub label_freed : Fibre → ℕ → Lsp → List FibreClaims → List FibreClaims
 label_freed f x l o = with_claims f (freed x l (claims_of f o)) o
+
+-- Marks
+
+-- the label has this LSP's mark, all else is as it was
+pub record LightsJust (f : Fibre) (x : ℕ) (l : Lsp) (before after : OwnerState) : Type 0 where
+  pub claims : after.claims ≡ before.claims
+  pub fibres : (g : Fibre) → has_fibre after.marks g ≡ has_fibre before.marks g
+  pub lit : (g : Fibre) (y : ℕ) → lit after.marks g y
+      ≡ (if same_fibre f g && x == y then Some l else lit before.marks g y)
+
+-- the label hasn't this LSP's mark, all else is as it was
+pub record DarkensJust (f : Fibre) (x : ℕ) (l : Lsp) (before after : OwnerState) : Type 0 where
+  pub claims : after.claims ≡ before.claims
+  pub fibres : (g : Fibre) → has_fibre after.marks g ≡ has_fibre before.marks g
+  pub lit : (g : Fibre) (y : ℕ) → lit after.marks g y
+      ≡ (if same_fibre f g && (x == y && is_lit before.marks f x l) then None else lit before.marks g y)
 
 -- The start
 
@@ -71,3 +87,11 @@ is_node (Some m) n = m.0 == n.0
 -- just the fibres that lead to the node come in
 abbrev pub HasFibresInto : Network → NodeId → List FibreClaims → Type 0
 HasFibresInto t n o = (f : Fibre) → comes_in o f ≡ is_node (receiver_of t f) n
+
+-- no label is claimed, and none has a mark
+abbrev pub unowned : Network → NodeId → OwnerState
+unowned t n = record { claims = none_claimed t n; marks = none_lit t n }
+
+-- a fibre is the node's just where it leads to the node or from it
+abbrev pub HasFibresOf : Network → NodeId → List FibreMarks → Type 0
+HasFibresOf t n marks = (f : Fibre) → has_fibre marks f ≡ (is_node (receiver_of t f) n || is_node (sender_of t f) n)

@@ -2,7 +2,7 @@
 
 ghost use Rattle.std.specs.Prelude.{◌≡◌, ◌&&◌, IfNone, IfSome};
 ghost use Rattle.std.specs.List.{list_any};
-ghost use Rattle.link_owner.specs.Claims.{IsLeast, NoClaim, armed, armed_kind, disarmed, disarmed_kind, has_so, is_armed, is_backup, is_in_use, is_lesser, is_of_lsp, is_sought, is_working};
+ghost use Rattle.link_owner.specs.Claims.{IsLeast, NoClaim, has_so, is_backup, is_lesser, is_of_lsp, is_sought, is_working};
 
 use ason_base::{Label, Lsp};
 
@@ -13,8 +13,6 @@ pub enum ClaimKind {
     Working,
     /// As a backup leg, maybe with other backups.
     Backup,
-    /// As a backup leg that is Armed or Live: no other may use the label meanwhile.
-    Armed,
 }
 
 /// A leg's claim of a label.
@@ -33,17 +31,11 @@ pub enum ClaimFault {
     OutOfMemory,
 }
 
-/// This other LSP's leg is Armed or Live on the label.
-#[derive(Clone, Copy, Debug, PartialEq, Eq, Drop)]
-pub struct Busy(pub Lsp);
-
 /// Which claims of a label are looked for.
 #[derive(Clone, Copy, Debug, Drop)]
 pub enum Sought {
     Any,
     AnyWorking,
-    /// Those of working and armed legs of other LSPs than this one.
-    AnyInUseBeside(Lsp),
 }
 
 fn is_working(kind: ClaimKind) -> bool
@@ -51,15 +43,6 @@ fn is_working(kind: ClaimKind) -> bool
 {
     match kind {
         ClaimKind::Working => true,
-        ClaimKind::Backup | ClaimKind::Armed => false,
-    }
-}
-
-fn is_in_use(kind: ClaimKind) -> bool
-    ensures { result ≡ is_in_use kind }
-{
-    match kind {
-        ClaimKind::Working | ClaimKind::Armed => true,
         ClaimKind::Backup => false,
     }
 }
@@ -69,34 +52,7 @@ fn is_backup(kind: ClaimKind) -> bool
 {
     match kind {
         ClaimKind::Working => false,
-        ClaimKind::Backup | ClaimKind::Armed => true,
-    }
-}
-
-fn is_armed(kind: ClaimKind) -> bool
-    ensures { result ≡ is_armed kind }
-{
-    match kind {
-        ClaimKind::Working | ClaimKind::Backup => false,
-        ClaimKind::Armed => true,
-    }
-}
-
-fn armed_kind(kind: ClaimKind) -> ClaimKind
-    ensures { result ≡ armed_kind kind }
-{
-    match kind {
-        ClaimKind::Working => ClaimKind::Working,
-        ClaimKind::Backup | ClaimKind::Armed => ClaimKind::Armed,
-    }
-}
-
-fn disarmed_kind(kind: ClaimKind) -> ClaimKind
-    ensures { result ≡ disarmed_kind kind }
-{
-    match kind {
-        ClaimKind::Working => ClaimKind::Working,
-        ClaimKind::Backup | ClaimKind::Armed => ClaimKind::Backup,
+        ClaimKind::Backup => true,
     }
 }
 
@@ -106,34 +62,6 @@ pub(crate) fn is_of_lsp(claim: &Claim, label: Label, lsp: Lsp) -> bool
     claim.label.number() == label.number() && claim.lsp == lsp
 }
 
-/// The claim, armed where it is this LSP's of this label.
-pub(crate) fn armed(claim: Claim, label: Label, lsp: Lsp) -> Claim
-    ensures { result ≡ armed label lsp claim }
-{
-    if is_of_lsp(&claim, label, lsp) {
-        Claim {
-            kind: armed_kind(claim.kind),
-            ..claim
-        }
-    } else {
-        claim
-    }
-}
-
-/// The claim, disarmed where it is this LSP's of this label.
-pub(crate) fn disarmed(claim: Claim, label: Label, lsp: Lsp) -> Claim
-    ensures { result ≡ disarmed label lsp claim }
-{
-    if is_of_lsp(&claim, label, lsp) {
-        Claim {
-            kind: disarmed_kind(claim.kind),
-            ..claim
-        }
-    } else {
-        claim
-    }
-}
-
 fn is_sought(claim: &Claim, label: Label, sought: Sought) -> bool
     ensures { result ≡ is_sought sought label claim.now }
 {
@@ -141,7 +69,6 @@ fn is_sought(claim: &Claim, label: Label, sought: Sought) -> bool
         && match sought {
             Sought::Any => true,
             Sought::AnyWorking => is_working(claim.kind),
-            Sought::AnyInUseBeside(lsp) => is_in_use(claim.kind) && claim.lsp != lsp,
         }
 }
 
@@ -157,13 +84,6 @@ pub(crate) fn has_backup(claims: &[Claim], label: Label) -> bool
     ensures { result ≡ list_any (has_so is_backup label) claims.now }
 {
     claims.iter().any(|claim| claim.label.number() == label.number() && is_backup(claim.kind))
-}
-
-/// Whether a backup leg that is Armed or Live has the label.
-pub(crate) fn has_armed(claims: &[Claim], label: Label) -> bool
-    ensures { result ≡ list_any (has_so is_armed label) claims.now }
-{
-    claims.iter().any(|claim| claim.label.number() == label.number() && is_armed(claim.kind))
 }
 
 fn is_lesser(lsp: Lsp, least: Option<Lsp>) -> bool

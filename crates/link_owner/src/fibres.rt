@@ -1,11 +1,9 @@
 //! The claims of the labels of one fibre.
 
-ghost use Rattle.std.specs.Prelude.{◌≡◌, ◌≤◌, ◌++◌, ◌∷◌, [], IfErr, IfNone, IfOk, IfSome, OnErr, OnOk, map};
-ghost use Rattle.link_owner.specs.Claims.{IsLeast, NoClaim, RefusedFor, armed, backup_claim, disarmed, freed, has, is_busy, is_sought, shareable, unclaimed, working_claim, works_on};
+ghost use Rattle.std.specs.Prelude.{◌≡◌, ◌≤◌, ◌++◌, ◌∷◌, [], IfErr, IfNone, IfOk, IfSome, OnErr, OnOk};
+ghost use Rattle.link_owner.specs.Claims.{IsLeast, NoClaim, RefusedFor, backup_claim, freed, has, is_sought, shareable, unclaimed, working_claim, works_on};
 
-use crate::claims::{
-    Busy, Claim, ClaimFault, ClaimKind, Sought, armed, disarmed, is_of_lsp, least_lsp,
-};
+use crate::claims::{Claim, ClaimFault, ClaimKind, Sought, is_of_lsp, least_lsp};
 use crate::free_labels::FreeLabels;
 use ason_base::{Copied, Fibre, Label, LabelSet, Lsp, OutOfMemory};
 use std::alloc::Global;
@@ -115,30 +113,6 @@ impl FibreOwner {
         Ok(())
     }
 
-    /// Arms the LSP's claim, where no other is in use.
-    pub(crate) fn arm(&mut self, label: Label, lsp: Lsp) -> Result<(), Busy>
-        ensures ok { OnOk result
-            (self.new ≡ record self.old { claims = map (armed label lsp) self.old.claims }) }
-        ensures err { OnErr result (self.new ≡ self.old) }
-        ensures fitting { IfOk result (λ _. NoClaim (is_busy label lsp) self.old.claims) }
-        ensures busy { IfErr result (λ b. IsLeast (is_busy label lsp) self.old.claims b.0) }
-    {
-        if let Some(other) = self.least_of(label, Sought::AnyInUseBeside(lsp)) {
-            return Err(Busy(other));
-        }
-        arm_all(&mut self.claims, label, lsp);
-        self.free.arm(label, &self.claims);
-        Ok(())
-    }
-
-    /// Disarms the LSP's claim.
-    pub(crate) fn disarm(&mut self, label: Label, lsp: Lsp)
-        ensures { self.new ≡ record self.old { claims = map (disarmed label lsp) self.old.claims } }
-    {
-        disarm_all(&mut self.claims, label, lsp);
-        self.free.disarm(label, &self.claims);
-    }
-
     /// Takes the LSP's claim off.
     pub(crate) fn free(&mut self, label: Label, lsp: Lsp)
         ensures { self.new ≡ record self.old { claims = freed label lsp self.old.claims } }
@@ -191,22 +165,6 @@ fn add(claims: &mut Vec<Claim>, claim: Claim) -> Result<(), ClaimFault>
     match claims.push(claim) {
         Ok(()) => Ok(()),
         Err(_) => Err(ClaimFault::OutOfMemory),
-    }
-}
-
-fn arm_all(claims: &mut Vec<Claim>, label: Label, lsp: Lsp)
-    ensures { claims.new.items ≡ map (armed label lsp) claims.old.items }
-{
-    for claim in claims.iter_mut() {
-        *claim = armed(*claim, label, lsp);
-    }
-}
-
-fn disarm_all(claims: &mut Vec<Claim>, label: Label, lsp: Lsp)
-    ensures { claims.new.items ≡ map (disarmed label lsp) claims.old.items }
-{
-    for claim in claims.iter_mut() {
-        *claim = disarmed(*claim, label, lsp);
     }
 }
 

@@ -1,19 +1,18 @@
 //! The labels of a fibre that no leg has in some way, each set a mask, so that a label is judged without its claims.
 
-ghost use Rattle.std.specs.Prelude.{◌≡◌, ◌≤◌, ◌++◌, ◌∷◌, [], List, map, true};
+ghost use Rattle.std.specs.Prelude.{◌≡◌, ◌≤◌, ◌++◌, ◌∷◌, [], List, true};
 ghost use Rattle.ason_base.specs.declared.ids.Lsp.{Lsp};
-ghost use Rattle.link_owner.specs.Claims.{AreFree, NoClaim, armed, backup_claim, disarmed, freed, is_sought, shareable, unclaimed, with_free, working_claim};
+ghost use Rattle.link_owner.specs.Claims.{AreFree, NoClaim, backup_claim, freed, is_sought, shareable, unclaimed, with_free, working_claim};
 ghost use Rattle.link_owner.specs.declared.claims.Claim.{Claim};
 
-use crate::claims::{Claim, Sought, has_armed, has_backup, has_working};
+use crate::claims::{Claim, Sought, has_backup, has_working};
 use ason_base::{Label, LabelSet};
 
-/// The labels from 1 to 80 that no leg has: as a working leg, as a backup, and as a backup that is Armed or Live.
+/// The labels from 1 to 80 that no leg has as a working leg, and those that none has as a backup.
 #[derive(Debug, Drop)]
 pub struct FreeLabels {
     of_working: LabelSet,
     of_backups: LabelSet,
-    of_armed: LabelSet,
 }
 
 impl FreeLabels {
@@ -24,7 +23,6 @@ impl FreeLabels {
         FreeLabels {
             of_working: LabelSet::upto(80),
             of_backups: LabelSet::upto(80),
-            of_armed: LabelSet::upto(80),
         }
     }
 
@@ -34,7 +32,6 @@ impl FreeLabels {
         FreeLabels {
             of_working: self.of_working.copy(),
             of_backups: self.of_backups.copy(),
-            of_armed: self.of_armed.copy(),
         }
     }
 
@@ -47,7 +44,6 @@ impl FreeLabels {
             && match sought {
                 Sought::Any => self.of_backups.has(label),
                 Sought::AnyWorking => true,
-                Sought::AnyInUseBeside(_) => self.of_armed.has(label),
             }
     }
 
@@ -67,22 +63,6 @@ impl FreeLabels {
         self.of_backups = self.of_backups.without(label);
     }
 
-    /// An LSP's claim of the label was armed.
-    pub(crate) fn arm(&mut self, label: Label, claims: &[Claim])
-        ensures { (before : List Claim) (lsp : Lsp) → AreFree before self.old →
-            claims.now ≡ map (armed label lsp) before → AreFree claims.now self.new }
-    {
-        self.of_armed = with_free(&self.of_armed, label, !has_armed(claims, label));
-    }
-
-    /// An LSP's claim of the label was disarmed.
-    pub(crate) fn disarm(&mut self, label: Label, claims: &[Claim])
-        ensures { (before : List Claim) (lsp : Lsp) → AreFree before self.old →
-            claims.now ≡ map (disarmed label lsp) before → AreFree claims.now self.new }
-    {
-        self.of_armed = with_free(&self.of_armed, label, !has_armed(claims, label));
-    }
-
     /// An LSP's claim of the label was taken off. The claims are looked through only for what had the label before.
     pub(crate) fn free(&mut self, label: Label, claims: &[Claim])
         ensures { (before : List Claim) (lsp : Lsp) → AreFree before self.old →
@@ -90,10 +70,8 @@ impl FreeLabels {
     {
         let working = self.of_working.has(label) || !has_working(claims, label);
         let backups = self.of_backups.has(label) || !has_backup(claims, label);
-        let armed = self.of_armed.has(label) || !has_armed(claims, label);
         self.of_working = with_free(&self.of_working, label, working);
         self.of_backups = with_free(&self.of_backups, label, backups);
-        self.of_armed = with_free(&self.of_armed, label, armed);
     }
 
     /// The labels from 1 to n that no leg has.

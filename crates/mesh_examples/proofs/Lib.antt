@@ -6,8 +6,9 @@ mod BackByReport
 mod BackupPartlyRepaired
 mod BareWithReports
 mod BothArmed
+mod BusyAtOnce
 mod ComesToRest
-mod Contended
+pub mod Contended
 mod Deactivating
 mod Found
 mod LetGoAfterContention
@@ -23,7 +24,7 @@ mod Reserved
 mod Restored
 mod Retried
 pub mod Scene
-mod SharedLabel
+pub mod SharedLabel
 mod Standby
 mod StuckAtOnce
 mod StuckRepaired
@@ -33,7 +34,7 @@ mod TickWithReports
 mod TornActivating
 mod TornArmed
 mod TornAsking
-mod TornContended
+pub mod TornContended
 mod TornDeactivating
 mod TornPassed
 mod TornReactivating

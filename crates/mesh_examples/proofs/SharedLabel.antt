@@ -12,7 +12,7 @@ use Rattle.mesh_rules.specs.Events.{after}
 use Rattle.mesh_rules.specs.Machine.{start}
 use Rattle.mesh_examples.proofs.Scene.{all_enabled, called, desk, joins, learns, leg, over, Seen, seen, sets_up, spec, takes}
 
-abbrev network : Network
+abbrev pub network : Network
 network = record {
   wait = 2;
   nodes = spec 1 false ∷ spec 2 false ∷ spec 3 false ∷ spec 4 false ∷ spec 5 true ∷ spec 6 false ∷ [];
@@ -20,7 +20,7 @@ network = record {
       ∷ joins 6 3 5 2 [] ∷ joins 7 4 6 2 [] ∷ [];
 }
 
-abbrev events : List MeshEvent
+abbrev pub events : List MeshEvent
 events =
     learns 5 (1 ∷ [])
     ++ learns 6 (1 ∷ [])

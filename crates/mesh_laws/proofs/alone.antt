@@ -1,5 +1,6 @@
 pub mod CallAnswers
 pub mod Calls
+pub mod Calm
 pub mod Facts
 pub mod Failures
 pub mod Fine

@@ -11,11 +11,13 @@ pub mod CallSteps
 pub mod CallsHold
 pub mod SetupsHold
 pub mod CallsStand
+pub mod ClosedLegs
 pub mod Decides
 pub mod Facts
 pub mod Laws
 pub mod LegEnds
 pub mod LegParts
+pub mod Marks
 pub mod MessageKeeps
 pub mod NewLegs
 pub mod NotifyKeeps

@@ -19,3 +19,4 @@ pub mod Standing
 pub mod Steps
 pub mod Takes
 pub mod Told
+pub mod Uses

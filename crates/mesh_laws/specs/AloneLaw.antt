@@ -1,5 +1,6 @@
--- While one group alone fails after a calm state, no activation of a backup is refused: a label is shared by backups
--- whose primaries have no risk in common, and all that is activated concerns the one group (RFC 4872, section 8).
+-- While one group alone fails after a calm state, no activation of a backup is refused, at its ingress or on its way: a
+-- label is shared by backups whose primaries have no risk in common, and all that is activated concerns the one group
+-- (RFC 4872, section 8).
 use Rattle.std.specs.Prelude.{◌≡◌, ◌≢◌, ◌&&◌, ℕ, Bool, true, false, not, List, [], ◌∷◌, ◌++◌, Option, Some, None, IsTrue}
 use Rattle.std.specs.List.{AllByRecursion, list_any}
 use Rattle.ason_base.specs.Codes.{busy_code}
@@ -9,6 +10,8 @@ use Rattle.ason_base.specs.declared.ids.Fibre.{Fibre}
 use Rattle.ason_base.specs.declared.ids.LinkId.{LinkId}
 use Rattle.ason_base.specs.declared.network.LinkSpec.{LinkSpec}
 use Rattle.ason_base.specs.declared.calls.CallState.TheVariants.{Stuck}
+use Rattle.ason_base.specs.declared.calls.Cause.{Cause}
+use Rattle.ason_base.specs.declared.calls.Cause.TheVariants.{Code}
 use Rattle.ason_base.specs.declared.calls.Phase.{Phase}
 use Rattle.ason_base.specs.declared.calls.Phase.TheVariants.{Asked, Held, Armed, Live, Closing, Falling}
 use Rattle.ason_base.specs.declared.calls.Role.TheVariants as role
@@ -29,10 +32,11 @@ use Rattle.ason_base.specs.declared.tables.Leg.{Leg}
 use Rattle.ason_base.specs.declared.tables.Out.{Out}
 use Rattle.mesh_rules.specs.declared.events.MeshEvent.{MeshEvent}
 use Rattle.mesh_rules.specs.declared.events.MeshEvent.TheVariants.{Take, Desk, Tick, Learn, Post}
+use Rattle.mesh_rules.specs.Calls.{is_stuck}
 use Rattle.mesh_rules.specs.Events.{IsRun, after, on_first, on_first_item, step}
 use Rattle.mesh_rules.specs.Failures.{is_risk_of}
 use Rattle.mesh_rules.specs.Learnt.{on_link}
-use Rattle.mesh_rules.specs.Legs.{is_in_use}
+use Rattle.mesh_rules.specs.Legs.{is_marked}
 use Rattle.mesh_rules.specs.LocalNodes.{local_node}
 use Rattle.mesh_rules.specs.Machine.{Mesh, start}
 use Rattle.mesh_rules.specs.Waits.{on_tick}
@@ -60,9 +64,9 @@ is_on_route t g route = list_any (λ hop. is_on_link t g hop.link) route
 
 -- What concerns the group
 
--- the recorded risks of a backup that is Armed or Live have it
+-- the recorded risks of a backup that is Armed, Live or Falling have it
 abbrev pub LegConcerns : Group → Leg → Type 0
-LegConcerns g b = b.role ≡ role.Back → IsTrue (is_in_use b.phase) → IsTrue (has_risk b.risks (risk_of g))
+LegConcerns g b = IsTrue (is_marked b) → IsTrue (has_risk b.risks (risk_of g))
 
 abbrev pub FibreConcerns : Network → Group → Fibre → Type 0
 FibreConcerns t g f = IsTrue (is_on_link t g f.link)
@@ -181,6 +185,18 @@ is_refusal (PathTear l e k) = false
 is_refusal (PathErr l e at gone code) = not gone && same_code code busy_code
 is_refusal (Notify l e at k code) = false
 
+-- such a label was found
+abbrev pub is_of_busy : Cause → Bool
+is_of_busy (Code code) = same_code code busy_code
+is_of_busy cause = false
+
+-- the call couldn't turn, at its ingress or further on, since a label of its backup is in use
+abbrev pub finds_busy : CallRec → Bool
+finds_busy c = is_stuck c.state && is_of_busy c.cause
+
+abbrev pub NoneFindsBusy : Mesh → Type 0
+NoneFindsBusy s = (n : ℕ) → AllByRecursion (λ c. finds_busy c ≡ false) (s.nodes n).calls
+
 -- what a step sends
 abbrev pub sent_in : Network → Mesh → MeshEvent → List Out
 sent_in t s (Take d u) = (on_first (local_node t d) (s.nodes d.0) u (s.mail u.0 d.0)).sent
@@ -189,11 +205,12 @@ sent_in t s (Tick n) = (on_tick (local_node t n) (s.nodes n.0)).sent
 sent_in t s (Learn n k) = (on_link (local_node t n) (s.nodes n.0) (find_link t k)).sent
 sent_in t s (Post c) = []
 
--- in no step from here on an activation is refused, and no refusal is passed back
+-- in no step from here on an activation is refused, no refusal is passed back, and no call is left that couldn't turn
 abbrev pub NoneRefused : Network → Mesh → List MeshEvent → Type 0
 NoneRefused t s [] = Unit {0}
 NoneRefused t s (e ∷ es) =
-    AllByRecursion (λ o. is_refusal o.msg ≡ false) (sent_in t s e) × NoneRefused t (step t s e) es
+    AllByRecursion (λ o. is_refusal o.msg ≡ false) (sent_in t s e) × NoneFindsBusy (step t s e)
+    × NoneRefused t (step t s e) es
 
 -- While one group alone has failed no activation is refused; and all that is activated, reported, under way or waiting
 -- for a failure concerns the group.

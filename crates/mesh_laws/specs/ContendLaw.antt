@@ -97,7 +97,8 @@ pub record TwoAlone (t : Network) (events : List MeshEvent) (g h : Group) : Type
   pub calm : Calm (after t start before)
   pub only : AllByRecursion (GoesOnWith (g ∷ h ∷ [])) since
 
--- Where no calls would contend in that state, no activation was refused since, and no refusal was passed back.
+-- Where no calls would contend in that state, no activation was refused since, at its ingress or on its way, and no
+-- refusal was passed back.
 abbrev pub UncontendedAreAdmitted : Network → List MeshEvent → Type 0
 UncontendedAreAdmitted t events =
     (g h : Group) (two : TwoAlone t events g h) → NoneContend t (after t start two.before) g h →

@@ -28,8 +28,8 @@ use Rattle.mesh_laws.specs.WavelengthLaw.{CallsKeepWavelengths}
 
 -- what holds of the state to which these events lead from the start
 pub record LawsHold (t : Network) (events : List MeshEvent) : Type 0 where
-  -- at each node: a label of a fibre is one LSP's, or backups share it whose primaries have no risk in common; a Live
-  -- leg has its labels; and each call fits its legs and its reports
+  -- at each node: a label of a fibre is one LSP's, or backups share it whose primaries have no risk in common, and at
+  -- most one backup that uses it is activated; a Live leg has its labels; and each call fits its legs and its reports
   pub labels : (n : ℕ) → LabelsAreShared ((after t start events).nodes n).legs
   pub labelled : (n : ℕ) → LiveLegsAreLabelled ((after t start events).nodes n).legs
   -- a label that is sent on a fibre is one LSP's, or backups' whose primaries have over a topology no risk in common

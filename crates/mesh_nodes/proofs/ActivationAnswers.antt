@@ -58,7 +58,7 @@ module _ (p : LocalNode) (s : NodeState) (g : Leg) (W : Type 0) (place : LocalNo
 
   confirmed-fits : (o : Option Neighbour) → previous g ≡ o → AnswerFits p s W (confirmed s g o)
   confirmed-fits None is =
-      after-puts p s W (call_turned (with_phase Live g) (call_with g.lsp s.calls)) (with_phase Live g)
+      after-puts p s W (call_turned s (with_phase Live g) (call_with g.lsp s.calls)) (with_phase Live g)
       (turned-call-fits p s (with_leg (with_phase Live g) s.legs) (with_phase Live g) W place (phase-kept Live refl)
       (call_with g.lsp s.calls) refl (begins-put p s (with_phase Live g) (begins-here p s.lsp g stands.fits is)))
   confirmed-fits (Some h) is =
@@ -73,7 +73,7 @@ module _ (p : LocalNode) (s : NodeState) (g : Leg) (W : Type 0) (place : LocalNo
   disarmed-fits : (m : Msg) (o : Option Neighbour) → (W → IsWritableMsg m) → previous g ≡ o →
       AnswerFits p s W (disarmed s g m o)
   disarmed-fits m None writable is =
-      after-puts p s W (call_contended (with_phase Held g) (call_with g.lsp s.calls)) (with_phase Held g)
+      after-puts p s W (call_contended s (with_phase Held g) (call_with g.lsp s.calls)) (with_phase Held g)
       (contended-call-fits p s (with_leg (with_phase Held g) s.legs) (with_phase Held g) W place (phase-kept Held refl)
       (call_with g.lsp s.calls) refl (begins-put p s (with_phase Held g) (begins-here p s.lsp g stands.fits is)))
   disarmed-fits m (Some h) writable is = record {

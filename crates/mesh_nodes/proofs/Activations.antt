@@ -10,9 +10,9 @@ use Rattle.ason_base.specs.declared.steps.Step.{Step}
 use Rattle.ason_base.specs.declared.tables.Leg.{Leg}
 use Rattle.mesh_rules.specs.declared.arrivals.Arrival.{Arrival}
 use Rattle.mesh_rules.specs.declared.neighbours.Neighbour.{Neighbour}
-use Rattle.mesh_rules.specs.Activations.{activated, armed_on, busy_to, is_contended, path_again, taken_on}
+use Rattle.mesh_rules.specs.Activations.{activated, armed_on, busy_to, path_again, taken_on}
 use Rattle.mesh_rules.specs.Changes.{puts, sends}
-use Rattle.mesh_rules.specs.Legs.{find_leg, following, is_active_backup, is_beyond_asked, is_held, is_in_use, is_over, is_work, previous, with_leg, with_phase}
+use Rattle.mesh_rules.specs.Legs.{find_leg, following, is_active_backup, is_beyond_asked, is_contended, is_held, is_in_use, is_over, is_work, previous, with_leg, with_phase}
 use Rattle.mesh_rules.specs.LocalNodes.{LocalNode, own_link}
 use Rattle.mesh_rules.specs.Paths.{PathRequest, on_path, path_with}
 use Rattle.mesh_rules.specs.State.{NodeState}
@@ -72,7 +72,7 @@ module _ (p : LocalNode) (s : NodeState) (a : Arrival) (route : List Step) (r : 
 
   activated-fits : (W → IsWritableRole r) → (W → length route ≤ 64) → AnswerFits p s W (activated p s a route r g)
   activated-fits role short =
-      if_cases (AnswerFits p s W) (is_contended s.legs g g.in_fibre g.in_label) _ _ (λ e. busy-fits)
+      if_cases (AnswerFits p s W) (is_contended s.legs g) _ _ (λ e. busy-fits)
       (λ e. armed_on-fits (following g) refl role short)
 
 -- the activation of a backup's leg is taken back, and the Path goes on

@@ -67,7 +67,7 @@ module _ (p : LocalNode) (s : NodeState) (legs : List Leg) (g : Leg) (W : Type 0
           put-fits p s legs W fits (unbacked c cause) (record { backup = here.backup; work = here.work; back = tt })
 
   pub turned-call-fits : (o : Option CallRec) → call_with g.lsp s.calls ≡ o → BeginsHere p legs g →
-      AnswerFits p (record s { legs = legs }) W (call_turned g o)
+      AnswerFits p (record s { legs = legs }) W (call_turned s g o)
   turned-call-fits None called stands = none-fits
   turned-call-fits (Some c) called stands =
       let here = call-fits c called in
@@ -77,7 +77,7 @@ module _ (p : LocalNode) (s : NodeState) (legs : List Leg) (g : Leg) (W : Type 0
       (λ e. none-fits)
 
   pub contended-call-fits : (o : Option CallRec) → call_with g.lsp s.calls ≡ o → BeginsHere p legs g →
-      AnswerFits p (record s { legs = legs }) W (call_contended g o)
+      AnswerFits p (record s { legs = legs }) W (call_contended s g o)
   contended-call-fits None called stands = none-fits
   contended-call-fits (Some c) called stands =
       let here = call-fits c called in

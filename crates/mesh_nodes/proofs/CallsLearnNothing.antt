@@ -22,7 +22,7 @@ use Rattle.mesh_rules.specs.Changes.{Answer, changes_calls, followed_by, nothing
 use Rattle.mesh_rules.specs.FirstLegs.{first_link, is_full}
 use Rattle.mesh_rules.specs.KnownRows.{known_rows}
 use Rattle.mesh_rules.specs.LeastRoutes.{Trip, least_trip}
-use Rattle.mesh_rules.specs.Legs.{is_held, is_in_use, is_work, leg_of}
+use Rattle.mesh_rules.specs.Legs.{is_contended, is_held, is_in_use, is_work, leg_of}
 use Rattle.mesh_rules.specs.LocalNodes.{LocalNode}
 use Rattle.mesh_rules.specs.Pairs.{backup_route, over_backup, pair, pair_over, route_from}
 use Rattle.mesh_rules.specs.Protects.{protect_with, protects}
@@ -50,32 +50,35 @@ both a b this that = (rw (this.0, that.0) refl, rw (this.1, that.1) refl)
 
 -- Turning
 
-turn-none : (c : CallRec) (o : Option Leg) → LearnsNothing (turn c o)
-turn-none c None = (refl, refl)
-turn-none c (Some b) = if_cases LearnsNothing (is_held b.phase) _ _ (λ e. (refl, refl)) (λ e. (refl, refl))
+turn-none : (legs : List Leg) (c : CallRec) (o : Option Leg) → LearnsNothing (turn legs c o)
+turn-none legs c None = (refl, refl)
+turn-none legs c (Some b) =
+    if_cases LearnsNothing (is_held b.phase) _ _
+    (λ e. if_cases LearnsNothing (is_contended legs b) _ _ (λ f. (refl, refl)) (λ f. (refl, refl)))
+    (λ e. (refl, refl))
 
 go_back-none : (c : CallRec) (o : Option Leg) → LearnsNothing (go_back c o)
 go_back-none c None = (refl, refl)
 go_back-none c (Some b) = if_cases LearnsNothing (is_in_use b.phase) _ _ (λ e. (refl, refl)) (λ e. (refl, refl))
 
-decided-none : (c : CallRec) (o : Option Leg) (state : CallState) (works backs : Bool) →
-    LearnsNothing (decided c o state works backs)
-decided-none c o Asking works backs = (refl, refl)
-decided-none c o Blocked works backs = (refl, refl)
-decided-none c o Bare works backs = (refl, refl)
-decided-none c o Pairing works backs = (refl, refl)
-decided-none c o Guarded true false = turn-none c o
-decided-none c o Guarded true true = (refl, refl)
-decided-none c o Guarded false backs = (refl, refl)
-decided-none c o Turning works backs = (refl, refl)
-decided-none c o Turned true backs = (refl, refl)
-decided-none c o Turned false true = go_back-none c o
-decided-none c o Turned false false = (refl, refl)
-decided-none c o Stuck true backs = (refl, refl)
-decided-none c o Stuck false backs = (refl, refl)
+decided-none : (legs : List Leg) (c : CallRec) (o : Option Leg) (state : CallState) (works backs : Bool) →
+    LearnsNothing (decided legs c o state works backs)
+decided-none legs c o Asking works backs = (refl, refl)
+decided-none legs c o Blocked works backs = (refl, refl)
+decided-none legs c o Bare works backs = (refl, refl)
+decided-none legs c o Pairing works backs = (refl, refl)
+decided-none legs c o Guarded true false = turn-none legs c o
+decided-none legs c o Guarded true true = (refl, refl)
+decided-none legs c o Guarded false backs = (refl, refl)
+decided-none legs c o Turning works backs = (refl, refl)
+decided-none legs c o Turned true backs = (refl, refl)
+decided-none legs c o Turned false true = go_back-none c o
+decided-none legs c o Turned false false = (refl, refl)
+decided-none legs c o Stuck true backs = (refl, refl)
+decided-none legs c o Stuck false backs = (refl, refl)
 
-decide-none : (c : CallRec) (o : Option Leg) → LearnsNothing (decide c o)
-decide-none c o = decided-none c o c.state (has_any c.work_reports) (has_any c.back_reports)
+decide-none : (legs : List Leg) (c : CallRec) (o : Option Leg) → LearnsNothing (decide legs c o)
+decide-none legs c o = decided-none legs c o c.state (has_any c.work_reports) (has_any c.back_reports)
 
 -- A call after a Resv, a PathErr or a Notify
 
@@ -101,12 +104,13 @@ call_answered-none p s g (Some c) =
     if_cases LearnsNothing (is_work g.role) _ _
     (λ e. if_cases LearnsNothing (is_asking c.state) _ _
     (λ e. if_cases LearnsNothing c.protected _ _ (λ e. pair-none p s c g) (λ e. (refl, refl))) (λ e. (refl, refl)))
-    (λ e. if_cases LearnsNothing (is_pairing c.state) _ _ (λ e. decide-none (guarded c) (Some g)) (λ e. (refl, refl)))
+    (λ e. if_cases LearnsNothing (is_pairing c.state) _ _ (λ e. decide-none s.legs (guarded c) (Some g))
+    (λ e. (refl, refl)))
 
-pub call_turned-none : (b : Leg) (o : Option CallRec) → LearnsNothing (call_turned b o)
-call_turned-none b None = (refl, refl)
-call_turned-none b (Some c) =
-    if_cases LearnsNothing (is_turning c.state) _ _ (λ e. decide-none (turned c) (Some b)) (λ e. (refl, refl))
+pub call_turned-none : (s : NodeState) (b : Leg) (o : Option CallRec) → LearnsNothing (call_turned s b o)
+call_turned-none s b None = (refl, refl)
+call_turned-none s b (Some c) =
+    if_cases LearnsNothing (is_turning c.state) _ _ (λ e. decide-none s.legs (turned c) (Some b)) (λ e. (refl, refl))
 
 pub call_refused-none : (code : ErrCode) (g : Leg) (o : Option CallRec) → LearnsNothing (call_refused code g o)
 call_refused-none code g None = (refl, refl)
@@ -115,16 +119,16 @@ call_refused-none code g (Some c) =
     (λ e. if_cases LearnsNothing (is_asking c.state) _ _ (λ e. (refl, refl)) (λ e. (refl, refl)))
     (λ e. if_cases LearnsNothing (is_pairing c.state) _ _ (λ e. (refl, refl)) (λ e. (refl, refl)))
 
-pub call_contended-none : (b : Leg) (o : Option CallRec) → LearnsNothing (call_contended b o)
-call_contended-none b None = (refl, refl)
-call_contended-none b (Some c) =
-    if_cases LearnsNothing (is_turning c.state) _ _ (λ e. decide-none (stuck c (Code busy_code)) (Some b))
+pub call_contended-none : (s : NodeState) (b : Leg) (o : Option CallRec) → LearnsNothing (call_contended s b o)
+call_contended-none s b None = (refl, refl)
+call_contended-none s b (Some c) =
+    if_cases LearnsNothing (is_turning c.state) _ _ (λ e. decide-none s.legs (stuck c (Code busy_code)) (Some b))
     (λ e. (refl, refl))
 
 pub call_reported-none : (s : NodeState) (l : Lsp) (down : Bool) (f : Fibre) (o : Option CallRec) →
     LearnsNothing (call_reported s l down f o)
 call_reported-none s l down f None = (refl, refl)
-call_reported-none s l down f (Some c) = decide-none (with_report c l down f) (leg_of c.back s.legs)
+call_reported-none s l down f (Some c) = decide-none s.legs (with_report c l down f) (leg_of c.back s.legs)
 
 -- Setup
 
@@ -174,7 +178,7 @@ protect-none p s from (Some c) =
 retries-none : (s : NodeState) (c : CallRec) → LearnsNothing (retries s c)
 retries-none s c =
     if_cases LearnsNothing (is_stuck c.state && (has_any c.work_reports && not (has_any c.back_reports))) _ _
-    (λ e. turn-none c (leg_of c.back s.legs)) (λ e. (refl, refl))
+    (λ e. turn-none s.legs c (leg_of c.back s.legs)) (λ e. (refl, refl))
 
 pub retry-none : (p : LocalNode) (s : NodeState) (from : NodeId) (o : Option CallRec) →
     LearnsNothing (retry_with p s from o)

@@ -25,12 +25,12 @@ use Rattle.ason_base.specs.declared.tables.Out.{Out}
 use Rattle.mesh_rules.specs.declared.arrivals.Arrival.{Arrival}
 use Rattle.mesh_rules.specs.declared.neighbours.Neighbour.{Neighbour}
 use Rattle.mesh_rules.specs.ActivationAnswers.{confirmed, contended, disarmed, is_confirmed, resv_again}
-use Rattle.mesh_rules.specs.Activations.{armed_on, is_contended, path_again}
+use Rattle.mesh_rules.specs.Activations.{armed_on, path_again}
 use Rattle.mesh_rules.specs.Alarms.{enters, on_alarm, on_clear}
 use Rattle.mesh_rules.specs.CallSteps.{call_answered, call_contended, call_refused, call_turned}
 use Rattle.mesh_rules.specs.Calls.{call_with, find_call}
 use Rattle.mesh_rules.specs.Changes.{Answer, nothing, puts, removes, to_node}
-use Rattle.mesh_rules.specs.Legs.{connected, find_leg, following, is_active_backup, is_armed, is_asked, is_closing, is_held, is_node, is_over, label_through, previous, with_phase}
+use Rattle.mesh_rules.specs.Legs.{connected, find_leg, following, is_active_backup, is_armed, is_asked, is_closing, is_contended, is_held, is_node, is_over, label_through, previous, with_phase}
 use Rattle.mesh_rules.specs.LocalNodes.{LocalNode, leads, own_link}
 use Rattle.mesh_rules.specs.Messages.{arrival, on_message}
 use Rattle.mesh_rules.specs.Notifies.{Notice, notice_passed, notice_told, notify_with}
@@ -92,7 +92,7 @@ again-none p s a route (Back false work primary) g =
     (λ e. (refl, refl))
 again-none p s a route (Back true work primary) g =
     if_cases LearnsNothing (is_held g.phase && is_over (previous g) a.from a.link) _ _
-    (λ e. if_cases LearnsNothing (is_contended s.legs g g.in_fibre g.in_label) _ _ (λ b. (refl, refl))
+    (λ e. if_cases LearnsNothing (is_contended s.legs g) _ _ (λ b. (refl, refl))
     (λ b. armed_on-none g route (Back true work primary) (following g)))
     (λ e. (refl, refl))
 
@@ -104,8 +104,8 @@ path-none p s m (Some g) = again-none p s m.arrival (drop 1 m.route) m.role g
 
 confirmed-none : (s : NodeState) (g : Leg) (o : Option Neighbour) → LearnsNothing (confirmed s g o)
 confirmed-none s g None =
-    both (puts (with_phase Live g) []) (call_turned (with_phase Live g) (call_with g.lsp s.calls)) (refl, refl)
-    (call_turned-none (with_phase Live g) (call_with g.lsp s.calls))
+    both (puts (with_phase Live g) []) (call_turned s (with_phase Live g) (call_with g.lsp s.calls)) (refl, refl)
+    (call_turned-none s (with_phase Live g) (call_with g.lsp s.calls))
 confirmed-none s g (Some h) = (refl, refl)
 
 resv_again-none : (s : NodeState) (a : Arrival) (x : ℕ) (g : Leg) → LearnsNothing (resv_again s a x g)
@@ -147,8 +147,8 @@ removed-none s g e =
 
 disarmed-none : (s : NodeState) (g : Leg) (m : Msg) (o : Option Neighbour) → LearnsNothing (disarmed s g m o)
 disarmed-none s g m None =
-    both (puts (with_phase Held g) []) (call_contended (with_phase Held g) (call_with g.lsp s.calls)) (refl, refl)
-    (call_contended-none (with_phase Held g) (call_with g.lsp s.calls))
+    both (puts (with_phase Held g) []) (call_contended s (with_phase Held g) (call_with g.lsp s.calls)) (refl, refl)
+    (call_contended-none s (with_phase Held g) (call_with g.lsp s.calls))
 disarmed-none s g m (Some h) = (refl, refl)
 
 contended-none : (s : NodeState) (g : Leg) (m : Msg) → LearnsNothing (contended s g m)

@@ -1,10 +1,11 @@
 -- What turning a call to its backup does fits, and what going back does.
 use Rattle.std.proofs.Common.{◌≡◌, ℕ, Bool, true, false, List, [], ◌∷◌, refl, arith}
 use Rattle.std.specs.Prelude.{Option, Some, None, IfSome}
+use Rattle.ason_base.specs.Codes.{busy_code}
 use Rattle.ason_base.specs.Writable.{IsWritableRole}
 use Rattle.ason_base.specs.declared.calls.CallState.{CallState}
 use Rattle.ason_base.specs.declared.calls.CallState.TheVariants.{Asking, Bare, Blocked, Guarded, Pairing, Stuck, Turned, Turning}
-use Rattle.ason_base.specs.declared.calls.Cause.TheVariants.{BackDown}
+use Rattle.ason_base.specs.declared.calls.Cause.TheVariants.{BackDown, Code}
 use Rattle.ason_base.specs.declared.calls.Phase.{Phase}
 use Rattle.ason_base.specs.declared.calls.Phase.TheVariants.{Armed, Held}
 use Rattle.ason_base.specs.declared.messages.PathRole.{PathRole}
@@ -18,7 +19,7 @@ use Rattle.mesh_rules.specs.declared.neighbours.Neighbour.{Neighbour}
 use Rattle.mesh_rules.specs.Activations.{path_to}
 use Rattle.mesh_rules.specs.Calls.{guarded, stuck, turning}
 use Rattle.mesh_rules.specs.Changes.{nothing}
-use Rattle.mesh_rules.specs.Legs.{find_leg, following, is_beyond_asked, is_held, is_in_use, with_phase}
+use Rattle.mesh_rules.specs.Legs.{find_leg, following, is_beyond_asked, is_contended, is_held, is_in_use, with_phase}
 use Rattle.mesh_rules.specs.LocalNodes.{LocalNode}
 use Rattle.mesh_rules.specs.State.{NodeState}
 use Rattle.mesh_rules.specs.Turns.{activating, activating_path, arms, call_put, decide, decided, disarms, go_back, has_any, taking_back, taking_path, turn}
@@ -128,11 +129,14 @@ module _ (p : LocalNode) (s : NodeState) (legs : List Leg) (W : Type 0) (fits : 
         (taking-sent p s.lsp b (following b) (leg-of b stands) stands.begins refl)
 
     pub turn-fits : (c : CallRec) (o : Option Leg) → CallFits p c → IfSome o (BeginsHere p legs) →
-        AnswerFits p (record s { legs = legs }) W (turn c o)
+        AnswerFits p (record s { legs = legs }) W (turn s.legs c o)
     turn-fits c None here stands = put-fits c here
     turn-fits c (Some b) here stands =
-        if_cases (AnswerFits p (record s { legs = legs }) W) (is_held b.phase) _ _ (λ e. arms-fit c b here stands e)
-        (λ e. put-fits c here)
+        if_cases (AnswerFits p (record s { legs = legs }) W) (is_held b.phase) _ _
+        (λ e. if_cases (AnswerFits p (record s { legs = legs }) W) (is_contended s.legs b) _ _
+        (λ f. put-fits (stuck c (Code busy_code))
+        (record { backup = here.backup; work = here.work; back = here.back }))
+        (λ f. arms-fit c b here stands e)) (λ e. put-fits c here)
 
     pub go_back-fits : (c : CallRec) (o : Option Leg) → CallFits p c → IfSome o (BeginsHere p legs) →
         AnswerFits p (record s { legs = legs }) W (go_back c o)
@@ -142,7 +146,8 @@ module _ (p : LocalNode) (s : NodeState) (legs : List Leg) (W : Type 0) (fits : 
         (λ e. disarms-fit c b here stands e) (λ e. put-fits c here)
 
     decided-fits : (c : CallRec) (o : Option Leg) (state : CallState) (works backs : Bool) → CallFits p c →
-        IfSome o (BeginsHere p legs) → AnswerFits p (record s { legs = legs }) W (decided c o state works backs)
+        IfSome o (BeginsHere p legs) →
+        AnswerFits p (record s { legs = legs }) W (decided s.legs c o state works backs)
     decided-fits c o Asking works backs here stands = put-fits c here
     decided-fits c o Blocked works backs here stands = put-fits c here
     decided-fits c o Bare works backs here stands = put-fits c here
@@ -160,5 +165,5 @@ module _ (p : LocalNode) (s : NodeState) (legs : List Leg) (W : Type 0) (fits : 
         put-fits (guarded c) (record { backup = here.backup; work = here.work; back = here.back })
 
     pub decide-fits : (c : CallRec) (o : Option Leg) → CallFits p c → IfSome o (BeginsHere p legs) →
-        AnswerFits p (record s { legs = legs }) W (decide c o)
+        AnswerFits p (record s { legs = legs }) W (decide s.legs c o)
     decide-fits c o here stands = decided-fits c o c.state (has_any c.work_reports) (has_any c.back_reports) here stands

@@ -22,7 +22,7 @@ is_confirmed a x g = is_armed g.phase && (is_over (following g) a.from a.link &&
 -- the leg is Live; at the ingress the call follows, elsewhere a Resv goes back
 abbrev pub confirmed : NodeState → Leg → Option Neighbour → Answer
 confirmed s g None =
-    followed_by (puts (with_phase Live g) []) (call_turned (with_phase Live g) (call_with g.lsp s.calls))
+    followed_by (puts (with_phase Live g) []) (call_turned s (with_phase Live g) (call_with g.lsp s.calls))
 confirmed s g (Some h) = puts (with_phase Live g) (resv_to g (Some h) g.in_label)
 
 abbrev pub resv_again : NodeState → Arrival → ℕ → Leg → Answer
@@ -33,7 +33,7 @@ resv_again s a x g = if is_confirmed a x g then confirmed s g (previous g) else 
 -- the leg is Held again; at the ingress the call follows, elsewhere the PathErr is passed back unchanged
 abbrev pub disarmed : NodeState → Leg → Msg → Option Neighbour → Answer
 disarmed s g m None =
-    followed_by (puts (with_phase Held g) []) (call_contended (with_phase Held g) (call_with g.lsp s.calls))
+    followed_by (puts (with_phase Held g) []) (call_contended s (with_phase Held g) (call_with g.lsp s.calls))
 disarmed s g m (Some h) = puts (with_phase Held g) (to_node h.node m ∷ [])
 
 abbrev pub contended : NodeState → Leg → Msg → Answer

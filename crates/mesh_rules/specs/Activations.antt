@@ -1,8 +1,7 @@
 -- A Path of a backup LSP whose leg stands: it is activated (RFC 4872, section 8). p is the node; s is what it keeps;
 -- g is the leg.
-use Rattle.std.specs.Prelude.{ℕ, ◌&&◌, Bool, true, false, List, [], ◌∷◌, Option, Some, None, if◌then◌else◌}
+use Rattle.std.specs.Prelude.{ℕ, ◌&&◌, true, false, List, [], ◌∷◌, Option, Some, None, if◌then◌else◌}
 use Rattle.ason_base.specs.Codes.{busy_code}
-use Rattle.ason_base.specs.declared.ids.Fibre.{Fibre}
 use Rattle.ason_base.specs.declared.ids.NodeId.{NodeId}
 use Rattle.ason_base.specs.declared.calls.Phase.TheVariants.{Armed, Held, Live}
 use Rattle.ason_base.specs.declared.messages.Msg.TheVariants.{Path, Resv, PathErr}
@@ -16,7 +15,7 @@ use Rattle.mesh_rules.specs.declared.neighbours.Neighbour.{Neighbour}
 use Rattle.mesh_rules.specs.State.{NodeState}
 use Rattle.mesh_rules.specs.Changes.{Answer, nothing, sends, puts, to_node}
 use Rattle.mesh_rules.specs.LocalNodes.{LocalNode}
-use Rattle.mesh_rules.specs.Legs.{following, is_active_backup, is_busy, is_held, is_over, previous, with_phase}
+use Rattle.mesh_rules.specs.Legs.{following, is_active_backup, is_contended, is_held, is_over, previous, with_phase}
 
 -- Messages
 
@@ -36,12 +35,6 @@ busy_to p g n = to_node n (PathErr g.lsp g.egress p.id false busy_code)
 
 -- Activation
 
--- another leg on the leg's label in is Armed or Live
-abbrev pub is_contended : List Leg → Leg → Option Fibre → Option ℕ → Bool
-is_contended legs g None x = false
-is_contended legs g (Some f) None = false
-is_contended legs g (Some f) (Some x) = is_busy legs g.lsp f x
-
 -- the leg is Armed and the Path goes on as it came, over the steps that are left; at the egress it is Live and a Resv goes
 -- back
 abbrev pub armed_on : Leg → List Step → PathRole → Option Neighbour → Answer
@@ -50,7 +43,7 @@ armed_on g route r (Some h) = puts (with_phase Armed g) (path_to g route r h ∷
 
 abbrev pub activated : LocalNode → NodeState → Arrival → List Step → PathRole → Leg → Answer
 activated p s a route r g =
-    if is_contended s.legs g g.in_fibre g.in_label then sends (busy_to p g a.from ∷ [])
+    if is_contended s.legs g then sends (busy_to p g a.from ∷ [])
     else armed_on g route r (following g)
 
 -- Taking back

@@ -22,13 +22,13 @@ work_connected p s g c =
     if is_asking c.state then (if c.protected then pair p s c g else call_put (bare c)) else nothing
 
 -- its backup is reserved: the call is guarded, and may turn at once
-abbrev pub backup_reserved : Leg → CallRec → Answer
-backup_reserved b c = if is_pairing c.state then decide (guarded c) (Some b) else nothing
+abbrev pub backup_reserved : NodeState → Leg → CallRec → Answer
+backup_reserved s b c = if is_pairing c.state then decide s.legs (guarded c) (Some b) else nothing
 
 -- the call of an LSP that has its labels
 abbrev pub call_answered : LocalNode → NodeState → Leg → Option CallRec → Answer
 call_answered p s g None = nothing
-call_answered p s g (Some c) = if is_work g.role then work_connected p s g c else backup_reserved g c
+call_answered p s g (Some c) = if is_work g.role then work_connected p s g c else backup_reserved s g c
 
 -- A PathErr
 
@@ -46,11 +46,12 @@ call_refused code g (Some c) = if is_work g.role then work_refused code c else b
 -- An activation
 
 -- the backup is activated from end to end
-abbrev pub call_turned : Leg → Option CallRec → Answer
-call_turned b None = nothing
-call_turned b (Some c) = if is_turning c.state then decide (turned c) (Some b) else nothing
+abbrev pub call_turned : NodeState → Leg → Option CallRec → Answer
+call_turned s b None = nothing
+call_turned s b (Some c) = if is_turning c.state then decide s.legs (turned c) (Some b) else nothing
 
 -- the activation is refused: a label of the backup is in use
-abbrev pub call_contended : Leg → Option CallRec → Answer
-call_contended b None = nothing
-call_contended b (Some c) = if is_turning c.state then decide (stuck c (Code busy_code)) (Some b) else nothing
+abbrev pub call_contended : NodeState → Leg → Option CallRec → Answer
+call_contended s b None = nothing
+call_contended s b (Some c) =
+    if is_turning c.state then decide s.legs (stuck c (Code busy_code)) (Some b) else nothing

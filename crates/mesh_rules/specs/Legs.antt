@@ -195,9 +195,22 @@ uses f x g = takes f x g || sends f x g
 abbrev pub is_free : List Leg → Fibre → ℕ → Bool
 is_free legs f x = not (list_any (takes f x) legs)
 
--- a leg of another LSP takes the label and is Armed or Live: no backup on it can be activated
+-- a marked leg of another LSP uses the label
 abbrev pub is_busy : List Leg → Lsp → Fibre → ℕ → Bool
-is_busy legs l f x = list_any (λ h. takes f x h && (is_in_use h.phase && not (same_lsp h.lsp l))) legs
+is_busy legs l f x = list_any (λ h. uses f x h && (is_marked h && not (same_lsp h.lsp l))) legs
+
+abbrev pub is_busy_at : List Leg → Lsp → Option Fibre → Option ℕ → Bool
+is_busy_at legs l None x = false
+is_busy_at legs l (Some f) None = false
+is_busy_at legs l (Some f) (Some x) = is_busy legs l f x
+
+-- a marked leg of another LSP uses a label that the leg uses: the leg can't be activated
+abbrev pub is_contended : List Leg → Leg → Bool
+is_contended legs g =
+    is_busy_at legs g.lsp g.in_fibre g.in_label
+    || (is_busy_at legs g.lsp (reverse_of g.out_fibre) g.back_in
+    || (is_busy_at legs g.lsp g.out_fibre g.out_label
+    || is_busy_at legs g.lsp (reverse_of g.in_fibre) g.back_out))
 
 -- a backup whose primary has none of these risks
 abbrev pub is_apart : List Risk → Leg → Bool

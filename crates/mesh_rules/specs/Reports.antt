@@ -69,7 +69,7 @@ with_report c l down f =
 
 abbrev pub call_reported : NodeState → Lsp → Bool → Fibre → Option CallRec → Answer
 call_reported s l down f None = nothing
-call_reported s l down f (Some c) = decide (with_report c l down f) (leg_of c.back s.legs)
+call_reported s l down f (Some c) = decide s.legs (with_report c l down f) (leg_of c.back s.legs)
 
 -- a report of no fibre of the route changes nothing
 abbrev pub reported_on : NodeState → Leg → Bool → Option Fibre → Answer

@@ -13,7 +13,8 @@ use Rattle.mesh_rules.specs.Turns.{has_any, turn}
 -- it turns where its working LSP is hit and its backup isn't
 abbrev pub retries : NodeState → CallRec → Answer
 retries s c =
-    if is_stuck c.state && (has_any c.work_reports && not (has_any c.back_reports)) then turn c (leg_of c.back s.legs)
+    if is_stuck c.state && (has_any c.work_reports && not (has_any c.back_reports))
+    then turn s.legs c (leg_of c.back s.legs)
     else nothing
 
 abbrev pub retry_with : LocalNode → NodeState → NodeId → Option CallRec → Answer

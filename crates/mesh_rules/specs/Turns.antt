@@ -1,10 +1,11 @@
 -- A call turns to its backup where its working LSP is hit, as far as the backup isn't (ITU-T G.8080, call control; RFC 4872,
--- section 8). b is the leg of the call's backup, which begins here.
+-- section 8). legs are those of the node; b is the leg of the call's backup, which begins here.
 use Rattle.std.specs.Prelude.{Bool, true, false, List, [], ◌∷◌, Option, Some, None, if◌then◌else◌}
 use Rattle.ason_base.specs.declared.ids.Fibre.{Fibre}
 use Rattle.ason_base.specs.declared.calls.CallState.{CallState}
 use Rattle.ason_base.specs.declared.calls.CallState.TheVariants.{Guarded, Stuck, Turned}
-use Rattle.ason_base.specs.declared.calls.Cause.TheVariants.{BackDown}
+use Rattle.ason_base.specs.Codes.{busy_code}
+use Rattle.ason_base.specs.declared.calls.Cause.TheVariants.{BackDown, Code}
 use Rattle.ason_base.specs.declared.calls.Phase.TheVariants.{Armed, Held}
 use Rattle.ason_base.specs.declared.messages.PathRole.{PathRole}
 use Rattle.ason_base.specs.declared.messages.PathRole.TheVariants.{Work, Back}
@@ -17,7 +18,7 @@ use Rattle.mesh_rules.specs.declared.neighbours.Neighbour.{Neighbour}
 use Rattle.mesh_rules.specs.Activations.{path_to}
 use Rattle.mesh_rules.specs.Calls.{guarded, stuck, turning}
 use Rattle.mesh_rules.specs.Changes.{Answer, nothing, changes_calls}
-use Rattle.mesh_rules.specs.Legs.{following, is_held, is_in_use, with_phase}
+use Rattle.mesh_rules.specs.Legs.{following, is_contended, is_held, is_in_use, with_phase}
 
 abbrev pub call_put : CallRec → Answer
 call_put c = changes_calls (call.Put c ∷ [])
@@ -42,10 +43,14 @@ arms c b = record nothing {
   sent = activating_path b (following b);
 }
 
+-- the backup is activated where no label of it is in use; else the call is stuck at once
+abbrev pub turn_to : List Leg → CallRec → Leg → Answer
+turn_to legs c b = if is_contended legs b then call_put (stuck c (Code busy_code)) else arms c b
+
 -- a backup that isn't Held can't be activated
-abbrev pub turn : CallRec → Option Leg → Answer
-turn c None = call_put c
-turn c (Some b) = if is_held b.phase then arms c b else call_put c
+abbrev pub turn : List Leg → CallRec → Option Leg → Answer
+turn legs c None = call_put c
+turn legs c (Some b) = if is_held b.phase then turn_to legs c b else call_put c
 
 -- Going back
 
@@ -79,12 +84,12 @@ has_any [] = false
 has_any (f ∷ fibres) = true
 
 -- by the call's state, whether fibres of its working LSP are reported down, and whether fibres of its backup are
-abbrev pub decided : CallRec → Option Leg → CallState → Bool → Bool → Answer
-decided c b Guarded true false = turn c b
-decided c b Guarded true true = call_put (stuck c BackDown)
-decided c b Turned false true = go_back c b
-decided c b Stuck false backs = call_put (guarded c)
-decided c b state works backs = call_put c
+abbrev pub decided : List Leg → CallRec → Option Leg → CallState → Bool → Bool → Answer
+decided legs c b Guarded true false = turn legs c b
+decided legs c b Guarded true true = call_put (stuck c BackDown)
+decided legs c b Turned false true = go_back c b
+decided legs c b Stuck false backs = call_put (guarded c)
+decided legs c b state works backs = call_put c
 
-abbrev pub decide : CallRec → Option Leg → Answer
-decide c b = decided c b c.state (has_any c.work_reports) (has_any c.back_reports)
+abbrev pub decide : List Leg → CallRec → Option Leg → Answer
+decide legs c b = decided legs c b c.state (has_any c.work_reports) (has_any c.back_reports)

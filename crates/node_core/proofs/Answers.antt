@@ -3,16 +3,16 @@ use Rattle.std.proofs.Common.{◌≡◌, ◌≤◌, ◌∙◌, List, [], length,
 use Rattle.std.specs.Prelude.{OnErr, OnOk}
 use Rattle.ason_base.specs.Network.{IsTopology, Network}
 use Rattle.ason_base.specs.declared.ids.NodeId.{NodeId}
-use Rattle.link_owner.specs.Claims.{FibreClaims}
-use Rattle.link_owner.specs.Owners.{none_claimed}
+use Rattle.link_owner.specs.Owners.{OwnerState, unowned}
 use Rattle.share_check.specs.Guards.{Guard}
 use Rattle.mesh_rules.specs.LocalNodes.{local_node}
 use Rattle.mesh_nodes.proofs.NewNodes.{new-fits}
 use Rattle.leg_table.specs.Fits.{TablesFit}
-use Rattle.leg_table.specs.LegClaims.{AreOfOneNode, MayBeMade, WorksAreLive}
+use Rattle.leg_table.specs.LegClaims.{AreOfOneNode}
 use Rattle.leg_table.specs.States.{local_of, no_call, state_of}
 use Rattle.leg_table.specs.Tables.{CallTable, LegTable, new_table}
 use Rattle.leg_table.proofs.AtStart.{at_start-fits, at_start-is}
+use Rattle.leg_labels.proofs.CallLegs.{Fine}
 use Rattle.leg_labels.proofs.RuleChanges.{item-may, message-may, tick-may}
 use Rattle.mesh_rules.specs.Changes.{Answer, changed, learns, nothing}
 use Rattle.mesh_rules.specs.KnownRows.{has_row, known_rows}
@@ -64,17 +64,18 @@ answered-fits n a fits (i, may, is) = record {
 }
 
 -- the legs that it changes may be changed so
-pub answered-may : (n : NodeView) (a : Answer) → IsNode n → WorksAreLive n.state.legs → IsAnswerOf n a →
-    MayBeMade n.place n.state.legs a.legs
-answered-may n a fits live (i, may, is) = subst (λ b. MayBeMade n.place n.state.legs b.legs) (sym is) (by_input i)
+pub answered-may : (n : NodeView) (a : Answer) → IsNode n → IsAnswerOf n a → Fine n.place n.state.legs a
+answered-may n a fits (i, may, is) = subst (Fine n.place n.state.legs) (sym is) (by_input i)
   where
-    by_input : (i : Input) → MayBeMade n.place n.state.legs (answer_to n i).legs
-    by_input (Message u m) = message-may n.place n.state n.state.lsp u m fits.state.legs.each fits.state.calls.each live
-    by_input (Desk item) = item-may n.place n.state n.state.lsp item fits.state.legs.each fits.state.calls.each
-    by_input Tick = tick-may n.place n.state n.state.lsp fits.state.legs.each fits.state.calls.each
+    by_input : (i : Input) → Fine n.place n.state.legs (answer_to n i)
+    by_input (Message u m) =
+        message-may n.place n.state n.state.lsp u m fits.place fits.state.legs.each fits.state.calls.each
+    by_input (Desk item) =
+        item-may n.place n.state n.state.lsp item fits.place fits.state.legs.each fits.state.calls.each
+    by_input Tick = tick-may n.place n.state n.state.lsp fits.place fits.state.legs.each fits.state.calls.each
     by_input (Learn row) =
-        if_cases (λ b. MayBeMade n.place n.state.legs b.legs) (has_row (known_rows n.place n.state) row.link) nothing
-        (learns row) (λ known. tt) (λ none. tt)
+        if_cases (Fine n.place n.state.legs) (has_row (known_rows n.place n.state) row.link) nothing (learns row)
+        (λ known. (tt, tt)) (λ none. (tt, tt))
 
 -- it is carried out, or the node is as it was
 pub carried-fits : {X E : Type 0} (t after : LegTable) (c calls : CallTable) (a : Answer) (r : Result X E) →
@@ -92,15 +93,15 @@ carried-fits t after c calls a (Err e) fits of place done tables same =
 
 -- Tables, owner and shares
 
-pub tables-fit : (t : LegTable) (c : CallTable) (o : List FibreClaims) (s : List Guard) → IsNode (node_of t c) →
+pub tables-fit : (t : LegTable) (c : CallTable) (o : OwnerState) (s : List Guard) → IsNode (node_of t c) →
     AreOfOneNode t o s → TablesFit t o s
 tables-fit t c o s fits node =
     let first = fits.state.first in
     let numbers = fits.state.numbers in
     record { links = fits.place; legs = (c.lsp, omega arith, fits.state.legs); node = node }
 
-pub new-fit : (t : Network) (n : NodeId) (s : LegTable) (o : List FibreClaims) (g : List Guard) (c : CallTable) →
-    IsTopology t → s ≡ new_table t n → o ≡ none_claimed t n → g ≡ [] → c ≡ no_call →
+pub new-fit : (t : Network) (n : NodeId) (s : LegTable) (o : OwnerState) (g : List Guard) (c : CallTable) →
+    IsTopology t → s ≡ new_table t n → o ≡ unowned t n → g ≡ [] → c ≡ no_call →
     IsNode (node_of s c) × AreOfOneNode s o g
 new-fit t n s o g c valid is owner guards calls =
     let fits = at_start-fits t n s valid is in

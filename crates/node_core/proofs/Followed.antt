@@ -9,11 +9,11 @@ use Rattle.ason_base.specs.declared.ids.LinkId.{LinkId}
 use Rattle.ason_base.specs.declared.ids.Lsp.{Lsp}
 use Rattle.ason_base.specs.declared.ids.NodeId.{NodeId}
 use Rattle.ason_base.specs.declared.messages.Msg.{Msg}
-use Rattle.ason_base.specs.declared.messages.Msg.TheVariants.{Path, Resv, PathTear, PathErr, Notify}
+use Rattle.ason_base.specs.declared.messages.Msg.TheVariants.{Resv, PathErr}
 use Rattle.ason_base.specs.declared.tables.Leg.{Leg}
 use Rattle.mesh_rules.specs.declared.neighbours.Neighbour.{Neighbour}
 use Rattle.mesh_rules.specs.declared.arrivals.Arrival.{Arrival}
-use Rattle.mesh_rules.specs.ActivationAnswers.{confirmed, contended, is_confirmed}
+use Rattle.mesh_rules.specs.ActivationAnswers.{confirmed, contended}
 use Rattle.mesh_rules.specs.CallSteps.{call_refused}
 use Rattle.mesh_rules.specs.Calls.{call_with}
 use Rattle.mesh_rules.specs.Changes.{Answer, followed_by, nothing, removes}
@@ -47,7 +47,7 @@ module _ (t : LegTable) (c : CallTable) where
   abbrev resv-by : Arrival → ℕ → Option Leg → Leg → Answer
   resv-by a x o g =
       cond (is_armed g.phase)
-      (followed_if (carries_leg a x o) (connected_here a x o) (call.turned_here c (with_phase Live g)))
+      (followed_if (carries_leg a x o) (connected_here a x o) (call.turned_here t c (with_phase Live g)))
       (followed_if (connects_leg a x o) (resv_taken t a x o) (call.answered_here t c (connected g None x)))
 
   resv-leg : (a : Arrival) (x : ℕ) (g : Leg) →
@@ -61,7 +61,7 @@ module _ (t : LegTable) (c : CallTable) where
           (cond (r && z) (confirmed (state_of t c) g o) nothing)
           ≡ cond r
           (followed_if ((r && z) && not (is_some o)) (cond (r && z) (confirmed new_node g o) nothing)
-          (call.turned_here c (with_phase Live g)))
+          (call.turned_here t c (with_phase Live g)))
           (followed_if ((e && y) && begins_here o)
           (cond (e && y) (answered (local_of t) (legs_state t) a x g o) nothing)
           (call.answered_here t c (connected g None x)))

@@ -40,7 +40,7 @@ connection_followed t c u x m g =
 -- where the Resv tells that a backup which begins here is activated, its call follows
 abbrev pub activation_followed : LegTable → CallTable → NodeId → Msg → Leg → Answer
 activation_followed t c u m g =
-    followed_if (carries t u m) (connect_answer t u m) (turned_here c (with_phase Live g))
+    followed_if (carries t u m) (connect_answer t u m) (turned_here t c (with_phase Live g))
 
 abbrev pub resv_at : LegTable → CallTable → NodeId → ℕ → Msg → Option Leg → Answer
 resv_at t c u x m None = nothing
@@ -59,7 +59,7 @@ removal_followed t c u l code m = followed_if (refuses t u m) (path_err_answer t
 abbrev pub busy_at : LegTable → CallTable → NodeId → Msg → Option Leg → Answer
 busy_at t c u m None = busy_answer t u m
 busy_at t c u m (Some g) =
-    followed_if (contends t u m) (busy_answer t u m) (contended_here c (with_phase Held g))
+    followed_if (contends t u m) (busy_answer t u m) (contended_here t c (with_phase Held g))
 
 -- where the PathErr refuses to activate a backup that begins here, its call follows
 abbrev pub busy_followed : LegTable → CallTable → NodeId → Lsp → Msg → Answer

@@ -4,15 +4,13 @@
 ghost use Rattle.std.specs.Prelude.{◌≡◌, IfOk, OnOk};
 ghost use Rattle.std.specs.Option.{option_copied};
 ghost use Rattle.mesh_rules.specs.Changes.{followed_by};
-ghost use Rattle.mesh_nodes.specs.LocalNodes.{LocalNodeFits};
 ghost use Rattle.leg_table.specs.Fits.{TablesFit};
-ghost use Rattle.leg_table.specs.States.{local_of};
 ghost use Rattle.call_control.specs.Rules.{answered_here};
 ghost use Rattle.node_core.specs.Followed.{activation_followed, busy_followed, connection_followed, notice_followed, path_followed, removal_followed, resv_followed};
 ghost use Rattle.node_core.specs.Rules.{CanSearch, message_here};
 
 use crate::routes::backup_beside;
-use crate::rules::NodeParts;
+use crate::rules::{NodeParts, ingress_of};
 use activation::{
     activate_change, busy_change, carries, connect_change, contends, is_active, take_back_change,
 };
@@ -20,8 +18,8 @@ use ason_base::{ErrCode, Label, Leg, Lsp, Msg, NodeId, OutOfMemory, PathRole, Ph
 use call_control::{
     answer_busy, answer_confirmed, answer_report, answer_resv, refuse_lsp, sought_by_resv,
 };
+use leg_table::Change;
 use leg_table::one_leg::{connected, with_phase};
-use leg_table::{Calls, Change, NodeTables};
 use notify::{pass_change, reports};
 use path_state::{path_change, tear_change};
 use resv_state::{connects, path_err_change, refuses, resv_change};
@@ -56,17 +54,16 @@ fn on_path(
 fn follow_resv(
     alloc: Global,
     change: &mut Change,
-    tables: &NodeTables,
-    calls: &Calls,
+    parts: &NodeParts<'_>,
     leg: &Leg,
 ) -> Result<(), OutOfMemory>
-    requires links { LocalNodeFits (local_of tables.now) }
-    requires rows { CanSearch tables.now }
-    ensures { OnOk result
-        (change.new ≡ followed_by change.old (answered_here tables.now calls.now leg.now)) }
+    requires tables { TablesFit parts.now.tables.now parts.now.owner.now parts.now.shares.now }
+    requires rows { CanSearch parts.now.tables.now }
+    ensures { OnOk result (change.new ≡ followed_by change.old
+        (answered_here parts.now.tables.now parts.now.calls.now leg.now)) }
 {
-    let backup = backup_beside(alloc, tables, sought_by_resv(calls, leg))?;
-    answer_resv(alloc, change, tables, calls, leg, backup.as_ref())
+    let backup = backup_beside(alloc, parts.tables, sought_by_resv(parts.calls, leg))?;
+    answer_resv(alloc, change, &ingress_of(parts), leg, backup.as_ref())
 }
 
 // A Resv at a leg that isn't Armed.
@@ -87,7 +84,7 @@ fn connect(
     let mut change = resv_change(alloc, tables, parts.owner, parts.shares, from, msg)?;
     if connects(tables, from, msg) {
         let leg = connected(alloc, leg, None, label)?;
-        follow_resv(alloc, &mut change, tables, parts.calls, &leg)?;
+        follow_resv(alloc, &mut change, parts, &leg)?;
     }
     Ok(change)
 }
@@ -100,13 +97,14 @@ fn confirm(
     leg: &Leg,
     msg: &Msg,
 ) -> Result<Change, OutOfMemory>
+    requires tables { TablesFit parts.now.tables.now parts.now.owner.now parts.now.shares.now }
     ensures { IfOk result (λ c. c
         ≡ activation_followed parts.now.tables.now parts.now.calls.now from msg.now leg.now) }
 {
     let mut change = connect_change(alloc, parts.tables, from, msg)?;
     if carries(parts.tables, from, msg) {
         let leg = with_phase(alloc, leg, Phase::Live)?;
-        answer_confirmed(alloc, &mut change, parts.calls, &leg)?;
+        answer_confirmed(alloc, &mut change, &ingress_of(parts), &leg)?;
     }
     Ok(change)
 }
@@ -162,6 +160,7 @@ fn disarm(
     lsp: Lsp,
     msg: &Msg,
 ) -> Result<Change, OutOfMemory>
+    requires tables { TablesFit parts.now.tables.now parts.now.owner.now parts.now.shares.now }
     ensures { IfOk result (λ c. c
         ≡ busy_followed parts.now.tables.now parts.now.calls.now from lsp msg.now) }
 {
@@ -169,7 +168,7 @@ fn disarm(
     if contends(parts.tables, from, msg) {
         if let Some(leg) = parts.tables.get(&lsp) {
             let leg = with_phase(alloc, leg, Phase::Held)?;
-            answer_busy(alloc, &mut change, parts.calls, &leg)?;
+            answer_busy(alloc, &mut change, &ingress_of(parts), &leg)?;
         }
     }
     Ok(change)
@@ -183,12 +182,13 @@ fn on_notify(
     from: NodeId,
     msg: &Msg,
 ) -> Result<Change, OutOfMemory>
+    requires tables { TablesFit parts.now.tables.now parts.now.owner.now parts.now.shares.now }
     ensures { IfOk result (λ c. c
         ≡ notice_followed parts.now.tables.now parts.now.calls.now from msg.now) }
 {
     if reports(parts.tables, from, msg) {
         let mut change = Change::nothing(alloc);
-        answer_report(alloc, &mut change, parts.tables, parts.calls, msg)?;
+        answer_report(alloc, &mut change, &ingress_of(parts), msg)?;
         return Ok(change);
     }
     pass_change(alloc, parts.tables, from, msg)

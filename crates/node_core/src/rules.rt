@@ -16,7 +16,9 @@ ghost use Rattle.node_core.specs.Rules.{CanSearch, item_here, message_here, orde
 use crate::messages::on_message;
 use crate::routes::{backup_beside, least_route};
 use ason_base::{CallNo, Command, Copied, DeskItem, NodeId, OutOfMemory, TeRow};
-use call_control::{SetupRequest, protect, release, retry, seeks_route, set_up, sought_by_protect};
+use call_control::{
+    IngressParts, SetupRequest, protect, release, retry, seeks_route, set_up, sought_by_protect,
+};
 use leg_table::{Calls, Change, NodeTables};
 use link_owner::Owner;
 use node_rules::Input;
@@ -33,6 +35,19 @@ pub(crate) struct NodeParts<'a> {
     pub owner: &'a Owner,
     pub shares: &'a Shares,
     pub calls: &'a Calls,
+}
+
+/// What an ingress reads of it.
+pub(crate) fn ingress_of<'a>(parts: &NodeParts<'a>) -> IngressParts<'a>
+    ensures tables { result.tables.now ≡ parts.now.tables.now }
+    ensures owner { result.owner.now ≡ parts.now.owner.now }
+    ensures calls { result.calls.now ≡ parts.now.calls.now }
+{
+    IngressParts {
+        tables: parts.tables,
+        owner: parts.owner,
+        calls: parts.calls,
+    }
 }
 
 // Orders
@@ -72,16 +87,14 @@ fn on_protect(
     protect(alloc, tables, calls, number, from, backup.as_ref())
 }
 
-fn on_order(
-    alloc: Global,
-    tables: &NodeTables,
-    calls: &Calls,
-    command: &Command,
-) -> Result<Change, OutOfMemory>
-    requires links { LocalNodeFits (local_of tables.now) }
-    requires rows { CanSearch tables.now }
-    ensures { IfOk result (λ c. c ≡ order_here tables.now calls.now command.now) }
+fn on_order(alloc: Global, parts: &NodeParts<'_>, command: &Command) -> Result<Change, OutOfMemory>
+    requires tables { TablesFit parts.now.tables.now parts.now.owner.now parts.now.shares.now }
+    requires rows { CanSearch parts.now.tables.now }
+    ensures { IfOk result
+        (λ c. c ≡ order_here parts.now.tables.now parts.now.calls.now command.now) }
 {
+    let tables = parts.tables;
+    let calls = parts.calls;
     match command {
         Command::Setup {
             call,
@@ -105,27 +118,23 @@ fn on_order(
         }
         Command::Release { call, from } => release(alloc, tables, calls, *call, *from),
         Command::Protect { call, from } => on_protect(alloc, tables, calls, *call, *from),
-        Command::Retry { call, from } => retry(alloc, tables, calls, *call, *from),
+        Command::Retry { call, from } => retry(alloc, &ingress_of(parts), *call, *from),
         Command::Revert { call, from } => revert_change(alloc, tables, calls, *call, *from),
         Command::Fail { .. } | Command::Repair { .. } => Ok(Change::nothing(alloc)),
     }
 }
 
 // What an item of the desk does.
-fn on_item(
-    alloc: Global,
-    tables: &NodeTables,
-    calls: &Calls,
-    item: &DeskItem,
-) -> Result<Change, OutOfMemory>
-    requires links { LocalNodeFits (local_of tables.now) }
-    requires rows { CanSearch tables.now }
-    ensures { IfOk result (λ c. c ≡ item_here tables.now calls.now item.now) }
+fn on_item(alloc: Global, parts: &NodeParts<'_>, item: &DeskItem) -> Result<Change, OutOfMemory>
+    requires tables { TablesFit parts.now.tables.now parts.now.owner.now parts.now.shares.now }
+    requires rows { CanSearch parts.now.tables.now }
+    ensures { IfOk result
+        (λ c. c ≡ item_here parts.now.tables.now parts.now.calls.now item.now) }
 {
     match item {
-        DeskItem::Order(command) => on_order(alloc, tables, calls, command),
-        DeskItem::Alarm(fibre) => alarm_change(alloc, tables, *fibre),
-        DeskItem::Clear(fibre) => clear_change(alloc, tables, *fibre),
+        DeskItem::Order(command) => on_order(alloc, parts, command),
+        DeskItem::Alarm(fibre) => alarm_change(alloc, parts.tables, *fibre),
+        DeskItem::Clear(fibre) => clear_change(alloc, parts.tables, *fibre),
     }
 }
 
@@ -159,7 +168,7 @@ pub(crate) fn on_input(
 {
     match input {
         Input::Message { from, msg } => on_message(alloc, parts, *from, msg),
-        Input::Desk(item) => on_item(alloc, parts.tables, parts.calls, item),
+        Input::Desk(item) => on_item(alloc, parts, item),
         Input::Tick => tick_change(alloc, parts.tables, parts.calls),
         Input::Learn(row) => on_row(alloc, parts.tables, parts.calls, row),
     }

@@ -13,27 +13,28 @@ use Rattle.mesh_rules.specs.Messages.{arrival}
 use Rattle.mesh_rules.specs.PathErrs.{PathFailure}
 use Rattle.mesh_rules.specs.Resvs.{is_expected, resv_with}
 use Rattle.mesh_rules.specs.State.{new_node}
+use Rattle.mesh_nodes.specs.LocalNodes.{LocalNodeFits}
 use Rattle.mesh_nodes.proofs.Cases.{if_cases}
 use Rattle.leg_table.specs.Fits.{OwnLegsFit}
-use Rattle.leg_table.specs.LegClaims.{MayBeMade, WorksAreLive}
 use Rattle.leg_table.specs.States.{legs_state, local_of}
 use Rattle.leg_table.specs.Tables.{LegTable}
+use Rattle.leg_labels.proofs.CallLegs as changes
 use Rattle.leg_labels.proofs.MessageChanges as rule
 use Rattle.resv_state.specs.Answers.{answered_here, err_taken, path_err_answer, removed_here, resv_answer, resv_taken}
 
 abbrev Fine : LegTable → Answer → Type 0
-Fine t a = MayBeMade (local_of t) t.legs a.legs
+Fine t a = changes.Fine (local_of t) t.legs a
 
 -- one side of a choice, and nothing on the other
 one_side : (t : LegTable) (b : Bool) (x y : Answer) → Fine t (cond b x y) → Fine t (cond b x nothing)
 one_side t true x y may = may
-one_side t false x y may = tt
+one_side t false x y may = (tt, tt)
 
-pub resv-may : (t : LegTable) (u : NodeId) (m : Msg) → OwnLegsFit t → WorksAreLive t.legs →
-    MayBeMade (local_of t) t.legs (resv_answer t u m).legs
-resv-may t u (Path l e k route set up r) fits live = tt
-resv-may t u (Resv l e k x) fits live =
-    go (find_leg l t.legs) (rule.resv-may (local_of t) (legs_state t) fits.0 a x fits.2.each live)
+pub resv-may : (t : LegTable) (u : NodeId) (m : Msg) → LocalNodeFits (local_of t) → OwnLegsFit t →
+    Fine t (resv_answer t u m)
+resv-may t u (Path l e k route set up r) links fits = (tt, tt)
+resv-may t u (Resv l e k x) links fits =
+    go (find_leg l t.legs) (rule.resv-may (local_of t) (legs_state t) fits.0 a x links fits.2.each)
   where
     a : Arrival
     a = arrival l e u k
@@ -41,22 +42,22 @@ resv-may t u (Resv l e k x) fits live =
     go : (o : Option Leg) → Fine t (resv_with (local_of t) (legs_state t) a x o) → Fine t (resv_taken t a x o)
     go None may = may
     go (Some g) may = one_side t (is_expected a x g) (answered_here t a x g) (resv_again (legs_state t) a x g) may
-resv-may t u (PathTear l e k) fits live = tt
-resv-may t u (PathErr l e at gone code) fits live = tt
-resv-may t u (Notify l e at k code) fits live = tt
+resv-may t u (PathTear l e k) links fits = (tt, tt)
+resv-may t u (PathErr l e at gone code) links fits = (tt, tt)
+resv-may t u (Notify l e at k code) links fits = (tt, tt)
 
-pub path_err-may : (t : LegTable) (u : NodeId) (m : Msg) → MayBeMade (local_of t) t.legs (path_err_answer t u m).legs
-path_err-may t u (Path l e k route set up r) = tt
-path_err-may t u (Resv l e k x) = tt
-path_err-may t u (PathTear l e k) = tt
+pub path_err-may : (t : LegTable) (u : NodeId) (m : Msg) → Fine t (path_err_answer t u m)
+path_err-may t u (Path l e k route set up r) = (tt, tt)
+path_err-may t u (Resv l e k x) = (tt, tt)
+path_err-may t u (PathTear l e k) = (tt, tt)
 path_err-may t u (PathErr l e at gone code) = go (find_leg l t.legs)
   where
     f : PathFailure
     f = record { lsp = l; msg = PathErr l e at gone code; removed = gone; code = code }
 
     go : (o : Option Leg) → Fine t (err_taken u f o)
-    go None = tt
+    go None = (tt, tt)
     go (Some g) =
         if_cases (Fine t) (gone && is_node (following g) u) (removed_here g f) nothing
-        (λ takes. rule.removed-may (local_of t) (record new_node { legs = t.legs }) g f) (λ other. tt)
-path_err-may t u (Notify l e at k code) = tt
+        (λ takes. rule.removed-may (local_of t) (record new_node { legs = t.legs }) g f) (λ other. (tt, tt))
+path_err-may t u (Notify l e at k code) = (tt, tt)

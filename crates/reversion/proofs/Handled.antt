@@ -1,9 +1,8 @@
--- An ingress and its owner fit after a call goes back or waits.
-use Rattle.std.proofs.Common.{◌≡◌, ◌≤◌, Bool, true, not, nat_eq, List, [], length, refl, sym, ap, subst, ◌∙◌, arith, Result, Ok, Err}
-use Rattle.std.specs.Prelude.{◌&&◌, OnErr, OnOk, Option, Some, None, IsSome, is_some}
+-- What is kept fits after a call goes back or waits, and its legs may be changed so.
+use Rattle.std.proofs.Common.{◌≡◌, ◌≤◌, Bool, true, not, nat_eq, [], length, refl, sym, ap, subst, arith}
+use Rattle.std.specs.Prelude.{◌&&◌, Option, Some, None, IsSome, is_some}
 use Rattle.std.specs.List.{AllByRecursion}
 use Rattle.ason_base.specs.declared.calls.Phase.TheVariants.{Live}
-use Rattle.ason_base.specs.declared.calls.Role.TheVariants.{Back}
 use Rattle.ason_base.specs.declared.commands.Command.TheVariants.{Revert}
 use Rattle.ason_base.specs.declared.commands.DeskItem.TheVariants.{Order}
 use Rattle.ason_base.specs.declared.ids.CallNo.{CallNo}
@@ -14,7 +13,6 @@ use Rattle.ason_base.specs.declared.messages.Msg.{Msg}
 use Rattle.ason_base.specs.declared.messages.Msg.TheVariants.{Path, Resv, PathTear, PathErr, Notify}
 use Rattle.ason_base.specs.declared.tables.CallRec.{CallRec}
 use Rattle.ason_base.specs.declared.tables.Leg.{Leg}
-use Rattle.link_owner.specs.Claims.{FibreClaims}
 use Rattle.mesh_rules.specs.CallSteps.{call_turned}
 use Rattle.mesh_rules.specs.Calls.{call_with, calls_changed, find_call, is_turned, is_turning, names, turned}
 use Rattle.mesh_rules.specs.Changes.{Answer, changed, followed_by, lsp_after, nothing, puts}
@@ -35,25 +33,29 @@ use Rattle.mesh_nodes.proofs.LegList.{found-all, found-lsp}
 use Rattle.mesh_nodes.proofs.Links.{found-one}
 use Rattle.mesh_nodes.proofs.Messages.{messages-fit}
 use Rattle.mesh_nodes.proofs.Ticks.{ticks-fit}
-use Rattle.leg_table.specs.Fits.{TablesFitOwner}
-use Rattle.leg_table.specs.LegClaims.{ClaimsFit, ClaimsStay, OwnerFits}
+use Rattle.leg_table.specs.Fits.{OwnLegsFit, legs_after}
+use Rattle.leg_table.specs.LegClaims.{MayAllStay}
 use Rattle.leg_table.specs.States.{local_of, state_of}
 use Rattle.leg_table.specs.Tables.{CallTable, LegTable}
-use Rattle.call_control.specs.GoingBack.{going_back, once_turned}
+use Rattle.leg_labels.proofs.CallLegs.{Fine}
+use Rattle.leg_labels.proofs.RuleChanges.{item-may, message-may, tick-may}
+use Rattle.call_control.specs.GoingBack.{going_back, once_told, once_turned}
 use Rattle.call_control.specs.Handlers.{goes_back}
 use Rattle.call_control.specs.Ingress.{IngressFits, IsArmedAsBackup, NamesByRole, role_at}
-use Rattle.call_control.proofs.Kept.{Keeps, carried-fits}
+use Rattle.call_control.proofs.Kept.{Keeps}
 use Rattle.call_control.proofs.Decides.{reported-names}
-use Rattle.call_control.proofs.Named.{Begins, leg_of-begins}
-use Rattle.call_control.proofs.Roles.{BeginAlone, fits-alone, named-as}
+use Rattle.call_control.proofs.Roles.{named-as}
 use Rattle.reversion.specs.Answers.{go_back_answer, revert_here, tick_answer}
-use Rattle.reversion.proofs.Standing.{Leaves, at-start, backed-leaves, decide-leaves, leg-leaves, nothing-leaves, then-leaves, ticks-leave}
-use Rattle.reversion.proofs.Whole.{goes-live, is-told}
+use Rattle.reversion.proofs.Alone.{BeginAlone, fits-alone}
+use Rattle.reversion.proofs.Standing.{BackHere, Leaves, at-start, back-here, backed-leaves, decide-leaves, leg-leaves, nothing-leaves, then-leaves, ticks-leave}
+use Rattle.reversion.proofs.Whole.{back-turned, goes-live, is-told, told-back}
 
--- what an answer keeps, and the claims that fitted the legs
+-- what an answer keeps; it changes legs that stand and take no label, and knows of no row or fibre more
 pub record Handled (t : LegTable) (c : CallTable) (a : Answer) : Type 0 where
   pub keeps : Keeps t c a
-  pub claims : ClaimsStay t.legs (legs_changed a.legs t.legs)
+  pub stay : MayAllStay t.legs a.legs
+  pub no_row : a.rows ≡ []
+  pub no_down : a.down ≡ None
 
 module _ (t : LegTable) (c : CallTable) (fits : IngressFits t c) where
   abbrev p : LocalNode
@@ -71,9 +73,10 @@ module _ (t : LegTable) (c : CallTable) (fits : IngressFits t c) where
   abbrev Left : Answer → Type 0
   Left a = Leaves p s fits.names alone fits.armed a
 
-  handled : (a : Answer) → NodeFits p (changed s a) → a.rows ≡ [] → Left a → Handled t c a
-  handled a kept no_row leaves =
-      let stand = leaves.stands s.legs s.calls (at-start p s fits.names alone fits.armed) in
+  handled : (a : Answer) → NodeFits p (changed s a) → Fine p s.legs a → a.rows ≡ [] → Left a → Handled t c a
+  handled a kept fine no_row leaves =
+      let start = at-start p s fits.names alone fits.armed in
+      let stand = leaves.stands s.legs s.calls start in
       record {
         keeps = record {
           kept = kept;
@@ -82,12 +85,12 @@ module _ (t : LegTable) (c : CallTable) (fits : IngressFits t c) where
                 (λ n. AllByRecursion (NamesByRole p.id.0 (lsp_after n s.lsp) (legs_changed a.legs s.legs))
                 (calls_changed a.calls s.calls)) (sym leaves.numbers) stand.names;
             armed = stand.backs;
-            labels = leaves.labels;
-            no_down = leaves.no_down;
           };
-          no_row = no_row;
+          fine = fine;
         };
-        claims = stand.claims;
+        stay = leaves.stay s.legs s.calls start;
+        no_row = no_row;
+        no_down = leaves.no_down;
       }
 
   nothing-left : Left nothing
@@ -108,13 +111,15 @@ module _ (t : LegTable) (c : CallTable) (fits : IngressFits t c) where
   pub revert-handled : (n : CallNo) (from : NodeId) → Handled t c (revert_here t c n from)
   revert-handled n from =
       handled (revert_here t c n from) (items-fit p s (Order (Revert n from)) fits.links fits.kept).kept
+      (item-may p s s.lsp (Order (Revert n from)) fits.links fits.kept.legs.each fits.kept.calls.each)
       (item-learns_nothing p s (Order (Revert n from))) (revert-left n from (find_call n s.calls) refl)
 
   -- A tick
 
   pub tick-handled : length c.calls ≤ 65536 → Handled t c (tick_answer t c)
   tick-handled few =
-      handled (tick_answer t c) (ticks-fit p s fits.kept few).kept (tick-learns_nothing p s)
+      handled (tick_answer t c) (ticks-fit p s fits.kept few).kept
+      (tick-may p s s.lsp fits.links fits.kept.legs.each fits.kept.calls.each) (tick-learns_nothing p s)
       (ticks-leave p s fits.names alone fits.armed t.wait s.calls fits.names)
 
   -- A Resv and a Notify
@@ -124,44 +129,48 @@ module _ (t : LegTable) (c : CallTable) (fits : IngressFits t c) where
 
   -- an Armed leg whose LSP a call names is that of a backup that begins here
   armed-begins : (l : Lsp) (g : Leg) (d : CallRec) → find_leg l t.legs ≡ Some g → is_armed g.phase ≡ true →
-      call_with g.lsp c.calls ≡ Some d → Begins p s.legs Back g
+      call_with g.lsp c.calls ≡ Some d → BackHere p s fits.names alone fits.armed g
   armed-begins l g d found armed named =
       let here : find_leg g.lsp s.legs ≡ Some g =
       subst (λ k. find_leg k s.legs ≡ Some g) (sym (found-lsp l t.legs g found)) found in
-      let called = named-as p.id.0 s.lsp s.legs d g.lsp (called g.lsp d named) (called-names g.lsp c.calls d named) in
-      record {
-        there = ap role_at here;
-        begun = called.ingress;
-        alone = alone g.lsp g here called.ingress;
-        role = found-all (IsArmedAsBackup p.id.0) l t.legs g found fits.armed called.ingress armed;
-      }
+      let called = named-as p.id.0 s.lsp s.legs d g.lsp (called g.lsp d named) (called-names g.lsp c.calls d named) in (
+        record {
+          there = ap role_at here;
+          begun = called.ingress;
+          role = found-all (IsArmedAsBackup p.id.0) l t.legs g found fits.armed called.ingress armed;
+        },
+        alone g.lsp g here called.ingress,
+      )
 
   live-left : (g : Leg) (o : Option CallRec) → call_with g.lsp c.calls ≡ o →
-      ((d : CallRec) → o ≡ Some d → Begins p s.legs Back g) → IsSome (going_back (once_turned o)) →
-      Left (followed_by (puts (with_phase Live g) []) (call_turned (with_phase Live g) o))
+      ((d : CallRec) → o ≡ Some d → BackHere p s fits.names alone fits.armed g) →
+      IsSome (going_back (once_turned o)) →
+      Left (followed_by (puts (with_phase Live g) []) (call_turned s (with_phase Live g) o))
   live-left g None named begins back = absurd (cc back)
   live-left g (Some d) named begins back =
       let b : Leg = with_phase Live g in
-      let at : Begins p s.legs Back g = begins d refl in
+      let at = begins d refl in
       let here = called g.lsp d named in
       then-leaves p s fits.names alone fits.armed (puts b []) _ (leg-leaves p s fits.names alone fits.armed Live g at)
       (if_cases Left (is_turning d.state) _ _
-      (λ e. decide-leaves p s fits.names alone fits.armed (turned d) (Some b)
-      (record { work = here.work; back = here.back })
-      (record { there = at.there; begun = at.begun; alone = at.alone; role = at.role }))
+      (λ e. decide-leaves p s fits.names alone fits.armed (turned d) (record { work = here.work; back = here.back })
+      s.legs (Some b) refl (record { there = at.0.there; begun = at.0.begun; role = at.0.role }, at.1))
       (λ e. nothing-left))
 
-  told-left : (g : Leg) (down : Bool) (f : Option Fibre) → Left (reported_on s g down f)
-  told-left g down None = nothing-left
-  told-left g down (Some f) = go (call_with g.lsp s.calls) refl
+  -- a call that is told, and goes back
+  told-left : (g : Leg) (down : Bool) (f : Option Fibre) →
+      IsSome (going_back (once_told g.lsp down f (call_with g.lsp s.calls))) → Left (reported_on s g down f)
+  told-left g down None back = absurd (cc back)
+  told-left g down (Some f) back = go (call_with g.lsp s.calls) refl back
     where
-      go : (o : Option CallRec) → call_with g.lsp s.calls ≡ o → Left (call_reported s g.lsp down f o)
-      go None named = nothing-left
-      go (Some d) named =
+      go : (o : Option CallRec) → call_with g.lsp s.calls ≡ o → IsSome (going_back (once_told g.lsp down (Some f) o)) →
+          Left (call_reported s g.lsp down f o)
+      go None named back = absurd (cc back)
+      go (Some d) named back =
           let here = called g.lsp d named in
-          decide-leaves p s fits.names alone fits.armed (with_report d g.lsp down f) (leg_of d.back s.legs)
-          (reported-names p s fits.names alone fits.armed d g.lsp down f here)
-          (leg_of-begins p s fits.names alone fits.armed Back d.back here.back)
+          decide-leaves p s fits.names alone fits.armed (with_report d g.lsp down f)
+          (reported-names p s fits.names fits.armed d g.lsp down f here) s.legs (leg_of d.back s.legs)
+          (back-turned (with_report d g.lsp down f) back) (back-here p s fits.names alone fits.armed d here)
 
   message-left : (u : NodeId) (m : Msg) → IsSome (goes_back t c u m) → Left (on_message p s u m)
   message-left u (Path l e k route set up r) told = absurd (cc told)
@@ -175,39 +184,21 @@ module _ (t : LegTable) (c : CallTable) (fits : IngressFits t c) where
   message-left u (Notify l e at k code) told =
       let here = is-told t c u l e at k code told in
       let g = here.leg in
-      subst Left (sym here.whole) (told-left g here.down (fibre_into (route_from p g) g.egress at k))
+      subst Left (sym here.whole)
+      (told-left g here.down (fibre_into (route_from p g) g.egress at k) (told-back t c u l e at k code told))
 
   pub go_back-handled : (u : NodeId) (m : Msg) → Handled t c (go_back_answer t c u m)
   go_back-handled u m =
       if_cases (Handled t c) (is_some (goes_back t c u m)) _ _
       (λ told. handled (on_message p s u m) (messages-fit p s u m fits.links fits.kept).kept
+      (message-may p s s.lsp u m fits.links fits.kept.legs.each fits.kept.calls.each)
       (message-learns_nothing p s u m) (message-left u m told))
-      (λ e. handled nothing fits.kept refl nothing-left)
+      (λ e. handled nothing fits.kept (tt, tt) refl nothing-left)
 
--- Carried out
-
--- the tables, the calls and the owner
-abbrev pub AllFit : LegTable → CallTable → List FibreClaims → Type 0
-AllFit t c o = IngressFits t c × TablesFitOwner t o
-
-module _ (t after : LegTable) (c calls : CallTable) (o : List FibreClaims) (a : Answer)
-    (done : Handled t c a) (local : local_of after ≡ local_of t) (rows : after.rows ≡ t.rows) where
-  owner-fits : TablesFitOwner t o → IngressFits after calls → state_of after calls ≡ changed (state_of t c) a →
-      TablesFitOwner after o
-  owner-fits owner fits state = record {
-    links = fits.links;
-    legs = (calls.lsp, (let one = fits.kept.first in let most = fits.kept.numbers in omega arith), fits.kept.legs);
-    claims = subst (λ (n : NodeState). ClaimsFit n.legs o) (sym state) (done.claims o owner.claims);
-    fibres = subst (λ p. OwnerFits p o) (sym local) owner.fibres;
-    rows = fits.rows;
-  }
-
-  -- fit as they did, or after want of memory
-  pub fit-after : {X E : Type 0} (r : Result X E) → AllFit t c o →
-      OnOk r (state_of after calls ≡ changed (state_of t c) a) → OnErr r (after ≡ t) → OnErr r (calls ≡ c) →
-      AllFit after calls o
-  fit-after (Ok x) fits state same_tables same_calls =
-      let here = carried-fits t after c calls a fits.0.links fits.0.rows done.keeps local rows state in
-      (here, owner-fits fits.1 here state)
-  fit-after (Err e) fits state same_tables same_calls =
-      subst (λ b. AllFit b calls o) (sym same_tables) (subst (λ d. AllFit t d o) (sym same_calls) fits)
+-- the legs fit after it, with the next number then
+pub legs-after : (t : LegTable) (c : CallTable) (a : Answer) → Handled t c a → OwnLegsFit (legs_after t a)
+legs-after t c a done =
+    let kept = done.keeps.kept in
+    let first = kept.first in
+    let numbers = kept.numbers in
+    ((changed (state_of t c) a).lsp, omega arith, kept.legs)

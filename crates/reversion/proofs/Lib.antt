@@ -1,3 +1,4 @@
+pub mod Alone
 pub mod Handled
 pub mod Standing
 mod Ticked

@@ -5,8 +5,6 @@ use Rattle.ason_base.specs.Labels.{has}
 use Rattle.ason_base.specs.declared.calls.Phase.{Phase}
 use Rattle.ason_base.specs.declared.calls.Phase.TheVariants.{Asked, Held, Armed, Live, Closing, Falling}
 use Rattle.ason_base.specs.declared.codes.ErrCode.{ErrCode}
-use Rattle.ason_base.specs.Lsps.{is_lsp}
-use Rattle.ason_base.specs.declared.ids.Fibre.{Fibre}
 use Rattle.ason_base.specs.declared.ids.LinkId.{LinkId}
 use Rattle.ason_base.specs.declared.ids.Lsp.{Lsp}
 use Rattle.ason_base.specs.declared.ids.NodeId.{NodeId}
@@ -16,21 +14,19 @@ use Rattle.ason_base.specs.declared.tables.CallRec.{CallRec}
 use Rattle.ason_base.specs.declared.tables.Leg.{Leg}
 use Rattle.mesh_rules.specs.declared.arrivals.Arrival.{Arrival}
 use Rattle.mesh_rules.specs.ActivationAnswers.{is_confirmed}
-use Rattle.mesh_rules.specs.Calls.{call_with}
-use Rattle.mesh_rules.specs.Legs.{find_leg, following, is_armed, is_asked, is_over, leg_of, previous}
+use Rattle.mesh_rules.specs.Calls.{call_with, is_turned}
+use Rattle.mesh_rules.specs.Legs.{find_leg, following, is_armed, is_asked, is_over, previous}
 use Rattle.mesh_rules.specs.LocalNodes.{LocalNode}
 use Rattle.mesh_rules.specs.Messages.{arrival, on_message}
 use Rattle.mesh_rules.specs.Pairs.{route_from}
-use Rattle.mesh_rules.specs.Reports.{call_reported, fibre_into, reported, reported_on, with_report}
+use Rattle.mesh_rules.specs.Reports.{fibre_into, reported}
 use Rattle.mesh_rules.specs.Resvs.{is_expected, resv_with}
 use Rattle.mesh_rules.specs.State.{NodeState}
-use Rattle.mesh_rules.specs.Turns.{decide}
-use Rattle.mesh_nodes.proofs.Cases.{both_left, both_right, if_cases}
+use Rattle.mesh_nodes.proofs.Cases.{both_left, both_right}
 use Rattle.leg_table.specs.States.{local_of, state_of}
 use Rattle.leg_table.specs.Tables.{CallTable, LegTable}
-use Rattle.call_control.specs.GoingBack.{going_back, reported_by, turned_by}
+use Rattle.call_control.specs.GoingBack.{going_back, is_going_back, once_told, reported_by, told_by, turned_by}
 use Rattle.call_control.specs.Handlers.{begins_at, confirmed_by, goes_back, takes_notify}
-use Rattle.call_control.specs.Rules.{reported_here, told_here}
 use Rattle.call_control.proofs.AfterLeg.{Tells, begins-is, resv-confirms, tells}
 use Rattle.reversion.specs.Answers.{back_once_live}
 
@@ -47,6 +43,14 @@ confirmed-unexpected : (a : Arrival) (x : ℕ) (g : Leg) → is_confirmed a x g 
 confirmed-unexpected a x g e =
     ap (λ b. b && (is_over (following g) a.from a.link && has g.sent x))
     (armed-unasked g.phase (both_left (is_armed g.phase) _ e))
+
+-- a call that goes back is turned
+pub back-turned : (c : CallRec) → IsSome (going_back (Some c)) → is_turned c.state ≡ true
+back-turned c back = both_left (is_turned c.state) _ (go (is_going_back c) back)
+  where
+    go : (b : Bool) → is_some (cond b (Some c.call) None) ≡ true → b ≡ true
+    go true e = refl
+    go false e = absurd (cc e)
 
 -- where a call is told there was a reason to
 told-true : (b : Bool) (o : Option CallRec) → is_some (going_back (cond b o None)) ≡ true → b ≡ true
@@ -71,7 +75,7 @@ module _ (t : LegTable) (c : CallTable) (u : NodeId) (l : Lsp) (e : NodeId) wher
       pub first : previous leg ≡ None
       pub armed : is_armed leg.phase ≡ true
       pub back : IsSome (going_back (turned_by c leg))
-      pub whole : on_message p s u (Resv l e k x) ≡ back_once_live c leg
+      pub whole : on_message p s u (Resv l e k x) ≡ back_once_live t c leg
 
     pub goes-live : IsSome (goes_back t c u (Resv l e k x)) → GoesLive
     goes-live told = go (find_leg l t.legs) refl told
@@ -103,3 +107,14 @@ module _ (t : LegTable) (c : CallTable) (u : NodeId) (l : Lsp) (e : NodeId) wher
           applies = told-true (takes_notify u code (find_leg l t.legs)) (reported_by t c m) told;
           after = refl;
         })
+
+    pub told-back : (told : IsSome (goes_back t c u m)) →
+        let here = is-told told in
+        let f = fibre_into (route_from p here.leg) here.leg.egress at k in
+        IsSome (going_back (once_told here.leg.lsp here.down f (call_with here.leg.lsp c.calls)))
+    told-back told =
+        let here = is-told told in
+        let takes = told-true (takes_notify u code (find_leg l t.legs)) (reported_by t c m) told in
+        subst (λ o. IsSome (going_back (told_by t c at k (Some here.leg) o))) here.told
+        (subst (λ o. IsSome (going_back (told_by t c at k o (reported code)))) here.found
+        (ap (λ b. is_some (going_back (cond b (reported_by t c m) None))) (sym takes) ∙ told))

@@ -41,8 +41,8 @@ tick_answer t c = on_tick (local_of t) (state_of t c)
 -- A Resv and a Notify
 
 -- the leg of a backup is Live, and its call follows
-abbrev pub back_once_live : CallTable → Leg → Answer
-back_once_live c b = followed_by (puts (with_phase Live b) []) (turned_here c (with_phase Live b))
+abbrev pub back_once_live : LegTable → CallTable → Leg → Answer
+back_once_live t c b = followed_by (puts (with_phase Live b) []) (turned_here t c (with_phase Live b))
 
 -- the whole rule of a message by which a call goes back, of the leg and of the call; another message does nothing
 abbrev pub go_back_answer : LegTable → CallTable → NodeId → Msg → Answer

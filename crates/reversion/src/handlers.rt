@@ -1,8 +1,9 @@
-//! Calls that go back, and ticks, carried out over an ingress's tables and its calls.
+//! Calls that go back, and ticks, carried out over an ingress's tables, the owner of its labels and its
+//! calls.
 
 ghost use Rattle.std.specs.Prelude.{◌≡◌, IfOk, OnErr, OnOk};
 ghost use Rattle.leg_table.specs.Fits.{TablesFitOwner};
-ghost use Rattle.leg_table.specs.LegClaims.{StaysOfOneNode};
+ghost use Rattle.leg_table.specs.LegClaims.{SharesStay};
 ghost use Rattle.leg_table.specs.States.{local_of, state_of};
 ghost use Rattle.call_control.specs.Ingress.{IngressFits};
 ghost use Rattle.reversion.specs.Answers.{after_go_back, after_revert, after_tick, go_back_answer, revert_answer, tick_answer};
@@ -11,15 +12,15 @@ use crate::messages::go_back_change;
 use crate::reverts::revert_change;
 use crate::waits::tick_change;
 use ason_base::{CallNo, Msg, NodeId, OutOfMemory, Outs};
-use call_control::id_of;
-use leg_table::handling::handle_calls;
+use call_control::{IngressParts, id_of};
+use leg_labels::handle_kept_calls;
 use leg_table::{Calls, NodeTables};
 use link_owner::Owner;
 use std::alloc::Global;
 
 /// Takes this node's order to go back: a turned call goes back to its working LSP where that isn't
-/// hit. Hands back what is to be sent. An order for another call changes nothing. The owner's
-/// claims stay, since no leg takes a label in there. After want of memory nothing has changed.
+/// hit. Hands back what is to be sent. An order for another call changes nothing. The owner's marks
+/// of the backup's labels are cleared. After want of memory nothing has changed.
 pub fn revert(
     alloc: Global,
     tables: &mut NodeTables,
@@ -33,21 +34,21 @@ pub fn revert(
         (state_of tables.new calls.new ≡ after_revert tables.old calls.old call) }
     ensures sent { IfOk result (λ outs. outs ≡ (revert_answer tables.old calls.old call).sent) }
     ensures fits { IngressFits tables.new calls.new }
-    ensures owner { owner.new ≡ owner.old }
     ensures fits_owner { TablesFitOwner tables.new owner.new }
     ensures local { local_of tables.new ≡ local_of tables.old }
-    ensures labels { StaysOfOneNode tables.old tables.new }
+    ensures shares { SharesStay tables.old owner.old tables.new owner.new }
     ensures err { OnErr result (tables.new ≡ tables.old) }
+    ensures err_owner { OnErr result (owner.new ≡ owner.old) }
     ensures err_calls { OnErr result (calls.new ≡ calls.old) }
 {
-    let _owner = owner;
     let change = revert_change(alloc, tables, calls, call, id_of(tables))?;
-    handle_calls(alloc, tables, calls, change)
+    handle_kept_calls(alloc, tables, owner, calls, change)
 }
 
 /// Takes a tick: each turned call whose working LSP isn't hit has waited one tick more, and goes
 /// back at the end of the network's wait, if the network has one. Hands back what is to be sent, in
-/// order of the calls' numbers. The owner's claims stay. After want of memory nothing has changed.
+/// order of the calls' numbers. The owner's marks of the backups that are left are cleared. After
+/// want of memory nothing has changed.
 pub fn tick(
     alloc: Global,
     tables: &mut NodeTables,
@@ -59,23 +60,22 @@ pub fn tick(
     ensures ok { OnOk result (state_of tables.new calls.new ≡ after_tick tables.old calls.old) }
     ensures sent { IfOk result (λ outs. outs ≡ (tick_answer tables.old calls.old).sent) }
     ensures fits { IngressFits tables.new calls.new }
-    ensures owner { owner.new ≡ owner.old }
     ensures fits_owner { TablesFitOwner tables.new owner.new }
     ensures local { local_of tables.new ≡ local_of tables.old }
-    ensures labels { StaysOfOneNode tables.old tables.new }
+    ensures shares { SharesStay tables.old owner.old tables.new owner.new }
     ensures err { OnErr result (tables.new ≡ tables.old) }
+    ensures err_owner { OnErr result (owner.new ≡ owner.old) }
     ensures err_calls { OnErr result (calls.new ≡ calls.old) }
 {
-    let _owner = owner;
     let _few = calls.count();
     let change = tick_change(alloc, tables, calls)?;
-    handle_calls(alloc, tables, calls, change)
+    handle_kept_calls(alloc, tables, owner, calls, change)
 }
 
 /// Takes a Resv or a Notify by which a call goes back, with what it does to the leg and to the call
 /// before: a call that was turning is turned, or a fibre is reported down or isn't any more. Hands
-/// back what is to be sent. A message by which no call goes back changes nothing. The owner's
-/// claims stay. After want of memory nothing has changed.
+/// back what is to be sent. A message by which no call goes back changes nothing. The owner's marks
+/// of the backup's labels are cleared. After want of memory nothing has changed.
 pub fn go_back(
     alloc: Global,
     tables: &mut NodeTables,
@@ -91,14 +91,18 @@ pub fn go_back(
     ensures sent { IfOk result
         (λ outs. outs ≡ (go_back_answer tables.old calls.old from msg.now).sent) }
     ensures fits { IngressFits tables.new calls.new }
-    ensures owner { owner.new ≡ owner.old }
     ensures fits_owner { TablesFitOwner tables.new owner.new }
     ensures local { local_of tables.new ≡ local_of tables.old }
-    ensures labels { StaysOfOneNode tables.old tables.new }
+    ensures shares { SharesStay tables.old owner.old tables.new owner.new }
     ensures err { OnErr result (tables.new ≡ tables.old) }
+    ensures err_owner { OnErr result (owner.new ≡ owner.old) }
     ensures err_calls { OnErr result (calls.new ≡ calls.old) }
 {
-    let _owner = owner;
-    let change = go_back_change(alloc, tables, calls, from, msg)?;
-    handle_calls(alloc, tables, calls, change)
+    let parts = IngressParts {
+        tables,
+        owner,
+        calls,
+    };
+    let change = go_back_change(alloc, &parts, from, msg)?;
+    handle_kept_calls(alloc, tables, owner, calls, change)
 }

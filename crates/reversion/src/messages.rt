@@ -3,47 +3,55 @@
 
 ghost use Rattle.std.specs.Prelude.{◌≡◌, IfOk, IsSome, OnOk};
 ghost use Rattle.mesh_rules.specs.Changes.{followed_by};
+ghost use Rattle.leg_table.specs.LegClaims.{ClaimsFit};
 ghost use Rattle.call_control.specs.Handlers.{goes_back};
 ghost use Rattle.reversion.specs.Answers.{back_once_live, go_back_answer};
 
 use ason_base::{Copied, Leg, Msg, NodeId, OutOfMemory, Phase};
-use call_control::{answer_confirmed, answer_report, goes_back};
+use call_control::{IngressParts, answer_confirmed, answer_report, goes_back};
+use leg_table::Change;
 use leg_table::one_leg::with_phase;
-use leg_table::{Calls, Change, NodeTables};
 use std::alloc::Global;
 
 // The leg of a backup, which begins here, is Live, and its call follows.
-fn confirm(alloc: Global, change: &mut Change, calls: &Calls, leg: &Leg) -> Result<(), OutOfMemory>
-    ensures { OnOk result
-        (change.new ≡ followed_by change.old (back_once_live calls.now leg.now)) }
+fn confirm(
+    alloc: Global,
+    change: &mut Change,
+    parts: &IngressParts<'_>,
+    leg: &Leg,
+) -> Result<(), OutOfMemory>
+    requires { ClaimsFit parts.now.tables.now.legs parts.now.owner.now }
+    ensures { OnOk result (change.new ≡ followed_by change.old
+        (back_once_live parts.now.tables.now parts.now.calls.now leg.now)) }
 {
     let live = with_phase(alloc, leg, Phase::Live)?;
     change.put(live.copy(alloc)?)?;
-    answer_confirmed(alloc, change, calls, &live)
+    answer_confirmed(alloc, change, parts, &live)
 }
 
 // The whole rule of a message by which a call goes back.
 fn go_back_by(
     alloc: Global,
-    tables: &NodeTables,
-    calls: &Calls,
+    parts: &IngressParts<'_>,
     from: NodeId,
     msg: &Msg,
 ) -> Result<Change, OutOfMemory>
-    requires { IsSome (goes_back tables.now calls.now from msg.now) }
-    ensures { IfOk result (λ c. c ≡ go_back_answer tables.now calls.now from msg.now) }
+    requires claims { ClaimsFit parts.now.tables.now.legs parts.now.owner.now }
+    requires goes { IsSome (goes_back parts.now.tables.now parts.now.calls.now from msg.now) }
+    ensures { IfOk result
+        (λ c. c ≡ go_back_answer parts.now.tables.now parts.now.calls.now from msg.now) }
 {
     let mut change = Change::nothing(alloc);
     match msg {
         Msg::Resv { lsp, .. } => {
-            let Some(leg) = tables.get(lsp) else {
+            let Some(leg) = parts.tables.get(lsp) else {
                 return Ok(change);
             };
-            confirm(alloc, &mut change, calls, leg)?;
+            confirm(alloc, &mut change, parts, leg)?;
             Ok(change)
         }
         Msg::Notify { .. } => {
-            answer_report(alloc, &mut change, tables, calls, msg)?;
+            answer_report(alloc, &mut change, parts, msg)?;
             Ok(change)
         }
         Msg::Path { .. } | Msg::PathTear { .. } | Msg::PathErr { .. } => Ok(change),
@@ -55,15 +63,16 @@ fn go_back_by(
 /// then the call goes back. Another message does nothing.
 pub(crate) fn go_back_change(
     alloc: Global,
-    tables: &NodeTables,
-    calls: &Calls,
+    parts: &IngressParts<'_>,
     from: NodeId,
     msg: &Msg,
 ) -> Result<Change, OutOfMemory>
-    ensures { IfOk result (λ c. c ≡ go_back_answer tables.now calls.now from msg.now) }
+    requires { ClaimsFit parts.now.tables.now.legs parts.now.owner.now }
+    ensures { IfOk result
+        (λ c. c ≡ go_back_answer parts.now.tables.now parts.now.calls.now from msg.now) }
 {
-    match goes_back(tables, calls, from, msg) {
+    match goes_back(parts.tables, parts.calls, from, msg) {
         None => Ok(Change::nothing(alloc)),
-        Some(_) => go_back_by(alloc, tables, calls, from, msg),
+        Some(_) => go_back_by(alloc, parts, from, msg),
     }
 }

@@ -17,18 +17,20 @@ use Rattle.mesh_rules.specs.declared.limits.TheConstants.{LAST_NUMBER}
 use Rattle.mesh_rules.specs.Calls.{bare, blocked, call_with, guarded, is_asking, is_pairing, is_turning, turned, unbacked}
 use Rattle.mesh_rules.specs.CallSteps.{backup_refused, backup_reserved, call_answered, call_refused, call_turned, work_connected, work_refused}
 use Rattle.mesh_rules.specs.Changes.{nothing}
-use Rattle.mesh_rules.specs.FirstLegs.{first_link, is_full}
+use Rattle.mesh_rules.specs.FirstLegs.{first_leg, first_link, is_full}
 use Rattle.mesh_rules.specs.KnownRows.{known_rows}
 use Rattle.mesh_rules.specs.Legs.{find_leg, is_work}
 use Rattle.mesh_rules.specs.LocalNodes.{LocalNode}
-use Rattle.mesh_rules.specs.Pairs.{backup_route, begins_backup, leaves_bare, over_backup, pair, pair_over, route_from}
+use Rattle.mesh_rules.specs.Pairs.{backup_lsp, backup_route, begins_backup, leaves_bare, over_backup, pair, pair_over, route_from}
 use Rattle.mesh_rules.specs.State.{NodeState}
 use Rattle.mesh_rules.specs.Turns.{activating, call_put, decide, has_any}
 use Rattle.mesh_nodes.proofs.Cases.{if_cases}
-use Rattle.mesh_laws.proofs.alone.Calls.{MayTurn, blocked-holds, called-holds, called-knows, decide-fine, in_state, its-backup, may-turn, turned-fine, unbacked-holds}
+use Rattle.mesh_laws.proofs.alone.Calls.{LegMayTurn, MayTurn, blocked-holds, called-holds, called-knows, decide-fine, in_state, its-backup, may-turn, turned-fine, unbacked-holds}
 use Rattle.mesh_laws.proofs.alone.Facts.{CallKnows, NodeKnows, Routes}
 use Rattle.mesh_laws.proofs.alone.Fine.{CallHolds, Fine, NodeHolds, fine-call, fine-nothing}
 use Rattle.mesh_laws.proofs.alone.Groups.{RoleConcerns, has_one}
+use Rattle.mesh_laws.proofs.alone.Legs.{IsAlone, idle-concerns, not_contended}
+use Rattle.mesh_laws.proofs.nodes.Facts.{SharesAll}
 
 module _ (t : Network) (gs : List Group) (o : Routes) (p : LocalNode) (s : NodeState)
     (knows : NodeKnows t o p s) (holds : NodeHolds t gs o s) where
@@ -46,10 +48,15 @@ module _ (t : Network) (gs : List Group) (o : Routes) (p : LocalNode) (s : NodeS
   begins-fine : (c : CallRec) (w : Leg) (out : LinkSpec) (route : List Step) → CallHolds t gs o c →
       Fine t gs o (begins_backup p s c w out route)
   begins-fine c w out route of = record {
-    legs = ((λ back used. absurd (cc used)), tt);
+    legs = (idle-concerns gs (first_leg p (known_rows p s) (backup_lsp p s w out route)) refl, tt);
     calls = (
       record {
-        concerns = record { work_reports = of.concerns.work_reports; back_reports = tt; free = λ e. absurd (cc e) };
+        concerns = record {
+          work_reports = of.concerns.work_reports;
+          back_reports = tt;
+          free = λ e. absurd (cc e);
+          admitted = refl;
+        };
         work = of.work;
         back = λ e. absurd (cc e);
       },
@@ -85,45 +92,47 @@ module _ (t : Network) (gs : List Group) (o : Routes) (p : LocalNode) (s : NodeS
   work_connected-fine w c of =
       if_cases (Fine t gs o) (is_asking c.state) _ nothing
       (λ e. if_cases (Fine t gs o) c.protected (pair p s c w) (call_put (bare c)) (λ e. pair-fine c w of)
-      (λ e. fine-call t gs o (bare c) (in_state t gs o c Bare _ _ (λ e. absurd (cc e)) of)))
+      (λ e. fine-call t gs o (bare c) (in_state t gs o c Bare _ _ (λ e. absurd (cc e)) refl of)))
       (λ e. fine-nothing t gs o)
 
+  -- h shares its labels, and no other backup that uses one of them records one of the groups
   backup_reserved-fine : (b h : Leg) (c : CallRec) → find_leg b.lsp s.legs ≡ Some b → is_work b.role ≡ false →
-      h.risks ≡ b.risks → h.path_role ≡ b.path_role → call_with b.lsp s.calls ≡ Some c →
-      Fine t gs o (backup_reserved h c)
-  backup_reserved-fine b h c here back risks path called =
-      if_cases (Fine t gs o) (is_pairing c.state) (decide (guarded c) (Some h)) nothing
+      h.risks ≡ b.risks → h.path_role ≡ b.path_role → SharesAll s.legs h → IsAlone gs s.legs h →
+      call_with b.lsp s.calls ≡ Some c → Fine t gs o (backup_reserved s h c)
+  backup_reserved-fine b h c here back risks path shares alone called =
+      if_cases (Fine t gs o) (is_pairing c.state) (decide s.legs (guarded c) (Some h)) nothing
       (λ e. decide-fine t gs o p s knows holds (guarded c) c (Some h) (known b.lsp c called) refl refl
-      (in_state t gs o c Guarded _ _ (λ e. absurd (cc e)) (held b.lsp c called))
+      (in_state t gs o c Guarded _ _ (λ e. absurd (cc e)) refl (held b.lsp c called))
       (λ exposed.
       turns (may-turn t gs o p s knows holds c b.lsp b (known b.lsp c called) exposed
       (its-backup t gs o p s knows holds b c here back called) here)))
       (λ e. fine-nothing t gs o)
     where
-      turns : MayTurn t gs b → MayTurn t gs h
-      turns may = record {
-        records = subst (λ x. has_one x gs ≡ true) (sym risks) may.records;
-        role = subst (λ x. RoleConcerns t gs (activating x)) (sym path) may.role;
-      }
+      turns : MayTurn t gs b → LegMayTurn t gs s.legs (Some h)
+      turns may =
+          let records : has_one h.risks gs ≡ true = subst (λ x. has_one x gs ≡ true) (sym risks) may.records in (
+            record { records = records; role = subst (λ x. RoleConcerns t gs (activating x)) (sym path) may.role },
+            not_contended gs s.legs knows.rise holds.legs h shares alone (λ back. records),
+          )
 
   -- the call of a leg that got its label
   pub call_answered-fine : (b h : Leg) (c : Option CallRec) → find_leg b.lsp s.legs ≡ Some b → h.role ≡ b.role →
-      h.risks ≡ b.risks → h.path_role ≡ b.path_role → call_with b.lsp s.calls ≡ c →
-      Fine t gs o (call_answered p s h c)
-  call_answered-fine b h None here same risks path called = fine-nothing t gs o
-  call_answered-fine b h (Some c) here same risks path called =
-      if_cases (Fine t gs o) (is_work h.role) (work_connected p s h c) (backup_reserved h c)
+      h.risks ≡ b.risks → h.path_role ≡ b.path_role → SharesAll s.legs h → IsAlone gs s.legs h →
+      call_with b.lsp s.calls ≡ c → Fine t gs o (call_answered p s h c)
+  call_answered-fine b h None here same risks path shares alone called = fine-nothing t gs o
+  call_answered-fine b h (Some c) here same risks path shares alone called =
+      if_cases (Fine t gs o) (is_work h.role) (work_connected p s h c) (backup_reserved s h c)
       (λ e. work_connected-fine h c (held b.lsp c called))
-      (λ e. backup_reserved-fine b h c here (rw same at e) risks path called)
+      (λ e. backup_reserved-fine b h c here (rw same at e) risks path shares alone called)
 
   -- the backup carries the call, which may go back at once
   pub call_turned-fine : (b : Leg) (l : Lsp) (c : Option CallRec) → call_with l s.calls ≡ c →
-      Fine t gs o (call_turned b c)
+      Fine t gs o (call_turned s b c)
   call_turned-fine b l None called = fine-nothing t gs o
   call_turned-fine b l (Some c) called =
-      if_cases (Fine t gs o) (is_turning c.state) (decide (turned c) (Some b)) nothing
-      (λ e. turned-fine t gs o (turned c) (Some b) (has_any c.work_reports) (has_any c.back_reports)
-      (in_state t gs o c Turned _ _ (λ e. absurd (cc e)) (held l c called)))
+      if_cases (Fine t gs o) (is_turning c.state) (decide s.legs (turned c) (Some b)) nothing
+      (λ e. turned-fine t gs o s.legs (turned c) (Some b) (has_any c.work_reports) (has_any c.back_reports)
+      (in_state t gs o c Turned _ _ (λ e. absurd (cc e)) refl (held l c called)))
       (λ e. fine-nothing t gs o)
 
   -- After a PathErr

@@ -2,14 +2,17 @@
 -- which its backup's legs record, and it is stuck only where there are two, since none is a risk of both routes. It
 -- goes back whatever fails, since a Held leg concerns any group.
 use Rattle.std.proofs.Common.{◌≡◌, ℕ, Bool, true, false, cond, List, [], ◌∷◌, refl, sym, ap, ◌∙◌, subst}
-use Rattle.std.specs.Prelude.{◌||◌, Option, Some, None, find}
+use Rattle.std.specs.Prelude.{◌&&◌, ◌||◌, Option, Some, None, find}
 use Rattle.std.specs.List.{AllByRecursion}
+use Rattle.ason_base.specs.Codes.{busy_code}
 use Rattle.ason_base.specs.Lsps.{is_lsp}
 use Rattle.ason_base.specs.Network.{Network}
 use Rattle.ason_base.specs.declared.ids.Lsp.{Lsp}
 use Rattle.ason_base.specs.declared.calls.CallState.{CallState}
 use Rattle.ason_base.specs.declared.calls.CallState.TheVariants.{Asking, Bare, Blocked, Guarded, Pairing, Stuck, Turned, Turning}
 use Rattle.ason_base.specs.declared.calls.Cause.{Cause}
+use Rattle.ason_base.specs.declared.calls.Cause.TheVariants.{Code}
+use Rattle.ason_base.specs.declared.calls.Phase.TheVariants.{Held}
 use Rattle.ason_base.specs.declared.commands.Group.{Group}
 use Rattle.ason_base.specs.declared.messages.PathRole.{PathRole}
 use Rattle.ason_base.specs.declared.messages.PathRole.TheVariants.{Work, Back}
@@ -17,19 +20,21 @@ use Rattle.ason_base.specs.declared.steps.Step.{Step}
 use Rattle.ason_base.specs.declared.tables.CallRec.{CallRec}
 use Rattle.ason_base.specs.declared.tables.Leg.{Leg}
 use Rattle.mesh_rules.specs.declared.neighbours.Neighbour.{Neighbour}
-use Rattle.mesh_rules.specs.Calls.{blocked, call_with, names, unbacked}
-use Rattle.mesh_rules.specs.Legs.{find_leg, following, is_held, is_in_use, is_work, leg_of}
+use Rattle.mesh_rules.specs.Calls.{blocked, call_with, is_stuck, names, stuck, unbacked}
+use Rattle.mesh_rules.specs.Legs.{find_leg, following, is_contended, is_held, is_in_use, is_work, leg_of, with_phase}
 use Rattle.mesh_rules.specs.LocalNodes.{LocalNode}
 use Rattle.mesh_rules.specs.Pairs.{beside_lsp}
 use Rattle.mesh_rules.specs.State.{NodeState}
-use Rattle.mesh_rules.specs.Turns.{activating, activating_path, arms, call_put, decide, decided, disarms, go_back, has_any, taking_back, taking_path, turn}
+use Rattle.mesh_rules.specs.Turns.{activating, activating_path, arms, call_put, decide, decided, disarms, go_back, has_any, taking_back, taking_path, turn, turn_to}
 use Rattle.mesh_nodes.proofs.CallList.{called-names}
 use Rattle.mesh_nodes.proofs.Cases.{if_cases}
 use Rattle.mesh_nodes.proofs.LegList.{found-lsp, same_lsp-eq}
+use Rattle.mesh_laws.specs.AloneLaw.{is_of_busy}
 use Rattle.mesh_laws.specs.CallLaw.{GuardsWork}
 use Rattle.mesh_laws.proofs.alone.Facts.{CallKnows, NodeKnows, Routes}
 use Rattle.mesh_laws.proofs.alone.Fine.{CallHolds, Fine, IsExposed, NodeHolds, OutFine, fine-call}
 use Rattle.mesh_laws.proofs.alone.Groups.{RoleConcerns, are_many, has_one, is_on_route}
+use Rattle.mesh_laws.proofs.alone.Legs.{Apart, idle-concerns, not_contended}
 use Rattle.mesh_laws.proofs.alone.RouteRisks.{beside-many, recorded-one}
 use Rattle.mesh_laws.proofs.alone.Facts.{Records as RecordsPrimary}
 
@@ -57,21 +62,22 @@ pub record MayTurn (t : Network) (gs : List Group) (b : Leg) : Type 0 where
   pub records : has_one b.risks gs ≡ true
   pub role : RoleConcerns t gs (activating b.path_role)
 
--- where there is one
-abbrev pub LegMayTurn : Network → List Group → Option Leg → Type 0
-LegMayTurn t gs None = Unit {0}
-LegMayTurn t gs (Some b) = MayTurn t gs b
+-- where there is one, and no label of it is in use among these legs
+abbrev pub LegMayTurn : Network → List Group → List Leg → Option Leg → Type 0
+LegMayTurn t gs legs None = Unit {0}
+LegMayTurn t gs legs (Some b) = MayTurn t gs b × (is_contended legs b ≡ false)
 
 module _ (t : Network) (gs : List Group) (o : Routes) where
   -- a call in another state, with the same LSPs and reports
   pub in_state : (c : CallRec) (state : CallState) (cause : Cause) (ticks : ℕ) →
-      (state ≡ Stuck → are_many gs ≡ true) → CallHolds t gs o c →
+      (state ≡ Stuck → are_many gs ≡ true) → (is_stuck state && is_of_busy cause) ≡ false → CallHolds t gs o c →
       CallHolds t gs o (record c { state = state; cause = cause; ticks = ticks })
-  in_state c state cause ticks free holds = record {
+  in_state c state cause ticks free admitted holds = record {
     concerns = record {
       work_reports = holds.concerns.work_reports;
       back_reports = holds.concerns.back_reports;
       free = free;
+      admitted = admitted;
     };
     work = holds.work;
     back = holds.back;
@@ -80,7 +86,12 @@ module _ (t : Network) (gs : List Group) (o : Routes) where
   -- a call that has no backup any more
   pub unbacked-holds : (c : CallRec) (cause : Cause) → CallHolds t gs o c → CallHolds t gs o (unbacked c cause)
   unbacked-holds c cause holds = record {
-    concerns = record { work_reports = holds.concerns.work_reports; back_reports = tt; free = λ e. absurd (cc e) };
+    concerns = record {
+      work_reports = holds.concerns.work_reports;
+      back_reports = tt;
+      free = λ e. absurd (cc e);
+      admitted = refl;
+    };
     work = holds.work;
     back = λ e. absurd (cc e);
   }
@@ -88,7 +99,12 @@ module _ (t : Network) (gs : List Group) (o : Routes) where
   -- a call that is blocked
   pub blocked-holds : (c : CallRec) (cause : Cause) → CallHolds t gs o c → CallHolds t gs o (blocked c cause)
   blocked-holds c cause holds = record {
-    concerns = record { work_reports = tt; back_reports = holds.concerns.back_reports; free = λ e. absurd (cc e) };
+    concerns = record {
+      work_reports = tt;
+      back_reports = holds.concerns.back_reports;
+      free = λ e. absurd (cc e);
+      admitted = refl;
+    };
     work = λ e. absurd (cc e);
     back = holds.back;
   }
@@ -97,8 +113,8 @@ module _ (t : Network) (gs : List Group) (o : Routes) where
 
   arms-fine : (c : CallRec) (b : Leg) → CallHolds t gs o c → MayTurn t gs b → Fine t gs o (arms c b)
   arms-fine c b holds may = record {
-    legs = ((λ back used. may.records), tt);
-    calls = (in_state c Turning _ _ (λ e. absurd (cc e)) holds, tt);
+    legs = ((λ mark. may.records), tt);
+    calls = (in_state c Turning _ _ (λ e. absurd (cc e)) refl holds, tt);
     down = tt;
     sent = path (following b);
   }
@@ -107,11 +123,14 @@ module _ (t : Network) (gs : List Group) (o : Routes) where
       path None = tt
       path (Some h) = (may.role, tt)
 
-  -- a call turns where its backup's leg records one of the groups
-  pub turn-fine : (c : CallRec) (b : Option Leg) → CallHolds t gs o c → LegMayTurn t gs b → Fine t gs o (turn c b)
-  turn-fine c None holds may = fine-call t gs o c holds
-  turn-fine c (Some b) holds may =
-      if_cases (Fine t gs o) (is_held b.phase) (arms c b) (call_put c) (λ e. arms-fine c b holds may)
+  -- a call turns where its backup's leg records one of the groups: no label of that is in use
+  pub turn-fine : (legs : List Leg) (c : CallRec) (b : Option Leg) → CallHolds t gs o c → LegMayTurn t gs legs b →
+      Fine t gs o (turn legs c b)
+  turn-fine legs c None holds may = fine-call t gs o c holds
+  turn-fine legs c (Some b) holds may =
+      if_cases (Fine t gs o) (is_held b.phase) (turn_to legs c b) (call_put c)
+      (λ e. if_cases (Fine t gs o) (is_contended legs b) (call_put (stuck c (Code busy_code))) (arms c b)
+      (λ busy. let free = may.1 in absurd (cc (busy, free))) (λ free. arms-fine c b holds may.0))
       (λ e. fine-call t gs o c holds)
 
   -- Going back
@@ -123,8 +142,8 @@ module _ (t : Network) (gs : List Group) (o : Routes) where
 
   disarms-fine : (c : CallRec) (b : Leg) → CallHolds t gs o c → Fine t gs o (disarms c b)
   disarms-fine c b holds = record {
-    legs = ((λ back used. absurd (cc used)), tt);
-    calls = (in_state c Guarded _ _ (λ e. absurd (cc e)) holds, tt);
+    legs = (idle-concerns gs (with_phase Held b) refl, tt);
+    calls = (in_state c Guarded _ _ (λ e. absurd (cc e)) refl holds, tt);
     down = tt;
     sent = path (following b);
   }
@@ -143,28 +162,28 @@ module _ (t : Network) (gs : List Group) (o : Routes) where
   -- Decisions
 
   -- a turned call goes back or stays
-  pub turned-fine : (c : CallRec) (b : Option Leg) (works backs : Bool) → CallHolds t gs o c →
-      Fine t gs o (decided c b Turned works backs)
-  turned-fine c b false true holds = go_back-fine c b holds
-  turned-fine c b false false holds = fine-call t gs o c holds
-  turned-fine c b true backs holds = fine-call t gs o c holds
+  pub turned-fine : (legs : List Leg) (c : CallRec) (b : Option Leg) (works backs : Bool) → CallHolds t gs o c →
+      Fine t gs o (decided legs c b Turned works backs)
+  turned-fine legs c b false true holds = go_back-fine c b holds
+  turned-fine legs c b false false holds = fine-call t gs o c holds
+  turned-fine legs c b true backs holds = fine-call t gs o c holds
 
-  decided-fine : (c : CallRec) (b : Option Leg) (state : CallState) (works backs : Bool) →
-      (works ≡ true → LegMayTurn t gs b) → (works ≡ true → backs ≡ true → are_many gs ≡ true) → CallHolds t gs o c →
-      Fine t gs o (decided c b state works backs)
-  decided-fine c b Guarded true false may many holds = turn-fine c b holds (may refl)
-  decided-fine c b Guarded true true may many holds =
-      fine-call t gs o _ (in_state c Stuck _ _ (λ e. many refl refl) holds)
-  decided-fine c b Guarded false backs may many holds = fine-call t gs o c holds
-  decided-fine c b Stuck false backs may many holds =
-      fine-call t gs o _ (in_state c Guarded _ _ (λ e. absurd (cc e)) holds)
-  decided-fine c b Stuck true backs may many holds = fine-call t gs o c holds
-  decided-fine c b Asking works backs may many holds = fine-call t gs o c holds
-  decided-fine c b Bare works backs may many holds = fine-call t gs o c holds
-  decided-fine c b Blocked works backs may many holds = fine-call t gs o c holds
-  decided-fine c b Pairing works backs may many holds = fine-call t gs o c holds
-  decided-fine c b Turned works backs may many holds = turned-fine c b works backs holds
-  decided-fine c b Turning works backs may many holds = fine-call t gs o c holds
+  decided-fine : (legs : List Leg) (c : CallRec) (b : Option Leg) (state : CallState) (works backs : Bool) →
+      (works ≡ true → LegMayTurn t gs legs b) → (works ≡ true → backs ≡ true → are_many gs ≡ true) →
+      CallHolds t gs o c → Fine t gs o (decided legs c b state works backs)
+  decided-fine legs c b Guarded true false may many holds = turn-fine legs c b holds (may refl)
+  decided-fine legs c b Guarded true true may many holds =
+      fine-call t gs o _ (in_state c Stuck _ _ (λ e. many refl refl) refl holds)
+  decided-fine legs c b Guarded false backs may many holds = fine-call t gs o c holds
+  decided-fine legs c b Stuck false backs may many holds =
+      fine-call t gs o _ (in_state c Guarded _ _ (λ e. absurd (cc e)) refl holds)
+  decided-fine legs c b Stuck true backs may many holds = fine-call t gs o c holds
+  decided-fine legs c b Asking works backs may many holds = fine-call t gs o c holds
+  decided-fine legs c b Bare works backs may many holds = fine-call t gs o c holds
+  decided-fine legs c b Blocked works backs may many holds = fine-call t gs o c holds
+  decided-fine legs c b Pairing works backs may many holds = fine-call t gs o c holds
+  decided-fine legs c b Turned works backs may many holds = turned-fine legs c b works backs holds
+  decided-fine legs c b Turning works backs may many holds = fine-call t gs o c holds
 
   module _ (p : LocalNode) (s : NodeState) (knows : NodeKnows t o p s) (holds : NodeHolds t gs o s) where
     -- the working route has one of the groups: the backup's leg records it
@@ -193,14 +212,19 @@ module _ (t : Network) (gs : List Group) (o : Routes) where
             record { records = both.0; role = both.1 }
 
     -- the leg of the call's backup, as it stands
-    pub leg-may_turn : (c : CallRec) → CallKnows t o s.legs c → IsExposed t gs o c.work → (l : Option Lsp) →
-        c.back ≡ l → LegMayTurn t gs (leg_of l s.legs)
-    leg-may_turn c call exposed None is = tt
-    leg-may_turn c call exposed (Some l) is = go (find_leg l s.legs) refl
+    pub leg-may_turn : Apart gs s.legs → (c : CallRec) → CallKnows t o s.legs c → IsExposed t gs o c.work →
+        (l : Option Lsp) → c.back ≡ l → LegMayTurn t gs s.legs (leg_of l s.legs)
+    leg-may_turn apart c call exposed None is = tt
+    leg-may_turn apart c call exposed (Some l) is = go (find_leg l s.legs) refl
       where
-        go : (b : Option Leg) → find_leg l s.legs ≡ b → LegMayTurn t gs b
+        go : (b : Option Leg) → find_leg l s.legs ≡ b → LegMayTurn t gs s.legs b
         go None found = tt
-        go (Some b) found = may-turn c l b call exposed is found
+        go (Some b) found =
+            let may = may-turn c l b call exposed is found in (
+              may,
+              not_contended gs s.legs knows.rise holds.legs b (knows.shares l b found) (apart l b found)
+                  (λ back. may.records),
+            )
 
     -- no group is a risk of both routes
     many : (c : CallRec) → CallKnows t o s.legs c → IsExposed t gs o c.work → IsExposed t gs o c.back →
@@ -216,10 +240,10 @@ module _ (t : Network) (gs : List Group) (o : Routes) where
 
     -- c is the call as it is decided of, with the LSPs of a call that stands
     pub decide-fine : (c was : CallRec) (b : Option Leg) → CallKnows t o s.legs was → c.work ≡ was.work →
-        c.back ≡ was.back → CallHolds t gs o c → (IsExposed t gs o was.work → LegMayTurn t gs b) →
-        Fine t gs o (decide c b)
+        c.back ≡ was.back → CallHolds t gs o c → (IsExposed t gs o was.work → LegMayTurn t gs s.legs b) →
+        Fine t gs o (decide s.legs c b)
     decide-fine c was b call same_work same_back of may =
-        decided-fine c b c.state (has_any c.work_reports) (has_any c.back_reports)
+        decided-fine s.legs c b c.state (has_any c.work_reports) (has_any c.back_reports)
         (λ works. may (subst (IsExposed t gs o) same_work (of.work works)))
         (λ works backs. many was call (subst (IsExposed t gs o) same_work (of.work works))
         (subst (IsExposed t gs o) same_back (of.back backs))) of

@@ -1,12 +1,11 @@
 -- What the laws of every run tell of a state, as far as an activation needs it. o is the whole route that each LSP's
 -- ingress sent it on first.
-use Rattle.std.proofs.Common.{◌≡◌, ℕ, true, false, List, ◌∷◌}
-use Rattle.std.specs.Prelude.{◌⊎◌, Option, Some, None}
+use Rattle.std.proofs.Common.{◌≡◌, true, false, List, ◌∷◌}
+use Rattle.std.specs.Prelude.{Option, Some, None}
 use Rattle.std.specs.List.{AllByRecursion}
 use Rattle.ason_base.specs.Network.{Network}
 use Rattle.ason_base.specs.Risks.{route_risks}
 use Rattle.ason_base.specs.Routes.{routes_share_risk}
-use Rattle.ason_base.specs.declared.ids.Fibre.{Fibre}
 use Rattle.ason_base.specs.declared.ids.Lsp.{Lsp}
 use Rattle.ason_base.specs.declared.ids.NodeId.{NodeId}
 use Rattle.ason_base.specs.declared.calls.CallState.TheVariants.{Stuck}
@@ -18,7 +17,7 @@ use Rattle.ason_base.specs.declared.messages.PathRole.TheVariants.{Work, Back}
 use Rattle.ason_base.specs.declared.steps.Step.{Step}
 use Rattle.ason_base.specs.declared.tables.CallRec.{CallRec}
 use Rattle.ason_base.specs.declared.tables.Leg.{Leg}
-use Rattle.mesh_rules.specs.Legs.{find_leg, previous, takes}
+use Rattle.mesh_rules.specs.Legs.{connected, find_leg, following, is_over, previous}
 use Rattle.mesh_rules.specs.LocalNodes.{LocalNode, local_node}
 use Rattle.mesh_rules.specs.Machine.{Mesh}
 use Rattle.mesh_rules.specs.Pairs.{beside_lsp, route_from}
@@ -26,19 +25,13 @@ use Rattle.mesh_rules.specs.State.{NodeState}
 use Rattle.mesh_rules.specs.Turns.{has_any}
 use Rattle.mesh_nodes.specs.Order.{LegsRise}
 use Rattle.mesh_laws.specs.CallLaw.{GuardsWork}
-use Rattle.mesh_laws.specs.LabelLaw.{MayShare}
 use Rattle.mesh_laws.specs.RiskLaw.{rows_of}
+use Rattle.mesh_laws.proofs.nodes.Facts.{SharesAll}
 
 abbrev pub Routes : Type 0
 Routes = Lsp → Option (List Step)
 
 -- One node
-
--- a label of a fibre is one LSP's, or backups share it
-abbrev pub LabelsFit : List Leg → Type 0
-LabelsFit legs =
-    (f : Fibre) (x : ℕ) (l m : Lsp) (a b : Leg) → find_leg l legs ≡ Some a → find_leg m legs ≡ Some b →
-    takes f x a ≡ true → takes f x b ≡ true → (l ≡ m) ⊎ MayShare a b
 
 -- the leg's Path bears the route of the working LSP that it names, and the leg records the risks of it
 abbrev pub Records : Network → Routes → Leg → PathRole → Type 0
@@ -58,7 +51,7 @@ pub record CallKnows (t : Network) (o : Routes) (legs : List Leg) (c : CallRec) 
 
 pub record NodeKnows (t : Network) (o : Routes) (p : LocalNode) (s : NodeState) : Type 0 where
   pub rise : LegsRise s.legs
-  pub labels : LabelsFit s.legs
+  pub shares : (l : Lsp) (b : Leg) → find_leg l s.legs ≡ Some b → SharesAll s.legs b
   pub records : (l : Lsp) (b : Leg) → find_leg l s.legs ≡ Some b → b.role ≡ role.Back → Records t o b b.path_role
   -- an LSP that begins here was sent on the route that its leg has
   pub begins : (l : Lsp) (b : Leg) → find_leg l s.legs ≡ Some b → previous b ≡ None → o b.lsp ≡ Some (route_from p b)
@@ -66,22 +59,25 @@ pub record NodeKnows (t : Network) (o : Routes) (p : LocalNode) (s : NodeState) 
 
 -- The first message on a way
 
--- a Path that activates bears the route whose risks the backup's leg records
+-- a Path that activates bears the route whose risks the backup's leg records; u is the node that it comes from
 abbrev pub RoleKnows : Network → NodeState → Lsp → PathRole → Type 0
 RoleKnows t s l (Work guard) = Unit {0}
 RoleKnows t s l (Back true work primary) =
     (b : Leg) → find_leg l s.legs ≡ Some b → b.role ≡ role.Back → b.risks ≡ route_risks (rows_of t) primary
 RoleKnows t s l (Back false work primary) = Unit {0}
 
-abbrev pub MsgKnows : Network → NodeState → Msg → Type 0
-MsgKnows t s (Path l e k route set up r) = RoleKnows t s l r
-MsgKnows t s (Resv l e k x) = Unit {0}
-MsgKnows t s (PathTear l e k) = Unit {0}
-MsgKnows t s (PathErr l e at gone code) = Unit {0}
-MsgKnows t s (Notify l e at k code) = Unit {0}
+-- and the leg with the label of a Resv shares that, where the Resv comes over its link
+abbrev pub MsgKnows : Network → NodeState → NodeId → Msg → Type 0
+MsgKnows t s u (Path l e k route set up r) = RoleKnows t s l r
+MsgKnows t s u (Resv l e k x) =
+    (b : Leg) → find_leg l s.legs ≡ Some b → is_over (following b) u k ≡ true → SharesAll s.legs (connected b None x)
+MsgKnows t s u (PathTear l e k) = Unit {0}
+MsgKnows t s u (PathErr l e at gone code) = Unit {0}
+MsgKnows t s u (Notify l e at k code) = Unit {0}
 
 -- The mesh
 
 pub record MeshKnows (t : Network) (o : Routes) (s : Mesh) : Type 0 where
   pub nodes : (n : NodeId) → NodeKnows t o (local_node t n) (s.nodes n.0)
-  pub firsts : (u d : NodeId) (m : Msg) (ms : List Msg) → s.mail u.0 d.0 ≡ m ∷ ms → MsgKnows t (s.nodes d.0) m
+  pub firsts : (u d : NodeId) (m : Msg) (ms : List Msg) → s.mail u.0 d.0 ≡ m ∷ ms →
+      MsgKnows t (s.nodes d.0) u m

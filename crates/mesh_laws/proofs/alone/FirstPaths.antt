@@ -1,4 +1,4 @@
--- What a node answers to the first Path of an LSP concerns any group: the leg that it makes isn't in use.
+-- What a node answers to the first Path of an LSP concerns any group: the leg that it makes isn't marked.
 use Rattle.std.proofs.Common.{◌≡◌, ℕ, true, false, nat_eq, List, [], ◌∷◌, refl}
 use Rattle.std.specs.Prelude.{◌&&◌, not, Option, Some, None}
 use Rattle.ason_base.specs.Labels.{least}
@@ -38,7 +38,7 @@ module _ (t : Network) (gs : List Group) (o : Routes) (p : LocalNode) (s : NodeS
   in_transit-fine m link risks route offered None plain = fine-nothing t gs o
   in_transit-fine m link risks route offered (Some out) plain =
       fine-puts t gs o (transit_leg p m link risks out route offered) _
-      (idle-concerns gs (transit_leg p m link risks out route offered) (λ back. refl)) (passive m.role plain, tt)
+      (idle-concerns gs (transit_leg p m link risks out route offered) refl) (passive m.role plain, tt)
 
   admitted-fine : (m : PathRequest) (link : LinkSpec) (risks : List Risk) (offered : List ℕ) (route : List Step) →
       is_active m.role ≡ false → Fine t gs o (admitted p m link risks offered route)

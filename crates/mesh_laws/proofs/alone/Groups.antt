@@ -7,7 +7,6 @@ use Rattle.ason_base.specs.Risks.{has_risk}
 use Rattle.ason_base.specs.declared.ids.Fibre.{Fibre}
 use Rattle.ason_base.specs.declared.ids.LinkId.{LinkId}
 use Rattle.ason_base.specs.declared.calls.CallState.TheVariants.{Stuck}
-use Rattle.ason_base.specs.declared.calls.Role.TheVariants as role
 use Rattle.ason_base.specs.declared.commands.Command.TheVariants.{Setup, Release, Protect, Retry, Revert, Fail, Repair}
 use Rattle.ason_base.specs.declared.commands.DeskItem.{DeskItem}
 use Rattle.ason_base.specs.declared.commands.DeskItem.TheVariants.{Order, Alarm, Clear}
@@ -22,8 +21,8 @@ use Rattle.ason_base.specs.declared.tables.CallRec.{CallRec}
 use Rattle.ason_base.specs.declared.tables.Leg.{Leg}
 use Rattle.mesh_rules.specs.declared.events.MeshEvent.{MeshEvent}
 use Rattle.mesh_rules.specs.declared.events.MeshEvent.TheVariants.{Take, Desk, Tick, Learn, Post}
-use Rattle.mesh_rules.specs.Legs.{is_in_use}
-use Rattle.mesh_laws.specs.AloneLaw.{is_risk_there, risk_of}
+use Rattle.mesh_rules.specs.Legs.{is_marked}
+use Rattle.mesh_laws.specs.AloneLaw.{finds_busy, is_risk_there, risk_of}
 
 -- two groups or more
 abbrev pub are_many : List Group → Bool
@@ -44,16 +43,17 @@ abbrev pub has_one : List Risk → List Group → Bool
 has_one risks gs = list_any (λ g. has_risk risks (risk_of g)) gs
 
 abbrev pub LegConcerns : List Group → Leg → Type 0
-LegConcerns gs b = b.role ≡ role.Back → IsTrue (is_in_use b.phase) → IsTrue (has_one b.risks gs)
+LegConcerns gs b = IsTrue (is_marked b) → IsTrue (has_one b.risks gs)
 
 abbrev pub FibreConcerns : Network → List Group → Fibre → Type 0
 FibreConcerns t gs f = IsTrue (is_on_link t gs f.link)
 
--- a call is stuck only where two groups may have failed
+-- a call is stuck only where two groups may have failed, and never since a label of its backup is in use
 pub record CallConcerns (t : Network) (gs : List Group) (c : CallRec) : Type 0 where
   pub work_reports : AllByRecursion (FibreConcerns t gs) c.work_reports
   pub back_reports : AllByRecursion (FibreConcerns t gs) c.back_reports
   pub free : c.state ≡ Stuck → IsTrue (are_many gs)
+  pub admitted : finds_busy c ≡ false
 
 abbrev pub RoleConcerns : Network → List Group → PathRole → Type 0
 RoleConcerns t gs (Work guard) = Unit {0}

@@ -1,6 +1,6 @@
 -- What a node answers to an order, to a tick, and to an alarm or a clear that concerns one of the groups, concerns one.
 use Rattle.std.proofs.Common.{◌≡◌, ℕ, ◌+◌, nat_eq, nat_le, List, [], ◌∷◌, ◌++◌, drop, refl}
-use Rattle.std.specs.Prelude.{◌&&◌, not, Option, Some, None}
+use Rattle.std.specs.Prelude.{◌&&◌, not, Option, Some, None, IfSome}
 use Rattle.std.specs.List.{AllByRecursion}
 use Rattle.ason_base.specs.Codes.{fibre_down_code, fibre_up_code}
 use Rattle.ason_base.specs.Lsps.{has_fibre, is_other_fibre}
@@ -8,6 +8,7 @@ use Rattle.ason_base.specs.Network.{Network}
 use Rattle.ason_base.specs.declared.codes.ErrCode.{ErrCode}
 use Rattle.ason_base.specs.declared.ids.CallNo.{CallNo}
 use Rattle.ason_base.specs.declared.ids.Fibre.{Fibre}
+use Rattle.ason_base.specs.declared.ids.Lsp.{Lsp}
 use Rattle.ason_base.specs.declared.ids.NodeId.{NodeId}
 use Rattle.ason_base.specs.declared.network.LinkSpec.{LinkSpec}
 use Rattle.ason_base.specs.declared.calls.CallState.TheVariants.{Blocked}
@@ -26,29 +27,29 @@ use Rattle.mesh_rules.specs.declared.neighbours.Neighbour.{Neighbour}
 use Rattle.mesh_rules.specs.Alarms.{enters, is_hit, knows_down, notice_of, notices, notify_to}
 use Rattle.mesh_rules.specs.Calls.{find_call, is_bare, is_stuck, is_turned}
 use Rattle.mesh_rules.specs.Changes.{changes_calls, nothing}
-use Rattle.mesh_rules.specs.FirstLegs.{first_link, is_full}
+use Rattle.mesh_rules.specs.FirstLegs.{first_leg, first_link, is_full}
 use Rattle.mesh_rules.specs.KnownRows.{has_row, known_rows}
 use Rattle.mesh_rules.specs.Learnt.{on_link}
 use Rattle.mesh_rules.specs.LeastRoutes.{Trip, least_trip}
-use Rattle.mesh_rules.specs.Legs.{closed, following, leg_of, previous}
+use Rattle.mesh_rules.specs.Legs.{closed, find_leg, following, leg_of, previous}
 use Rattle.mesh_rules.specs.LocalNodes.{LocalNode, own_link}
 use Rattle.mesh_rules.specs.Orders.{on_item, on_order}
 use Rattle.mesh_rules.specs.Protects.{protect_with, protects}
 use Rattle.mesh_rules.specs.Releases.{release_with, releases, tear_to, tears}
 use Rattle.mesh_rules.specs.Retries.{retries, retry_with}
 use Rattle.mesh_rules.specs.Reverts.{revert_with, reverts}
-use Rattle.mesh_rules.specs.Setups.{SetupRequest, begins, call_record, is_order_here, is_spent, new_call, over_first, over_found, refused_setup, setup_with}
+use Rattle.mesh_rules.specs.Setups.{SetupRequest, begins, call_record, is_order_here, is_spent, new_call, over_first, over_found, refused_setup, setup_with, working_lsp}
 use Rattle.mesh_rules.specs.State.{NodeState}
 use Rattle.mesh_rules.specs.Turns.{call_put, go_back, has_any, turn}
 use Rattle.mesh_rules.specs.Waits.{all_ticked, on_tick, ticked, waits}
 use Rattle.mesh_nodes.proofs.Cases.{both_left, both_right, if_cases}
-use Rattle.mesh_nodes.proofs.LegList.{all-filter}
+use Rattle.mesh_nodes.proofs.LegList.{all-filter, found-all}
 use Rattle.mesh_laws.proofs.alone.CallAnswers.{pair-fine}
 use Rattle.mesh_laws.proofs.alone.Calls.{found-one, go_back-fine, in_state, leg-may_turn, turn-fine}
 use Rattle.mesh_laws.proofs.alone.Facts.{CallKnows, NodeKnows, Routes}
 use Rattle.mesh_laws.proofs.alone.Fine.{CallHolds, Fine, NodeHolds, OutFine, all-append, fine-call, fine-nothing, fine-puts, fine-then}
-use Rattle.mesh_laws.proofs.alone.Groups.{FibreConcerns, ItemConcerns}
-use Rattle.mesh_laws.proofs.alone.Legs.{closed-concerns}
+use Rattle.mesh_laws.proofs.alone.Groups.{FibreConcerns, ItemConcerns, LegConcerns}
+use Rattle.mesh_laws.proofs.alone.Legs.{Apart, closed-concerns, idle-concerns}
 
 module _ (t : Network) (gs : List Group) (o : Routes) where
   -- Rows
@@ -67,7 +68,8 @@ module _ (t : Network) (gs : List Group) (o : Routes) where
   waits-fine wait legs c of =
       if_cases (Fine t gs o) (nat_le wait (c.ticks + 1)) (go_back c (leg_of c.back legs)) (call_put _)
       (λ e. go_back-fine t gs o c (leg_of c.back legs) of)
-      (λ e. fine-call t gs o _ (in_state t gs o c c.state c.cause (c.ticks + 1) of.concerns.free of))
+      (λ e. fine-call t gs o _
+      (in_state t gs o c c.state c.cause (c.ticks + 1) of.concerns.free of.concerns.admitted of))
 
   ticked-fine : (wait : ℕ) (legs : List Leg) (c : CallRec) → CallHolds t gs o c → Fine t gs o (ticked wait legs c)
   ticked-fine wait legs c of =
@@ -89,18 +91,19 @@ module _ (t : Network) (gs : List Group) (o : Routes) where
 
   refused-fine : (w : SetupRequest) (cause : Cause) → Fine t gs o (refused_setup w cause)
   refused-fine w cause = fine-call t gs o (call_record w Blocked None cause) (record {
-    concerns = record { work_reports = tt; back_reports = tt; free = λ e. absurd (cc e) };
+    concerns = record { work_reports = tt; back_reports = tt; free = λ e. absurd (cc e); admitted = refl };
     work = λ e. absurd (cc e);
     back = λ e. absurd (cc e);
   })
 
-  module _ (p : LocalNode) (s : NodeState) (knows : NodeKnows t o p s) (holds : NodeHolds t gs o s) where
+  module _ (p : LocalNode) (s : NodeState) (knows : NodeKnows t o p s) (holds : NodeHolds t gs o s)
+      (apart : Apart gs s.legs) where
     begins-fine : (w : SetupRequest) (out : LinkSpec) (route : List Step) → Fine t gs o (begins p s w out route)
     begins-fine w out route = record {
-      legs = ((λ back used. absurd (cc used)), tt);
+      legs = (idle-concerns gs (first_leg p (known_rows p s) (working_lsp p s w out route)) refl, tt);
       calls = (
         record {
-          concerns = record { work_reports = tt; back_reports = tt; free = λ e. absurd (cc e) };
+          concerns = record { work_reports = tt; back_reports = tt; free = λ e. absurd (cc e); admitted = refl };
           work = λ e. absurd (cc e);
           back = λ e. absurd (cc e);
         },
@@ -134,9 +137,18 @@ module _ (t : Network) (gs : List Group) (o : Routes) where
 
     -- Releases
 
-    tears-fine : (b : Option Leg) → Fine t gs o (tears b)
-    tears-fine None = fine-nothing t gs o
-    tears-fine (Some b) = fine-puts t gs o (closed b) _ (closed-concerns gs b) (told (following b))
+    -- the leg of an LSP that a call names
+    named-concerns : (l : Option Lsp) → IfSome (leg_of l s.legs) (LegConcerns gs)
+    named-concerns None = tt
+    named-concerns (Some l) = go (find_leg l s.legs) refl
+      where
+        go : (b : Option Leg) → find_leg l s.legs ≡ b → IfSome b (LegConcerns gs)
+        go None found = tt
+        go (Some b) found = found-all (LegConcerns gs) l s.legs b found holds.legs
+
+    tears-fine : (b : Option Leg) → IfSome b (LegConcerns gs) → Fine t gs o (tears b)
+    tears-fine None old = fine-nothing t gs o
+    tears-fine (Some b) old = fine-puts t gs o (closed b) _ (closed-concerns gs b old) (told (following b))
       where
         told : (h : Option Neighbour) → AllByRecursion (OutFine t gs) (tear_to b h)
         told None = tt
@@ -146,9 +158,11 @@ module _ (t : Network) (gs : List Group) (o : Routes) where
     release-fine from None = fine-nothing t gs o
     release-fine from (Some c) =
         if_cases (Fine t gs o) (nat_eq from.0 p.id.0) (releases s c) nothing
-        (λ e. fine-then t gs o (tears (leg_of c.work s.legs)) _ (tears-fine (leg_of c.work s.legs))
+        (λ e. fine-then t gs o (tears (leg_of c.work s.legs)) _
+        (tears-fine (leg_of c.work s.legs) (named-concerns c.work))
         (fine-then t gs o (tears (leg_of c.back s.legs)) (changes_calls (call.Goes c.call ∷ []))
-        (tears-fine (leg_of c.back s.legs)) (record { legs = tt; calls = (tt, tt); down = tt; sent = tt })))
+        (tears-fine (leg_of c.back s.legs) (named-concerns c.back))
+        (record { legs = tt; calls = (tt, tt); down = tt; sent = tt })))
         (λ e. fine-nothing t gs o)
 
     -- Orders for a call that stands
@@ -170,8 +184,8 @@ module _ (t : Network) (gs : List Group) (o : Routes) where
     retries-fine : (c : CallRec) → CallKnows t o s.legs c → CallHolds t gs o c → Fine t gs o (retries s c)
     retries-fine c call of =
         if_cases (Fine t gs o) (is_stuck c.state && (has_any c.work_reports && not (has_any c.back_reports)))
-        (turn c (leg_of c.back s.legs)) nothing
-        (λ e. turn-fine t gs o c (leg_of c.back s.legs) of (leg-may_turn t gs o p s knows holds c call
+        (turn s.legs c (leg_of c.back s.legs)) nothing
+        (λ e. turn-fine t gs o s.legs c (leg_of c.back s.legs) of (leg-may_turn t gs o p s knows holds apart c call
         (of.work (both_left (has_any c.work_reports) _ (both_right (is_stuck c.state) _ e))) c.back refl))
         (λ e. fine-nothing t gs o)
 

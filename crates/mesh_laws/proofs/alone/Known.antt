@@ -2,7 +2,7 @@
 use Rattle.std.proofs.Common.{◌≡◌, ℕ, suc, Bool, true, false, not, List, [], ◌∷◌, sym, ap, ◌∙◌, subst, inl, inr}
 use Rattle.std.specs.Prelude.{◌⊎◌, Option, Some, None}
 use Rattle.std.proofs.lemmas.List.Elements.{recursion_from_All}
-use Rattle.ason_base.specs.Network.{Network}
+use Rattle.ason_base.specs.Network.{IsTopology, Network}
 use Rattle.ason_base.specs.Risks.{route_risks}
 use Rattle.ason_base.specs.Routes.{makes_route, routes_share_risk}
 use Rattle.ason_base.specs.declared.ids.LinkId.{LinkId}
@@ -27,14 +27,16 @@ use Rattle.mesh_rules.specs.LocalNodes.{local_node}
 use Rattle.mesh_rules.specs.Machine.{Mesh, start}
 use Rattle.mesh_rules.specs.Pairs.{route_from}
 use Rattle.mesh_rules.specs.Turns.{has_any}
+use Rattle.mesh_rules.proofs.Topologies.{topology_searchable}
 use Rattle.mesh_nodes.proofs.CallList.{all-calls_found, found-call-all}
 use Rattle.mesh_nodes.proofs.Cases.{both_left, both_right, not-true}
 use Rattle.mesh_nodes.proofs.LegList.{found-all, found-lsp, same_lsp-refl}
 use Rattle.mesh_laws.specs.BesideLaw.{BackupsGoBeside, CallGoesBeside, GoBeside}
 use Rattle.mesh_laws.specs.CallLaw.{FitsLegs, IsNamed, fits_reports}
+use Rattle.mesh_laws.specs.HeardLaw.{primary_of}
 use Rattle.mesh_laws.specs.HopLaw.{leg_at, mail_between}
 use Rattle.mesh_laws.specs.RiskLaw.{BackupsRecordRisks, RecordsRisks, rows_of}
-use Rattle.mesh_laws.proofs.alone.Facts.{CallKnows, MeshKnows, MsgKnows, NodeKnows, Records, Routes}
+use Rattle.mesh_laws.proofs.alone.Facts.{CallKnows, MeshKnows, MsgKnows, NodeKnows, Records, RoleKnows, Routes}
 use Rattle.mesh_laws.proofs.hops.Chain.{LegFits, OnRoute, RisksFit}
 use Rattle.mesh_laws.proofs.hops.Paired.{no_previous, whole-route}
 use Rattle.mesh_laws.proofs.hops.Planned.{EachFollows, Follows, Planned}
@@ -44,6 +46,8 @@ use Rattle.mesh_laws.proofs.hops.Rows.{no_active_up}
 use Rattle.mesh_laws.proofs.hops.Taken.{down_hop, mine, up_hop}
 use Rattle.mesh_laws.proofs.nodes.CallParts.{named-lsp}
 use Rattle.mesh_laws.proofs.nodes.Facts.{MeshFacts}
+use Rattle.mesh_laws.proofs.sent.Sound.{Sound}
+use Rattle.mesh_laws.proofs.sent.Uses.{gift-shares, leg-shares}
 
 -- A Path that activates
 
@@ -88,12 +92,24 @@ module _ (t : Network) (s : Mesh) (o : Routes) (searchable : is_searchable t ≡
         go (Some route) (e, q, planned) =
             on_way u d q (plan route e) planned was here (planned.chain.ways u d)
 
-  pub msg-knows : (u d : NodeId) (m : Msg) (ms : List Msg) → s.mail u.0 d.0 ≡ m ∷ ms → MsgKnows t (s.nodes d.0) m
-  msg-knows u d (Path l e k route set up (Work guard)) ms was = tt
-  msg-knows u d (Path l e k route set up (Back true work primary)) ms was =
+  path-knows : (u d : NodeId) (l : Lsp) (e : NodeId) (k : LinkId) (steps : List Step) (set : List ℕ) (up : Option ℕ)
+      (r : PathRole) (ms : List Msg) → s.mail u.0 d.0 ≡ Path l e k steps set up r ∷ ms →
+      RoleKnows t (s.nodes d.0) l r
+  path-knows u d l e k route set up (Work guard) ms was = tt
+  path-knows u d l e k route set up (Back true work primary) ms was =
       λ b here back. first-knows l e k route set up work primary ms b u d was here
-  msg-knows u d (Path l e k route set up (Back false work primary)) ms was = tt
-  msg-knows u d (Resv l e k x) ms was = tt
+  path-knows u d l e k route set up (Back false work primary) ms was = tt
+
+-- The first message of a list
+
+-- what was sent for an LSP, and which primaries were told, is another function in Sound: no matter which one
+module _ (t : Network) (s : Mesh) (o : Routes) (valid : IsTopology t) (follows : EachFollows t s o) (o' w : Routes)
+    (now : Sound t o' w s) where
+  pub msg-knows : (u d : NodeId) (m : Msg) (ms : List Msg) → s.mail u.0 d.0 ≡ m ∷ ms → MsgKnows t (s.nodes d.0) u m
+  msg-knows u d (Path l e k route set up r) ms was =
+      path-knows t s o (topology_searchable t valid) follows u d l e k route set up r ms was
+  msg-knows u d (Resv l e k x) ms was = λ b found over.
+      gift-shares t o' w s now valid d l e u k x ms was b found (found-lsp l (s.nodes d.0).legs b found) over
   msg-knows u d (PathTear l e k) ms was = tt
   msg-knows u d (PathErr l e at gone code) ms was = tt
   msg-knows u d (Notify l e at k code) ms was = tt
@@ -102,7 +118,8 @@ module _ (t : Network) (s : Mesh) (o : Routes) (searchable : is_searchable t ≡
 
 module _ (t : Network) (events : List MeshEvent) (facts : MeshFacts t (after t start events))
     (follows : EachFollows t (after t start events) (route_of t start events)) (risks : BackupsRecordRisks t events)
-    (beside : BackupsGoBeside t events) where
+    (beside : BackupsGoBeside t events) (valid : IsTopology t) (o' : Routes)
+    (now : Sound t o' (primary_of t start events) (after t start events)) where
   abbrev s : Mesh
   s = after t start events
 
@@ -161,7 +178,8 @@ module _ (t : Network) (events : List MeshEvent) (facts : MeshFacts t (after t s
       let its = facts.node n.0 in
       record {
         rise = its.legs_rise;
-        labels = its.labels;
+        shares = λ l b found. leg-shares t o' (primary_of t start events) s now valid n l b found
+            (found-lsp l (s.nodes n.0).legs b found);
         records = λ l b here back. records b b.path_role
             (found-all (λ x. x.role ≡ role.Back → RecordsRisks t events x x.path_role) l (s.nodes n.0).legs b here
             (recursion_from_All (λ x. x.role ≡ role.Back → RecordsRisks t events x x.path_role) (s.nodes n.0).legs
@@ -173,5 +191,8 @@ module _ (t : Network) (events : List MeshEvent) (facts : MeshFacts t (after t s
             (recursion_from_All (CallGoesBeside t events) (s.nodes n.0).calls (beside.calls n.0))));
       }
 
-  pub mesh-knows : is_searchable t ≡ true → MeshKnows t o s
-  mesh-knows searchable = record { nodes = node-knows; firsts = msg-knows t s o searchable follows }
+  pub mesh-knows : MeshKnows t o s
+  mesh-knows = record {
+    nodes = node-knows;
+    firsts = msg-knows t s o valid follows o' (primary_of t start events) now;
+  }

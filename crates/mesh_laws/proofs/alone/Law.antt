@@ -4,7 +4,7 @@ use Rattle.ason_base.specs.Network.{IsTopology, Network, is_distinct}
 use Rattle.ason_base.specs.declared.commands.Group.{Group}
 use Rattle.mesh_rules.specs.declared.events.MeshEvent.{MeshEvent}
 use Rattle.mesh_rules.specs.Events.{IsRun, after, route_of, step}
-use Rattle.mesh_rules.specs.Machine.{start}
+use Rattle.mesh_rules.specs.Machine.{Mesh, start}
 use Rattle.mesh_rules.proofs.Conjunctions.{and_first}
 use Rattle.mesh_rules.proofs.Topologies.{topology_searchable}
 use Rattle.mesh_nodes.proofs.LegList.{all-then}
@@ -12,20 +12,29 @@ use Rattle.mesh_laws.specs.AloneLaw.{AllConcern, EveryActivationIsAdmitted, Ever
 use Rattle.mesh_laws.specs.AloneLaw.{FailsOnly as OneFails}
 use Rattle.mesh_laws.proofs.alone.Groups.{FailsOnly}
 use Rattle.mesh_laws.proofs.alone.Known.{mesh-knows}
-use Rattle.mesh_laws.proofs.alone.One.{fails-one, labels-apart, mesh-one}
-use Rattle.mesh_laws.proofs.alone.Runs.{EachKnows, StayApart, after-append, append-one, from-calm, run-first}
+use Rattle.mesh_laws.proofs.alone.Facts.{MeshKnows, Routes}
+use Rattle.mesh_laws.proofs.alone.One.{fails-one, mesh-one, msg-alone, shares-alone}
+use Rattle.mesh_laws.proofs.alone.Runs.{AllApart, EachKnows, StayApart, after-append, append-one, from-calm, run-first}
 use Rattle.mesh_laws.proofs.hops.Beside.{every_backup_beside}
 use Rattle.mesh_laws.proofs.hops.Laws.{follows}
 use Rattle.mesh_laws.proofs.hops.Recorded.{every_backup_records}
 use Rattle.mesh_laws.proofs.nodes.Runs.{facts-hold}
+use Rattle.mesh_laws.proofs.sent.Run.{sound}
 
 -- what the laws of every run tell of each state
 pub each-knows : (t : Network) → IsTopology t → EachKnows t
 each-knows t valid events run =
+    let all = sound t events run in
     mesh-knows t events (facts-hold t events run) (follows t events run) (every_backup_records t events valid run)
-    (every_backup_beside t events run) (topology_searchable t valid)
+    (every_backup_beside t events run) valid all.0 all.1
 
 -- backups that share a label never record one group both
+state-apart : (t : Network) (g : Group) (o : Routes) (s : Mesh) → MeshKnows t o s → AllApart (g ∷ []) s
+state-apart t g o s told = record {
+  legs = λ n l b found. shares-alone g (s.nodes n).legs b ((told.nodes (record { 0 = n })).shares l b found);
+  firsts = λ u d m ms was. msg-alone t g (s.nodes d.0) u m (told.firsts u d m ms was);
+}
+
 one-apart : (t : Network) (g : Group) → EachKnows t → (before since : List MeshEvent) →
     IsRun t start (before ++ since) → StayApart t (g ∷ []) (after t start before) since
 one-apart t g knows before [] run = tt
@@ -33,7 +42,7 @@ one-apart t g knows before (e ∷ es) run =
     let told = knows before (run-first t start before (e ∷ es) run) in
     let next : after t start (before ++ e ∷ []) ≡ step t (after t start before) e = after-append t start before (e ∷ [])
     in (
-      λ n. labels-apart g ((after t start before).nodes n).legs (told.nodes (record { 0 = n })).labels,
+      state-apart t g (route_of t start before) (after t start before) told,
       subst (λ s. StayApart t (g ∷ []) s es) next
           (one-apart t g knows (before ++ e ∷ []) es (subst (IsRun t start) (sym (append-one before e es)) run)),
     )

@@ -1,64 +1,89 @@
 -- Which legs concern one of the groups, and why no label of a backup that does is in use.
-use Rattle.std.proofs.Common.{◌≡◌, ℕ, Bool, true, false, not, List, [], ◌∷◌, refl, sym, ap, ◌∙◌, subst, inl, inr}
-use Rattle.std.specs.Prelude.{◌&&◌, Option, Some, None}
+use Rattle.std.proofs.Common.{◌≡◌, ℕ, Bool, true, false, not, List, [], ◌∷◌, refl, sym, ap, ◌∙◌, subst}
+use Rattle.std.specs.Prelude.{◌&&◌, Option, Some, None, IsTrue}
 use Rattle.std.specs.List.{AllByRecursion}
 use Rattle.ason_base.specs.Lsps.{same_lsp}
 use Rattle.ason_base.specs.declared.ids.Fibre.{Fibre}
 use Rattle.ason_base.specs.declared.ids.Lsp.{Lsp}
+use Rattle.ason_base.specs.declared.ids.NodeId.{NodeId}
 use Rattle.ason_base.specs.declared.calls.Phase.{Phase}
 use Rattle.ason_base.specs.declared.calls.Phase.TheVariants.{Asked, Held, Armed, Live, Closing, Falling}
-use Rattle.ason_base.specs.declared.calls.Role.{Role}
-use Rattle.ason_base.specs.declared.calls.Role.TheVariants.{Work, Back}
+use Rattle.ason_base.specs.declared.calls.Role.TheVariants.{Back}
 use Rattle.ason_base.specs.declared.commands.Group.{Group}
+use Rattle.ason_base.specs.declared.messages.Msg.{Msg}
+use Rattle.ason_base.specs.declared.messages.Msg.TheVariants.{Path, Resv, PathTear, PathErr, Notify}
 use Rattle.ason_base.specs.declared.tables.Leg.{Leg}
-use Rattle.mesh_rules.specs.Activations.{is_contended}
-use Rattle.mesh_rules.specs.Legs.{closed, closing_phase, find_leg, is_armed, is_busy, is_in_use, reserved, takes}
+use Rattle.mesh_rules.specs.Legs.{closed, connected, find_leg, following, is_armed, is_asked, is_at, is_busy, is_busy_at, is_contended, is_marked, is_marking, is_over, is_work, reserved, reverse_of, sends, takes, uses}
 use Rattle.mesh_nodes.specs.Order.{LegsRise}
-use Rattle.mesh_nodes.proofs.LegList.{all-found, found-all, found-lsp, same_lsp-refl}
-use Rattle.mesh_laws.proofs.alone.Facts.{LabelsFit}
+use Rattle.mesh_nodes.proofs.Cases.{both_left}
+use Rattle.mesh_nodes.proofs.LabelPlaces.{is-at, or-first, or-second}
+use Rattle.mesh_nodes.proofs.LegList.{all-found, found-all, found-lsp, same_lsp-eq, same_lsp-refl}
 use Rattle.mesh_laws.proofs.alone.Groups.{LegConcerns, has_one}
-use Rattle.mesh_laws.proofs.nodes.LegParts.{takes-by}
+use Rattle.mesh_laws.proofs.nodes.ClosedLegs.{closed-marked}
+use Rattle.mesh_laws.proofs.nodes.Facts.{SharesAll}
+use Rattle.mesh_laws.proofs.nodes.NewLegs.{reserved-plain}
+use Rattle.mesh_laws.proofs.nodes.Sharing.{back-of}
 
 -- the leg, where it is a backup's, records one of the groups
 abbrev pub Records : List Group → Leg → Type 0
 Records gs b = b.role ≡ Back → has_one b.risks gs ≡ true
 
--- of the backups on one label at most one records one of the groups
+-- where the leg is a backup's and records one of the groups, no backup of another LSP does that uses a label of it
+abbrev pub IsAlone : List Group → List Leg → Leg → Type 0
+IsAlone gs legs b =
+    (f : Fibre) (x : ℕ) (m : Lsp) (h : Leg) → same_lsp b.lsp m ≡ false → find_leg m legs ≡ Some h →
+    uses f x b ≡ true → uses f x h ≡ true → b.role ≡ Back → h.role ≡ Back → has_one b.risks gs ≡ true →
+    has_one h.risks gs ≡ true → ⊥
+
+-- of the backups that use one label at most one records one of the groups
 abbrev pub Apart : List Group → List Leg → Type 0
-Apart gs legs =
-    (f : Fibre) (x : ℕ) (l m : Lsp) (a b : Leg) → find_leg l legs ≡ Some a → find_leg m legs ≡ Some b →
-    takes f x a ≡ true → takes f x b ≡ true → a.role ≡ Back → b.role ≡ Back → has_one a.risks gs ≡ true →
-    has_one b.risks gs ≡ true → l ≡ m
+Apart gs legs = (l : Lsp) (b : Leg) → find_leg l legs ≡ Some b → IsAlone gs legs b
+
+-- nor does another one record one of them that uses the label which a Resv is about to give; u is the node that it
+-- comes from
+abbrev pub MsgApart : List Group → List Leg → NodeId → Msg → Type 0
+MsgApart gs legs u (Path l e k route set up r) = Unit {0}
+MsgApart gs legs u (Resv l e k x) =
+    (b : Leg) → find_leg l legs ≡ Some b → IsTrue (is_asked b.phase) → IsTrue (is_over (following b) u k) →
+    IsAlone gs legs (connected b None x)
+MsgApart gs legs u (PathTear l e k) = Unit {0}
+MsgApart gs legs u (PathErr l e at gone code) = Unit {0}
+MsgApart gs legs u (Notify l e at k code) = Unit {0}
+
+-- a marked leg is a backup's
+pub marked-back : (b : Leg) → is_marked b ≡ true → b.role ≡ Back
+marked-back b mark = back-of b.role (both_left (not (is_work b.role)) _ mark)
 
 module _ (gs : List Group) where
-  -- a leg that isn't in use concerns any group
-  pub idle-concerns : (b : Leg) → (b.role ≡ Back → is_in_use b.phase ≡ false) → LegConcerns gs b
-  idle-concerns b idle back used = let never = idle back in absurd (cc (never, used))
-
-  -- a torn leg isn't in use
-  pub closed-concerns : (b : Leg) → LegConcerns gs (closed b)
-  closed-concerns b = idle-concerns (closed b) (λ back. go b.phase b.role)
+  -- a leg that no activation has passed concerns any group
+  pub idle-concerns : (b : Leg) → is_marking b.phase ≡ false → LegConcerns gs b
+  idle-concerns b idle mark = absurd (never (not (is_work b.role)) (is_marking b.phase) idle mark)
     where
-      go : (f : Phase) (r : Role) → is_in_use (closing_phase f r) ≡ false
-      go Asked r = refl
-      go Held r = refl
-      go Armed Work = refl
-      go Armed Back = refl
-      go Live Work = refl
-      go Live Back = refl
-      go Closing r = refl
-      go Falling r = refl
+      never : (w m : Bool) → m ≡ false → (w && m) ≡ true → ⊥
+      never w true e h = cc e
+      never true false e h = cc h
+      never false false e h = cc h
 
-  -- nor is a backup's leg that gets its label
+  -- a torn leg is marked only where it was
+  pub closed-concerns : (b : Leg) → LegConcerns gs b → LegConcerns gs (closed b)
+  closed-concerns b old mark = old (closed-marked b mark)
+
+  -- a leg that gets its label isn't marked yet
   pub reserved-concerns : (b : Leg) → b.phase ≡ reserved b.role → LegConcerns gs b
-  reserved-concerns b is =
-      idle-concerns b (λ back. let held : b.phase ≡ Held = is ∙ ap reserved back in ap is_in_use held)
+  reserved-concerns b is mark =
+      let plain : (not (is_work b.role) && is_marking b.phase) ≡ false =
+      ap (λ q. not (is_work b.role) && is_marking q) is ∙ reserved-plain b.role in
+      absurd (cc (mark, plain))
+
+  -- one that records one of the groups concerns them
+  pub records-concerns : (b : Leg) → Records gs b → LegConcerns gs b
+  records-concerns b records mark = records (marked-back b mark)
 
   -- a leg that is Armed records one of the groups
   pub armed-records : (b : Leg) → is_armed b.phase ≡ true → LegConcerns gs b → Records gs b
-  armed-records b armed concerns back = concerns back (go b.phase armed)
+  armed-records b armed concerns back = concerns (rw back (go b.phase armed))
     where
-      go : (f : Phase) → is_armed f ≡ true → is_in_use f ≡ true
+      go : (f : Phase) → is_armed f ≡ true → is_marking f ≡ true
       go Armed e = refl
       go Asked e = absurd (cc e)
       go Held e = absurd (cc e)
@@ -68,34 +93,36 @@ module _ (gs : List Group) where
 
   -- Contention
 
-  module _ (all : List Leg) (rise : LegsRise all) (labels : LabelsFit all) (apart : Apart gs all)
-      (concern : AllByRecursion (LegConcerns gs) all) (b : Leg) (here : find_leg b.lsp all ≡ Some b)
-      (records : Records gs b) where
-    -- a leg that makes the label busy is a backup's that records one of the groups, as this one does
-    one : (f : Fibre) (x : ℕ) (h : Leg) → find_leg h.lsp all ≡ Some h → takes f x b ≡ true → takes f x h ≡ true →
-        is_in_use h.phase ≡ true → same_lsp h.lsp b.lsp ≡ false → ⊥
-    one f x h there this that used differ =
-        elim (labels f x b.lsp h.lsp b h here there this that) [
-          | inl same ↦ (let test : same_lsp h.lsp b.lsp ≡ true = rw same (same_lsp-refl h.lsp) in cc (test, differ))
-          | inr shares ↦ (let its = found-all (LegConcerns gs) h.lsp all h there concern in
-              let same = apart f x b.lsp h.lsp b h here there this that shares.backups.0 shares.backups.1
-              (records shares.backups.0) (its shares.backups.1 used) in
-              let test : same_lsp h.lsp b.lsp ≡ true = rw same (same_lsp-refl h.lsp) in
-              cc (test, differ))
-        ]
+  -- Where a leg records one of the groups, and of the legs that use its labels no other does, none of them is marked.
+  module _ (all : List Leg) (rise : LegsRise all) (concern : AllByRecursion (LegConcerns gs) all) (b : Leg)
+      (shares : SharesAll all b) (alone : IsAlone gs all b) (records : Records gs b) where
+    one : (f : Fibre) (x : ℕ) (h : Leg) → find_leg h.lsp all ≡ Some h → uses f x b ≡ true → uses f x h ≡ true →
+        is_marked h ≡ true → same_lsp h.lsp b.lsp ≡ false → ⊥
+    one f x h there this that mark differ =
+        let apart : same_lsp b.lsp h.lsp ≡ false = flip (same_lsp b.lsp h.lsp) refl in
+        let back = (shares f x h.lsp h apart there this that).backups.0 in
+        let concerns = found-all (LegConcerns gs) h.lsp all h there concern in
+        alone f x h.lsp h apart there this that back (marked-back h mark) (records back) (concerns mark)
+      where
+        flip : (i : Bool) → same_lsp b.lsp h.lsp ≡ i → i ≡ false
+        flip false e = refl
+        flip true e =
+            let same : b.lsp ≡ h.lsp = same_lsp-eq b.lsp h.lsp e in
+            let test : same_lsp h.lsp b.lsp ≡ true = rw same (same_lsp-refl h.lsp) in
+            absurd (cc (test, differ))
 
-    not_this : (f : Fibre) (x : ℕ) (h : Leg) → find_leg h.lsp all ≡ Some h → takes f x b ≡ true → (i j k : Bool) →
-        takes f x h ≡ i → is_in_use h.phase ≡ j → same_lsp h.lsp b.lsp ≡ k → (i && (j && not k)) ≡ false
+    not_this : (f : Fibre) (x : ℕ) (h : Leg) → find_leg h.lsp all ≡ Some h → uses f x b ≡ true → (i j k : Bool) →
+        uses f x h ≡ i → is_marked h ≡ j → same_lsp h.lsp b.lsp ≡ k → (i && (j && not k)) ≡ false
     not_this f x h there this true true false p q r = absurd (one f x h there this p q r)
     not_this f x h there this true true true p q r = refl
     not_this f x h there this true false k p q r = refl
     not_this f x h there this false j k p q r = refl
 
     not_these : (f : Fibre) (x : ℕ) (legs : List Leg) → AllByRecursion (λ h. find_leg h.lsp all ≡ Some h) legs →
-        takes f x b ≡ true → is_busy legs b.lsp f x ≡ false
+        uses f x b ≡ true → is_busy legs b.lsp f x ≡ false
     not_these f x [] found this = refl
     not_these f x (h ∷ legs) found this = rw (
-      not_this f x h found.0 this (takes f x h) (is_in_use h.phase) (same_lsp h.lsp b.lsp) refl refl refl,
+      not_this f x h found.0 this (uses f x h) (is_marked h) (same_lsp h.lsp b.lsp) refl refl refl,
       not_these f x legs found.1 this,
     ) refl
 
@@ -103,11 +130,21 @@ module _ (gs : List Group) where
     each-found = all-found (λ h. find_leg h.lsp all ≡ Some h) all rise
         (λ l h found. subst (λ k. find_leg k all ≡ Some h) (sym (found-lsp l all h found)) found)
 
-    -- so the label of a leg that records one isn't in use
-    pub not_contended : is_contended all b b.in_fibre b.in_label ≡ false
-    not_contended = go b.in_fibre b.in_label refl refl
-      where
-        go : (f : Option Fibre) (x : Option ℕ) → b.in_fibre ≡ f → b.in_label ≡ x → is_contended all b f x ≡ false
-        go None x at_f at_x = refl
-        go (Some f) None at_f at_x = refl
-        go (Some f) (Some x) at_f at_x = not_these f x all each-found (takes-by f x b at_f at_x)
+    free-at : (o : Option Fibre) (label : Option ℕ) →
+        ((f : Fibre) (x : ℕ) → is_at o label f x ≡ true → uses f x b ≡ true) → is_busy_at all b.lsp o label ≡ false
+    free-at None label used = refl
+    free-at (Some f) None used = refl
+    free-at (Some f) (Some x) used = not_these f x all each-found (used f x (is-at (Some f) (Some x) f x refl refl))
+
+    -- so no label of it is in use
+    pub not_contended : is_contended all b ≡ false
+    not_contended = rw (
+      free-at b.in_fibre b.in_label
+          (λ f x on. or-first (takes f x b) (sends f x b) (or-first (is_at b.in_fibre b.in_label f x) _ on)),
+      free-at (reverse_of b.out_fibre) b.back_in
+          (λ f x on. or-first (takes f x b) (sends f x b) (or-second (is_at b.in_fibre b.in_label f x) _ on)),
+      free-at b.out_fibre b.out_label
+          (λ f x on. or-second (takes f x b) (sends f x b) (or-first (is_at b.out_fibre b.out_label f x) _ on)),
+      free-at (reverse_of b.in_fibre) b.back_out
+          (λ f x on. or-second (takes f x b) (sends f x b) (or-second (is_at b.out_fibre b.out_label f x) _ on)),
+    ) refl

@@ -4,6 +4,7 @@ use Rattle.std.specs.Prelude.{◌&&◌, not, Option, Some, None}
 use Rattle.std.specs.List.{AllByRecursion}
 use Rattle.ason_base.specs.Codes.{torn_code}
 use Rattle.ason_base.specs.Network.{Network}
+use Rattle.ason_base.specs.declared.ids.LinkId.{LinkId}
 use Rattle.ason_base.specs.declared.ids.Lsp.{Lsp}
 use Rattle.ason_base.specs.declared.ids.NodeId.{NodeId}
 use Rattle.ason_base.specs.declared.commands.Group.{Group}
@@ -17,12 +18,12 @@ use Rattle.ason_base.specs.declared.tables.Leg.{Leg}
 use Rattle.ason_base.specs.declared.tables.Out.{Out}
 use Rattle.mesh_rules.specs.declared.arrivals.Arrival.{Arrival}
 use Rattle.mesh_rules.specs.declared.neighbours.Neighbour.{Neighbour}
-use Rattle.mesh_rules.specs.Activations.{activated, armed_on, busy_to, is_contended, path_again, resv_to, taken_back, taken_on}
+use Rattle.mesh_rules.specs.Activations.{activated, armed_on, busy_to, path_again, resv_to, taken_back, taken_on}
 use Rattle.mesh_rules.specs.ActivationAnswers.{confirmed, is_confirmed, resv_again}
 use Rattle.mesh_rules.specs.Calls.{call_with}
 use Rattle.mesh_rules.specs.CallSteps.{call_answered, call_refused, call_turned}
 use Rattle.mesh_rules.specs.Changes.{nothing, puts, removes, sends, to_node}
-use Rattle.mesh_rules.specs.Legs.{closed, connected, find_leg, following, is_active_backup, is_armed, is_asked, is_closing, is_held, is_node, is_over, label_through, previous, with_phase}
+use Rattle.mesh_rules.specs.Legs.{closed, connected, find_leg, following, is_active_backup, is_armed, is_asked, is_closing, is_contended, is_held, is_node, is_over, label_through, previous, with_phase}
 use Rattle.mesh_rules.specs.LocalNodes.{LocalNode, own_link}
 use Rattle.mesh_rules.specs.Messages.{arrival, on_message}
 use Rattle.mesh_rules.specs.Notifies.{Notice, notify_with}
@@ -32,16 +33,17 @@ use Rattle.mesh_rules.specs.Reports.{reported}
 use Rattle.mesh_rules.specs.Resvs.{answered, connected_here, is_expected, labels_left, passed_back, resv_with}
 use Rattle.mesh_rules.specs.State.{NodeState}
 use Rattle.mesh_rules.specs.Tears.{tear_with, torn}
-use Rattle.mesh_nodes.proofs.Cases.{both_left, if_cases}
+use Rattle.mesh_nodes.proofs.Cases.{both_left, both_right, if_cases}
 use Rattle.mesh_nodes.proofs.LegList.{found-all, found-lsp}
 use Rattle.mesh_laws.proofs.alone.CallAnswers.{call_answered-fine, call_refused-fine, call_turned-fine}
 use Rattle.mesh_laws.proofs.alone.Facts.{MsgKnows, NodeKnows, RoleKnows, Routes}
 use Rattle.mesh_laws.proofs.alone.Fine.{Fine, NodeHolds, OutFine, fine-nothing, fine-puts, fine-removes, fine-then}
 use Rattle.mesh_laws.proofs.alone.FirstPaths.{first_path-fine}
 use Rattle.mesh_laws.proofs.alone.Groups.{LegConcerns, MsgConcerns, RoleConcerns, has_one, is_on_link}
-use Rattle.mesh_laws.proofs.alone.Legs.{Apart, Records, armed-records, closed-concerns, idle-concerns, not_contended, reserved-concerns}
+use Rattle.mesh_laws.proofs.alone.Legs.{Apart, IsAlone, MsgApart, Records, armed-records, closed-concerns, idle-concerns, not_contended, records-concerns, reserved-concerns}
 use Rattle.mesh_laws.proofs.alone.Reports.{notice_told-fine}
 use Rattle.mesh_laws.proofs.alone.RouteRisks.{recorded-one}
+use Rattle.mesh_laws.proofs.nodes.Facts.{SharesAll}
 
 module _ (t : Network) (gs : List Group) (o : Routes) (p : LocalNode) (s : NodeState) (knows : NodeKnows t o p s)
     (holds : NodeHolds t gs o s) (apart : Apart gs s.legs) where
@@ -61,16 +63,18 @@ module _ (t : Network) (gs : List Group) (o : Routes) (p : LocalNode) (s : NodeS
     armed_on-fine : (route : List Step) (r : PathRole) (h : Option Neighbour) → RoleConcerns t gs r → Records gs b →
         Fine t gs o (armed_on b route r h)
     armed_on-fine route r None concerns records =
-        fine-puts t gs o (with_phase Live b) _ (λ back used. records back) (resv_to-fine (previous b) b.in_label)
+        fine-puts t gs o (with_phase Live b) _ (records-concerns gs (with_phase Live b) records)
+        (resv_to-fine (previous b) b.in_label)
     armed_on-fine route r (Some h) concerns records =
-        fine-puts t gs o (with_phase Armed b) _ (λ back used. records back) (concerns, tt)
+        fine-puts t gs o (with_phase Armed b) _ (records-concerns gs (with_phase Armed b) records) (concerns, tt)
 
     activated-fine : (a : Arrival) (route : List Step) (r : PathRole) → RoleConcerns t gs r → Records gs b →
         Fine t gs o (activated p s a route r b)
     activated-fine a route r concerns records =
-        if_cases (Fine t gs o) (is_contended s.legs b b.in_fibre b.in_label) (sends (busy_to p b a.from ∷ []))
+        if_cases (Fine t gs o) (is_contended s.legs b) (sends (busy_to p b a.from ∷ []))
         (armed_on b route r (following b))
-        (λ e. let never = not_contended gs s.legs knows.rise knows.labels apart holds.legs b here records in
+        (λ e. let never = not_contended gs s.legs knows.rise holds.legs b (knows.shares b.lsp b here)
+        (apart b.lsp b here) records in
         absurd (cc (e, never)))
         (λ e. armed_on-fine route r (following b) concerns records)
 
@@ -78,7 +82,7 @@ module _ (t : Network) (gs : List Group) (o : Routes) (p : LocalNode) (s : NodeS
     taken_back-fine : (route : List Step) (work : ℕ) (primary : List Step) →
         Fine t gs o (taken_back b route (Back false work primary))
     taken_back-fine route work primary =
-        fine-puts t gs o (with_phase Held b) _ (idle-concerns gs (with_phase Held b) (λ back. refl))
+        fine-puts t gs o (with_phase Held b) _ (idle-concerns gs (with_phase Held b) refl)
         (path (following b))
       where
         path : (h : Option Neighbour) →
@@ -101,41 +105,51 @@ module _ (t : Network) (gs : List Group) (o : Routes) (p : LocalNode) (s : NodeS
 
     -- A Resv
 
-    connected_here-fine : (x : ℕ) → Fine t gs o (connected_here p s x b)
-    connected_here-fine x =
+    -- the leg with the label that it gets shares that, and of the backups that use it no other records one of the
+    -- groups
+    abbrev Gift : ℕ → Type 0
+    Gift x = SharesAll s.legs (connected b None x) × IsAlone gs s.legs (connected b None x)
+
+    connected_here-fine : (x : ℕ) → Gift x → Fine t gs o (connected_here p s x b)
+    connected_here-fine x gift =
         fine-then t gs o (puts (connected b None x) [])
         (call_answered p s (connected b None x) (call_with b.lsp s.calls))
         (fine-puts t gs o (connected b None x) [] (reserved-concerns gs (connected b None x) refl) tt)
         (call_answered-fine t gs o p s knows holds b (connected b None x) (call_with b.lsp s.calls) here refl refl refl
-        refl)
+        gift.0 gift.1 refl)
 
     passed_back-fine : (a : Arrival) (h : Neighbour) (x : ℕ) (y : Option ℕ) → Fine t gs o (passed_back p a b h x y)
-    passed_back-fine a h x None = fine-puts t gs o (closed b) _ (closed-concerns gs b) (tt, (tt, tt))
+    passed_back-fine a h x None = fine-puts t gs o (closed b) _ (closed-concerns gs b old) (tt, (tt, tt))
     passed_back-fine a h x (Some y) =
         fine-puts t gs o (connected b (Some y) x) _ (reserved-concerns gs (connected b (Some y) x) refl) (tt, tt)
 
-    answered-fine : (a : Arrival) (x : ℕ) (h : Option Neighbour) → Fine t gs o (answered p s a x b h)
-    answered-fine a x None = connected_here-fine x
-    answered-fine a x (Some h) = passed_back-fine a h x (label_through p (labels_left p s b h) x)
+    answered-fine : (a : Arrival) (x : ℕ) (h : Option Neighbour) → Gift x → Fine t gs o (answered p s a x b h)
+    answered-fine a x None gift = connected_here-fine x gift
+    answered-fine a x (Some h) gift = passed_back-fine a h x (label_through p (labels_left p s b h) x)
 
     confirmed-fine : (h : Option Neighbour) → is_armed b.phase ≡ true → Fine t gs o (confirmed s b h)
     confirmed-fine None armed =
-        fine-then t gs o (puts (with_phase Live b) []) (call_turned (with_phase Live b) (call_with b.lsp s.calls))
-        (fine-puts t gs o (with_phase Live b) [] (λ back used. armed-records gs b armed old back) tt)
+        fine-then t gs o (puts (with_phase Live b) []) (call_turned s (with_phase Live b) (call_with b.lsp s.calls))
+        (fine-puts t gs o (with_phase Live b) []
+        (records-concerns gs (with_phase Live b) (armed-records gs b armed old)) tt)
         (call_turned-fine t gs o p s knows holds (with_phase Live b) b.lsp (call_with b.lsp s.calls) refl)
     confirmed-fine (Some h) armed =
-        fine-puts t gs o (with_phase Live b) _ (λ back used. armed-records gs b armed old back)
-        (resv_to-fine (Some h) b.in_label)
+        fine-puts t gs o (with_phase Live b) _
+        (records-concerns gs (with_phase Live b) (armed-records gs b armed old)) (resv_to-fine (Some h) b.in_label)
 
     resv_again-fine : (a : Arrival) (x : ℕ) → Fine t gs o (resv_again s a x b)
     resv_again-fine a x =
         if_cases (Fine t gs o) (is_confirmed a x b) (confirmed s b (previous b)) nothing
         (λ e. confirmed-fine (previous b) (both_left (is_armed b.phase) _ e)) (λ e. fine-nothing t gs o)
 
-    resv-fine : (a : Arrival) (x : ℕ) → Fine t gs o (resv_with p s a x (Some b))
-    resv-fine a x =
+    resv-fine : (a : Arrival) (x : ℕ) →
+        (is_asked b.phase ≡ true → is_over (following b) a.from a.link ≡ true → Gift x) →
+        Fine t gs o (resv_with p s a x (Some b))
+    resv-fine a x gift =
         if_cases (Fine t gs o) (is_expected a x b) (answered p s a x b (previous b)) (resv_again s a x b)
-        (λ e. answered-fine a x (previous b)) (λ e. resv_again-fine a x)
+        (λ e. answered-fine a x (previous b) (gift (both_left (is_asked b.phase) _ e)
+        (both_left (is_over (following b) a.from a.link) _ (both_right (is_asked b.phase) _ e))))
+        (λ e. resv_again-fine a x)
 
     -- A PathErr with Path_State_Removed
 
@@ -158,7 +172,7 @@ module _ (t : Network) (gs : List Group) (o : Routes) (p : LocalNode) (s : NodeS
 
     torn-fine : (answer : Out) (h : Option Neighbour) → OutFine t gs answer → Fine t gs o (torn b answer h)
     torn-fine answer None concerns = fine-removes t gs o b.lsp _ (concerns, tt)
-    torn-fine answer (Some h) concerns = fine-puts t gs o (closed b) _ (closed-concerns gs b) (concerns, (tt, tt))
+    torn-fine answer (Some h) concerns = fine-puts t gs o (closed b) _ (closed-concerns gs b old) (concerns, (tt, tt))
 
   -- Every message
 
@@ -172,10 +186,13 @@ module _ (t : Network) (gs : List Group) (o : Routes) (p : LocalNode) (s : NodeS
       path_again-fine b (found-here m.arrival.lsp b found) m.arrival (drop 1 m.route) m.role concerns
       (subst (λ k. RoleKnows t s k m.role) (sym (found-lsp m.arrival.lsp s.legs b found)) its)
 
-  resv_with-fine : (a : Arrival) (x : ℕ) (b : Option Leg) → find_leg a.lsp s.legs ≡ b →
-      Fine t gs o (resv_with p s a x b)
-  resv_with-fine a x None found = fine-nothing t gs o
-  resv_with-fine a x (Some b) found = resv-fine b (found-here a.lsp b found) a x
+  resv_with-fine : (l : Lsp) (e u : NodeId) (k : LinkId) (x : ℕ) (b : Option Leg) → find_leg l s.legs ≡ b →
+      MsgKnows t s u (Resv l e k x) → MsgApart gs s.legs u (Resv l e k x) →
+      Fine t gs o (resv_with p s (arrival l e u k) x b)
+  resv_with-fine l e u k x None found its other = fine-nothing t gs o
+  resv_with-fine l e u k x (Some b) found its other =
+      resv-fine b (found-here l b found) (arrival l e u k) x
+      (λ asked over. (its b found over, other b found asked over))
 
   tear_with-fine : (a : Arrival) (b : Option Leg) → find_leg a.lsp s.legs ≡ b → Fine t gs o (tear_with p a b)
   tear_with-fine a None found = fine-nothing t gs o
@@ -197,20 +214,21 @@ module _ (t : Network) (gs : List Group) (o : Routes) (p : LocalNode) (s : NodeS
   notify_with-fine u m None found concerns on = fine-nothing t gs o
   notify_with-fine u m (Some b) found concerns on =
       if_cases (Fine t gs o) (not (is_closing b.phase) && is_node (following b) u) _ nothing
-      (λ e. notice_told-fine t gs o p s knows holds b (found-here m.lsp b found) m (reported m.code) concerns on)
+      (λ e. notice_told-fine t gs o p s knows holds apart b (found-here m.lsp b found) m (reported m.code) concerns on)
       (λ e. fine-nothing t gs o)
 
   -- the answer to each message concerns one of the groups
-  pub message-fine : (u : NodeId) (m : Msg) → MsgConcerns t gs m → MsgKnows t s m → Fine t gs o (on_message p s u m)
-  message-fine u (Path l e k route set up r) concerns its =
+  pub message-fine : (u : NodeId) (m : Msg) → MsgConcerns t gs m → MsgKnows t s u m → MsgApart gs s.legs u m →
+      Fine t gs o (on_message p s u m)
+  message-fine u (Path l e k route set up r) concerns its other =
       path_with-fine (record { arrival = arrival l e u k; route = route; set = set; role = r }) (find_leg l s.legs)
       refl concerns its
-  message-fine u (Resv l e k x) concerns its = resv_with-fine (arrival l e u k) x (find_leg l s.legs) refl
-  message-fine u (PathTear l e k) concerns its = tear_with-fine (arrival l e u k) (find_leg l s.legs) refl
-  message-fine u (PathErr l e at true code) concerns its =
+  message-fine u (Resv l e k x) concerns its other = resv_with-fine l e u k x (find_leg l s.legs) refl its other
+  message-fine u (PathTear l e k) concerns its other = tear_with-fine (arrival l e u k) (find_leg l s.legs) refl
+  message-fine u (PathErr l e at true code) concerns its other =
       removal-fine u (record { lsp = l; msg = PathErr l e at true code; removed = true; code = code })
       (find_leg l s.legs) refl refl tt
-  message-fine u (PathErr l e at false code) concerns its = absurd concerns
-  message-fine u (Notify l e at k code) concerns its =
+  message-fine u (PathErr l e at false code) concerns its other = absurd concerns
+  message-fine u (Notify l e at k code) concerns its other =
       notify_with-fine u (record { lsp = l; msg = Notify l e at k code; at = at; link = k; code = code })
       (find_leg l s.legs) refl concerns concerns

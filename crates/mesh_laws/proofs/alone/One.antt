@@ -1,6 +1,6 @@
 -- One group as a list of groups: what concerns one of the list concerns it.
-use Rattle.std.proofs.Common.{◌≡◌, Bool, true, false, List, [], ◌∷◌, refl, sym, ◌∙◌, subst, inl, inr, Contains}
-use Rattle.std.specs.Prelude.{◌||◌}
+use Rattle.std.proofs.Common.{◌≡◌, Bool, true, false, List, [], ◌∷◌, refl, sym, ◌∙◌, subst, Contains}
+use Rattle.std.specs.Prelude.{◌||◌, None}
 use Rattle.std.proofs.Math.Bool.{or-false}
 use Rattle.ason_base.specs.Network.{Network}
 use Rattle.ason_base.specs.Risks.{has_risk}
@@ -9,6 +9,7 @@ use Rattle.ason_base.specs.declared.commands.DeskItem.{DeskItem}
 use Rattle.ason_base.specs.declared.commands.DeskItem.TheVariants.{Order, Alarm, Clear}
 use Rattle.ason_base.specs.declared.commands.Group.{Group}
 use Rattle.ason_base.specs.declared.ids.Fibre.{Fibre}
+use Rattle.ason_base.specs.declared.ids.NodeId.{NodeId}
 use Rattle.ason_base.specs.declared.messages.Msg.{Msg}
 use Rattle.ason_base.specs.declared.messages.Msg.TheVariants.{Path, Resv, PathTear, PathErr, Notify}
 use Rattle.ason_base.specs.declared.messages.PathRole.TheVariants.{Work, Back}
@@ -19,7 +20,9 @@ use Rattle.ason_base.proofs.Ordered.{contains-head}
 use Rattle.ason_base.proofs.RiskOrder.{has_risk-contains}
 use Rattle.mesh_rules.specs.declared.events.MeshEvent.{MeshEvent}
 use Rattle.mesh_rules.specs.declared.events.MeshEvent.TheVariants.{Take, Desk, Tick, Learn, Post}
+use Rattle.mesh_rules.specs.Legs.{connected}
 use Rattle.mesh_rules.specs.Machine.{Mesh}
+use Rattle.mesh_rules.specs.State.{NodeState}
 use Rattle.mesh_nodes.proofs.LegList.{all-then}
 use Rattle.mesh_laws.specs.AloneLaw.{AllConcern, is_on_link, is_on_route, risk_of}
 use Rattle.mesh_laws.specs.AloneLaw.{CallConcerns as OneCall}
@@ -28,12 +31,13 @@ use Rattle.mesh_laws.specs.AloneLaw.{FibreConcerns as OneFibre}
 use Rattle.mesh_laws.specs.AloneLaw.{ItemConcerns as OneItem}
 use Rattle.mesh_laws.specs.AloneLaw.{LegConcerns as OneLeg}
 use Rattle.mesh_laws.specs.AloneLaw.{MsgConcerns as OneMsg}
-use Rattle.mesh_laws.proofs.alone.Facts.{LabelsFit, Routes}
+use Rattle.mesh_laws.proofs.alone.Facts.{MsgKnows, Routes}
 use Rattle.mesh_laws.proofs.alone.Fine.{CallHolds, MeshHolds}
 use Rattle.mesh_laws.proofs.alone.Groups.{CallConcerns, FailsOnly, FibreConcerns, ItemConcerns, LegConcerns, MsgConcerns}
 use Rattle.mesh_laws.proofs.alone.Groups.{is_on_route as is_some_on_route}
-use Rattle.mesh_laws.proofs.alone.Legs.{Apart}
+use Rattle.mesh_laws.proofs.alone.Legs.{IsAlone, MsgApart}
 use Rattle.mesh_laws.proofs.alone.RouteRisks.{only-one}
+use Rattle.mesh_laws.proofs.nodes.Facts.{SharesAll}
 
 -- a test of one alone
 pub or-none : (b : Bool) → (b || false) ≡ true → b ≡ true
@@ -55,7 +59,7 @@ route-one t g (hop ∷ route) e = go (is_on_link t g hop.link) (is_some_on_route
 
 module _ (t : Network) (g : Group) where
   leg-one : (b : Leg) → LegConcerns (g ∷ []) b → OneLeg g b
-  leg-one b holds back used = or-none (has_risk b.risks (risk_of g)) (holds back used)
+  leg-one b holds mark = or-none (has_risk b.risks (risk_of g)) (holds mark)
 
   fibre-one : (f : Fibre) → FibreConcerns t (g ∷ []) f → OneFibre t g f
   fibre-one f holds = or-none (is_on_link t g f.link) holds
@@ -111,12 +115,18 @@ fails-one g (Post (Revert n from)) only = tt
 fails-one g (Post (Fail h)) only = is-only g h only
 fails-one g (Post (Repair h)) only = tt
 
--- backups on one label record risks apart, so at most one of them records the group
-pub labels-apart : (g : Group) (legs : List Leg) → LabelsFit legs → Apart (g ∷ []) legs
-labels-apart g legs labels f x l m a b at_l at_m takes_a takes_b back_a back_b has_a has_b =
-    elim (labels f x l m a b at_l at_m takes_a takes_b) [
-      | inl same ↦ same
-      | inr shares ↦ absurd (shares.apart (risk_of g)
-          (has_risk-contains a.risks (risk_of g) (or-none (has_risk a.risks (risk_of g)) has_a))
-          (has_risk-contains b.risks (risk_of g) (or-none (has_risk b.risks (risk_of g)) has_b)))
-    ]
+-- backups that share a label record risks apart, so at most one of them records the group
+pub shares-alone : (g : Group) (legs : List Leg) (b : Leg) → SharesAll legs b → IsAlone (g ∷ []) legs b
+shares-alone g legs b shares f x m h apart at_m this that back_b back_h has_b has_h =
+    (shares f x m h apart at_m this that).apart (risk_of g)
+    (has_risk-contains b.risks (risk_of g) (or-none (has_risk b.risks (risk_of g)) has_b))
+    (has_risk-contains h.risks (risk_of g) (or-none (has_risk h.risks (risk_of g)) has_h))
+
+pub msg-alone : (t : Network) (g : Group) (s : NodeState) (u : NodeId) (m : Msg) → MsgKnows t s u m →
+    MsgApart (g ∷ []) s.legs u m
+msg-alone t g s u (Path l e k route set up r) its = tt
+msg-alone t g s u (Resv l e k x) its =
+    λ b found asked over. shares-alone g s.legs (connected b None x) (its b found over)
+msg-alone t g s u (PathTear l e k) its = tt
+msg-alone t g s u (PathErr l e at gone code) its = tt
+msg-alone t g s u (Notify l e at k code) its = tt

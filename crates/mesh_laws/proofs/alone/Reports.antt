@@ -27,6 +27,7 @@ use Rattle.mesh_laws.proofs.alone.Calls.{called-holds, called-knows, decide-fine
 use Rattle.mesh_laws.proofs.alone.Facts.{NodeKnows, Routes}
 use Rattle.mesh_laws.proofs.alone.Fine.{CallHolds, Fine, IsExposed, NodeHolds, all-append, fine-nothing, fine-sends}
 use Rattle.mesh_laws.proofs.alone.Groups.{FibreConcerns, MsgConcerns, is_on_link, is_on_route}
+use Rattle.mesh_laws.proofs.alone.Legs.{Apart}
 use Rattle.mesh_laws.proofs.alone.Risks.{or-last}
 
 -- a fibre that is read off a route is one of the link that was told, which is on the route
@@ -75,6 +76,7 @@ module _ (t : Network) (gs : List Group) (o : Routes) where
           work_reports = all-reports (FibreConcerns t gs) down f c.work_reports of holds.concerns.work_reports;
           back_reports = holds.concerns.back_reports;
           free = holds.concerns.free;
+          admitted = holds.concerns.admitted;
         };
         work = λ some. subst (IsExposed t gs o) (sym (is_lsp-eq c.work l e)) exposed;
         back = holds.back;
@@ -84,6 +86,7 @@ module _ (t : Network) (gs : List Group) (o : Routes) where
           work_reports = holds.concerns.work_reports;
           back_reports = all-reports (FibreConcerns t gs) down f c.back_reports of holds.concerns.back_reports;
           free = holds.concerns.free;
+          admitted = holds.concerns.admitted;
         };
         work = holds.work;
         back = λ some. subst (IsExposed t gs o) (sym (else_back e)) exposed;
@@ -96,8 +99,8 @@ module _ (t : Network) (gs : List Group) (o : Routes) where
   report-back c l down f = if_cases (λ (d : CallRec). d.back ≡ c.back) (is_lsp c.work l) _ _ (λ e. refl) (λ e. refl)
 
   -- A Notify of the LSP of this leg
-  module _ (p : LocalNode) (s : NodeState) (knows : NodeKnows t o p s) (holds : NodeHolds t gs o s) (b : Leg)
-      (here : find_leg b.lsp s.legs ≡ Some b) where
+  module _ (p : LocalNode) (s : NodeState) (knows : NodeKnows t o p s) (holds : NodeHolds t gs o s)
+      (apart : Apart gs s.legs) (b : Leg) (here : find_leg b.lsp s.legs ≡ Some b) where
     call_reported-fine : (down : Bool) (f : Fibre) (c : Option CallRec) → call_with b.lsp s.calls ≡ c →
         IsExposed t gs o (Some b.lsp) → FibreConcerns t gs f → Fine t gs o (call_reported s b.lsp down f c)
     call_reported-fine down f None called exposed of = fine-nothing t gs o
@@ -108,7 +111,7 @@ module _ (t : Network) (gs : List Group) (o : Routes) where
         (report-work c b.lsp down f) (report-back c b.lsp down f)
         (report-holds c b.lsp down f (λ e. is_lsp-eq c.back b.lsp (rw e at named)) exposed of
         (called-holds t gs o p s knows holds b.lsp c called))
-        (λ hit. leg-may_turn t gs o p s knows holds c call hit c.back refl)
+        (λ hit. leg-may_turn t gs o p s knows holds apart c call hit c.back refl)
 
     report_here-fine : (n : NodeId) (k : LinkId) (down : Bool) → previous b ≡ None → is_on_link t gs k ≡ true →
         Fine t gs o (report_here p s b n k down)

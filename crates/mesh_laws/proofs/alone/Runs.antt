@@ -7,37 +7,33 @@ use Rattle.ason_base.specs.Network.{Network, find_link, is_distinct}
 use Rattle.ason_base.specs.declared.ids.Lsp.{Lsp}
 use Rattle.ason_base.specs.declared.ids.NodeId.{NodeId}
 use Rattle.ason_base.specs.declared.steps.Step.{Step}
-use Rattle.ason_base.specs.declared.calls.Phase.{Phase}
-use Rattle.ason_base.specs.declared.calls.Phase.TheVariants.{Asked, Held, Armed, Live, Closing, Falling}
 use Rattle.ason_base.specs.declared.commands.DeskItem.{DeskItem}
-use Rattle.ason_base.specs.declared.commands.DeskItem.TheVariants.{Order, Alarm, Clear}
 use Rattle.ason_base.specs.declared.commands.Group.{Group}
 use Rattle.ason_base.specs.declared.messages.Msg.{Msg}
 use Rattle.ason_base.specs.declared.messages.Msg.TheVariants.{Path, Resv, PathTear, PathErr, Notify}
-use Rattle.ason_base.specs.declared.messages.PathRole.TheVariants.{Work, Back}
 use Rattle.ason_base.specs.declared.tables.CallRec.{CallRec}
-use Rattle.ason_base.specs.declared.tables.Leg.{Leg}
 use Rattle.ason_base.specs.declared.tables.Out.{Out}
 use Rattle.mesh_rules.specs.declared.events.MeshEvent.{MeshEvent}
 use Rattle.mesh_rules.specs.declared.events.MeshEvent.TheVariants.{Take, Desk, Tick, Learn, Post}
 use Rattle.mesh_rules.specs.Events.{IsRun, after, first_route, on_first, on_first_item, or_route, route_of, sent_at_ingress, step}
-use Rattle.mesh_rules.specs.Legs.{is_in_use}
 use Rattle.mesh_rules.specs.LocalNodes.{local_node}
 use Rattle.mesh_rules.specs.Machine.{Mesh, start, without_first, without_item}
-use Rattle.mesh_rules.specs.Turns.{has_any}
 use Rattle.mesh_nodes.proofs.LegList.{all-then}
-use Rattle.mesh_laws.specs.AloneLaw.{CallIsCalm, Calm, LegIsCalm, NoneRefused, is_calm_item, is_calm_msg, is_idle, is_refusal, sent_in}
-use Rattle.mesh_laws.proofs.alone.Groups.{FailsOnly, ItemConcerns, LegConcerns, MsgConcerns}
-use Rattle.mesh_laws.proofs.alone.Facts.{CallKnows, MeshKnows, Routes}
+use Rattle.mesh_laws.specs.AloneLaw.{Calm, NoneFindsBusy, NoneRefused, finds_busy, is_refusal, sent_in}
+use Rattle.mesh_laws.proofs.alone.Calm.{calm-holds}
+use Rattle.mesh_laws.proofs.alone.Groups.{FailsOnly, ItemConcerns, MsgConcerns}
+use Rattle.mesh_laws.proofs.alone.Facts.{MeshKnows, Routes}
 use Rattle.mesh_laws.proofs.alone.Failures.{posted-holds}
 use Rattle.mesh_laws.proofs.alone.Fine.{CallHolds, Fine, IsExposed, MeshHolds, OutFine, commit-holds, fine-nothing, handled-holds, taken-holds}
 use Rattle.mesh_laws.proofs.alone.Items.{item-fine, link-fine, tick-fine}
-use Rattle.mesh_laws.proofs.alone.Legs.{Apart, idle-concerns}
+use Rattle.mesh_laws.proofs.alone.Legs.{Apart, MsgApart}
 use Rattle.mesh_laws.proofs.alone.Messages.{message-fine}
 
--- of the backups on one label, at any node, at most one records one of the groups
-abbrev pub AllApart : List Group → Mesh → Type 0
-AllApart gs s = (n : ℕ) → Apart gs (s.nodes n).legs
+-- of the backups that use one label, at any node, at most one records one of the groups; and so it is with the label
+-- that the next message of a list gives
+pub record AllApart (gs : List Group) (s : Mesh) : Type 0 where
+  pub legs : (n : ℕ) → Apart gs (s.nodes n).legs
+  pub firsts : (u d : NodeId) (m : Msg) (ms : List Msg) → s.mail u.0 d.0 ≡ m ∷ ms → MsgApart gs (s.nodes d.0).legs u m
 
 -- One step
 
@@ -49,8 +45,8 @@ module _ (t : Network) (gs : List Group) (distinct : is_distinct (map (λ l. l.i
   first-fine d u (m ∷ ms) is =
       let all : AllByRecursion (MsgConcerns t gs) (m ∷ ms) =
       subst (AllByRecursion (MsgConcerns t gs)) is (old.mail u.0 d.0) in
-      message-fine t gs o (local_node t d) (s.nodes d.0) (knows.nodes d) (old.nodes d.0) (apart d.0) u m all.0
-      (knows.firsts u d m ms is)
+      message-fine t gs o (local_node t d) (s.nodes d.0) (knows.nodes d) (old.nodes d.0) (apart.legs d.0) u m all.0
+      (knows.firsts u d m ms is) (apart.firsts u d m ms is)
 
   first_item-fine : (n : NodeId) (items : List DeskItem) → s.desks n.0 ≡ items →
       Fine t gs o (on_first_item (local_node t n) (s.nodes n.0) items)
@@ -58,7 +54,7 @@ module _ (t : Network) (gs : List Group) (distinct : is_distinct (map (λ l. l.i
   first_item-fine n (i ∷ items) is =
       let all : AllByRecursion (ItemConcerns t gs) (i ∷ items) =
       subst (AllByRecursion (ItemConcerns t gs)) is (old.desks n.0) in
-      item-fine t gs o (local_node t n) (s.nodes n.0) (knows.nodes n) (old.nodes n.0) i all.0
+      item-fine t gs o (local_node t n) (s.nodes n.0) (knows.nodes n) (old.nodes n.0) (apart.legs n.0) i all.0
 
   step-holds : (e : MeshEvent) → FailsOnly gs e → MeshHolds t gs o (step t s e)
   step-holds (Take d u) only =
@@ -97,66 +93,11 @@ module _ (t : Network) (gs : List Group) (distinct : is_distinct (map (λ l. l.i
       none_refused _ (link-fine t gs o (local_node t n) (s.nodes n.0) (find_link t k)).sent
   step-admits (Post c) = tt
 
--- A calm state
-
-module _ (t : Network) (gs : List Group) (o : Routes) where
-  calm-leg : (b : Leg) → LegIsCalm b → LegConcerns gs b
-  calm-leg b calm = idle-concerns gs b (λ back. go b.phase (calm back))
-    where
-      go : (f : Phase) → is_idle f ≡ true → is_in_use f ≡ false
-      go Asked e = refl
-      go Held e = refl
-      go Armed e = absurd (cc e)
-      go Live e = absurd (cc e)
-      go Closing e = refl
-      go Falling e = absurd (cc e)
-
-  calm-call : (legs : List Leg) (c : CallRec) → CallKnows t o legs c → CallIsCalm c → CallHolds t gs o c
-  calm-call legs c knows calm =
-      let works : has_any c.work_reports ≡ false = ap has_any calm.0 in
-      let backs : has_any c.back_reports ≡ false = ap has_any calm.1 in
-      record {
-        concerns = record {
-          work_reports = rw calm.0 tt;
-          back_reports = rw calm.1 tt;
-          free = λ e. (let some = knows.stuck e in absurd (cc (some, works)));
-        };
-        work = λ some. absurd (cc (some, works));
-        back = λ some. absurd (cc (some, backs));
-      }
-
-  calm-calls : (legs : List Leg) (calls : List CallRec) → AllByRecursion (CallKnows t o legs) calls →
-      AllByRecursion CallIsCalm calls → AllByRecursion (CallHolds t gs o) calls
-  calm-calls legs [] knows calm = tt
-  calm-calls legs (c ∷ calls) knows calm =
-      (calm-call legs c knows.0 calm.0, calm-calls legs calls knows.1 calm.1)
-
-  calm-msg : (m : Msg) → is_calm_msg m ≡ true → MsgConcerns t gs m
-  calm-msg (Path l e k route set up (Work guard)) calm = tt
-  calm-msg (Path l e k route set up (Back true work primary)) calm = absurd (cc calm)
-  calm-msg (Path l e k route set up (Back false work primary)) calm = tt
-  calm-msg (Resv l e k x) calm = tt
-  calm-msg (PathTear l e k) calm = tt
-  calm-msg (PathErr l e at true code) calm = tt
-  calm-msg (PathErr l e at false code) calm = absurd (cc calm)
-  calm-msg (Notify l e at k code) calm = absurd (cc calm)
-
-  calm-item : (i : DeskItem) → is_calm_item i ≡ true → ItemConcerns t gs i
-  calm-item (Order c) calm = tt
-  calm-item (Alarm f) calm = absurd (cc calm)
-  calm-item (Clear f) calm = absurd (cc calm)
-
-  calm-holds : (s : Mesh) → MeshKnows t o s → Calm s → MeshHolds t gs o s
-  calm-holds s knows calm = record {
-    nodes = λ n. record {
-      legs = all-then LegIsCalm (LegConcerns gs) (s.nodes n).legs calm-leg (calm.legs n);
-      calls = calm-calls (s.nodes n).legs (s.nodes n).calls (knows.nodes (record { 0 = n })).calls (calm.reports n);
-      down = rw (calm.down n) tt;
-    };
-    desks = λ n. all-then (λ i. is_calm_item i ≡ true) (ItemConcerns t gs) (s.desks n) calm-item (calm.desks n);
-    mail = λ u d. all-then (λ m. is_calm_msg m ≡ true) (MsgConcerns t gs) (s.mail u d) calm-msg (calm.mail u d);
-    failed = rw calm.failed tt;
-  }
+-- and no call is left that couldn't turn
+none-busy : (t : Network) (gs : List Group) (o : Routes) (s : Mesh) → MeshHolds t gs o s → NoneFindsBusy s
+none-busy t gs o s holds n =
+    all-then (CallHolds t gs o) (λ c. finds_busy c ≡ false) (s.nodes n).calls (λ c h. h.concerns.admitted)
+    (holds.nodes n).calls
 
 -- Routes that were sent first stay
 
@@ -262,6 +203,7 @@ module _ (t : Network) (gs : List Group) (distinct : is_distinct (map (λ l. l.i
       record {
         none_refused = (
           step-admits t gs distinct o s told old apart.0 e,
+          none-busy t gs o (step t s e) (step-holds t gs distinct o s told old apart.0 e only.0),
           subst (λ x. NoneRefused t x es) next later.none_refused,
         );
         holds = subst (λ xs. MeshHolds t gs (route_of t start xs) (after t start xs)) same later.holds;

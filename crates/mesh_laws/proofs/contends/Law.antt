@@ -1,9 +1,8 @@
 -- From a quiet and calm state on, in which no two calls would contend where two groups fail, no activation is refused.
-use Rattle.std.proofs.Common.{◌≡◌, ℕ, Bool, true, false, List, [], ◌∷◌, ◌++◌, refl, sym, ap, ◌∙◌, subst, inl, inr}
-use Rattle.std.specs.Prelude.{◌⊎◌, ◌||◌, Some}
-use Rattle.ason_base.specs.Lsps.{same_lsp}
-use Rattle.ason_base.specs.Network.{IsTopology, Network}
-use Rattle.ason_base.specs.Risks.{has_risk}
+use Rattle.std.proofs.Common.{◌≡◌, ◌≢◌, ℕ, Bool, true, false, List, [], ◌∷◌, ◌++◌, refl, sym, ap, ◌∙◌, subst, inl, inr}
+use Rattle.std.specs.Prelude.{◌⊎◌, ◌||◌, Option, Some, None}
+use Rattle.ason_base.specs.Network.{IsTopology, Network, receiver_of, sender_of}
+use Rattle.ason_base.specs.Risks.{has_risk, route_risks}
 use Rattle.ason_base.specs.declared.calls.Role.TheVariants.{Back}
 use Rattle.ason_base.specs.declared.commands.Group.{Group}
 use Rattle.ason_base.specs.declared.ids.Fibre.{Fibre}
@@ -16,27 +15,36 @@ use Rattle.ason_base.proofs.RiskOrder.{has_risk-contains}
 use Rattle.mesh_rules.specs.declared.events.MeshEvent.{MeshEvent}
 use Rattle.mesh_rules.specs.Calls.{find_call}
 use Rattle.mesh_rules.specs.Events.{IsRun, after, route_of}
-use Rattle.mesh_rules.specs.Legs.{takes}
+use Rattle.mesh_rules.specs.Legs.{sends, takes}
 use Rattle.mesh_rules.specs.Machine.{Mesh, start}
 use Rattle.mesh_rules.specs.Quiet.{IsQuiet}
 use Rattle.mesh_rules.proofs.Conjunctions.{and_first}
 use Rattle.mesh_rules.proofs.Topologies.{topology_searchable}
-use Rattle.mesh_nodes.proofs.LegList.{all-then, same_lsp-eq, same_lsp-refl}
+use Rattle.mesh_nodes.proofs.LegList.{all-then, found-lsp}
 use Rattle.mesh_laws.specs.AloneLaw.{risk_of}
 use Rattle.mesh_laws.specs.ContendLaw.{Contend, GoesOnWith, NoContend, NoneContend}
+use Rattle.mesh_laws.specs.HeardLaw.{primary_of}
 use Rattle.mesh_laws.specs.HopLaw.{LspFits, leg_at}
 use Rattle.mesh_laws.specs.LabelLaw.{MayShare}
+use Rattle.mesh_laws.specs.RiskLaw.{rows_of}
 use Rattle.mesh_laws.proofs.alone.Facts.{Routes}
 use Rattle.mesh_laws.proofs.alone.Groups.{FailsOnly, has_one}
 use Rattle.mesh_laws.proofs.alone.Law.{each-knows}
-use Rattle.mesh_laws.proofs.alone.Runs.{AllApart, from-calm, run-first}
+use Rattle.mesh_laws.proofs.alone.Legs.{Apart}
+use Rattle.mesh_laws.proofs.alone.Runs.{from-calm, run-first}
 use Rattle.mesh_laws.proofs.hops.Laws.{every_hop, follows}
 use Rattle.mesh_laws.proofs.nodes.Facts.{MeshFacts}
+use Rattle.mesh_laws.proofs.nodes.Marks.{other}
 use Rattle.mesh_laws.proofs.nodes.Runs.{facts-hold}
 use Rattle.mesh_laws.proofs.kept.Phases.{LegsUp}
 use Rattle.mesh_laws.proofs.kept.Places.{legs-are-up}
 use Rattle.mesh_laws.proofs.kept.Runs.{fails-only, stay-apart}
 use Rattle.mesh_laws.proofs.contends.MayTurn.{may-turn}
+use Rattle.mesh_laws.proofs.sent.Run.{sound}
+use Rattle.mesh_laws.proofs.sent.Sound.{Sound, standing}
+use Rattle.mesh_laws.proofs.sent.Standing.{Standing, backs, ends-of, guarding, taken-of}
+use Rattle.mesh_laws.proofs.sent.Steps.{takes_of}
+use Rattle.mesh_laws.proofs.sent.Uses.{uses-alike}
 
 -- a leg that records one of two groups
 either : (risks : List Risk) (g h : Group) → has_one risks (g ∷ h ∷ []) ≡ true →
@@ -120,19 +128,75 @@ module _ (t : Network) (events : List MeshEvent) (g h : Group) (valid : IsTopolo
         never k p q =
             shares.apart (risk_of k) (has_risk-contains a.risks (risk_of k) p) (has_risk-contains b.risks (risk_of k) q)
 
-  -- where no calls would contend, of the backups on one label at most one records one of the two groups
-  are-apart : AllApart (g ∷ h ∷ []) s
-  are-apart n f x l m a b at_l at_m takes_a takes_b back_a back_b has_a has_b =
-      elim ((facts.node n).labels f x l m a b at_l at_m takes_a takes_b) [
-        | inl same ↦ same
-        | inr shares ↦ one-lsp (same_lsp l m) refl (either-way (record { 0 = n }) f x l m a b at_l at_m takes_a takes_b
-            back_a back_b shares has_a has_b)
+    -- two backups that take one label and record one of the groups each are one
+    taken-apart : has_one a.risks (g ∷ h ∷ []) ≡ true → has_one b.risks (g ∷ h ∷ []) ≡ true → (l ≡ m → ⊥) → ⊥
+    taken-apart has_a has_b other = elim ((facts.node n.0).labels f x l m a b at_l at_m takes_a takes_b) [
+      | inl same ↦ other same
+      | inr shares ↦ either-way shares has_a has_b other
+    ]
+
+  -- What is sent
+
+  abbrev w : Routes
+  w = primary_of t start events
+
+  all : (o' : Routes) × Sound t o' (primary_of t start events) s
+  all = sound t events run
+
+  stands : Standing t all.0 w s
+  stands = standing t all.0 w s all.1
+
+  -- the legs of a backup record the same risks
+  alike : (l : Lsp) (n d : NodeId) (a c : Leg) → leg_at s l n ≡ Some a → leg_at s l d ≡ Some c → a.role ≡ Back →
+      (c.role ≡ Back) × (c.risks ≡ a.risks)
+  alike l n d a c at_n at_d back =
+      let searchable = topology_searchable t valid in
+      let one = guarding t all.0 w s stands l n a at_n back in
+      let too = backs t all.0 w s stands l d c one.primary at_d one.told in
+      let other = guarding t all.0 w s stands l d c at_d too in
+      let same : other.primary ≡ one.primary = (let p = other.told in let q = one.told in cc (p, q)) in (
+        too,
+        other.risks searchable ∙ ap (route_risks (rows_of t)) same ∙ sym (one.risks searchable),
+      )
+
+  -- what is sent is taken at the other end
+  taken-there : (f : Fibre) (x : ℕ) (l : Lsp) (n d : NodeId) (a : Leg) → n.0 ≢ d.0 → sender_of t f ≡ Some n →
+      receiver_of t f ≡ Some d → leg_at s l n ≡ Some a → sends f x a ≡ true →
+      (c : Leg) × (leg_at s l d ≡ Some c) × (takes f x c ≡ true)
+  taken-there f x l n d a apart from to at_n sent =
+      go (leg_at s l d) refl ((taken-of t all.0 w s stands).takes f x n d apart from to l
+      (rw (quiet.mail d.0 n.0, at_n, sent) refl))
+    where
+      go : (c : Option Leg) → leg_at s l d ≡ c → takes_of f x c ≡ true →
+          (c : Leg) × (leg_at s l d ≡ Some c) × (takes f x c ≡ true)
+      go None is e = absurd (cc e)
+      go (Some c) is e = (c, is, e)
+
+  -- so no two backups send one label and record one of the groups each
+  sent-apart : (n : NodeId) (f : Fibre) (x : ℕ) (l m : Lsp) (a b : Leg) → leg_at s l n ≡ Some a →
+      leg_at s m n ≡ Some b → sends f x a ≡ true → sends f x b ≡ true → a.role ≡ Back → b.role ≡ Back →
+      has_one a.risks (g ∷ h ∷ []) ≡ true → has_one b.risks (g ∷ h ∷ []) ≡ true → (l ≡ m → ⊥) → ⊥
+  sent-apart n f x l m a b at_l at_m sends_a sends_b back_a back_b has_a has_b other =
+      let ends = ends-of t all.0 w s stands f x l n a at_l sends_a in
+      let d = ends.to in
+      let c = taken-there f x l n d a ends.apart ends.sender ends.receiver at_l sends_a in
+      let e = taken-there f x m n d b ends.apart ends.sender ends.receiver at_m sends_b in
+      let c_is = alike l n d a c.0 at_l c.1 back_a in
+      let e_is = alike m n d b e.0 at_m e.1 back_b in
+      taken-apart d f x l m c.0 e.0 c.1 e.1 c.2 e.2 c_is.0 e_is.0
+      (subst (λ r. has_one r (g ∷ h ∷ []) ≡ true) (sym c_is.1) has_a)
+      (subst (λ r. has_one r (g ∷ h ∷ []) ≡ true) (sym e_is.1) has_b) other
+
+  -- where no calls would contend, of the backups that use one label at most one records one of the two groups
+  are-apart : (n : ℕ) → Apart (g ∷ h ∷ []) (s.nodes n).legs
+  are-apart n l a at_l f x m b differ at_m uses_a uses_b back_a back_b has_a has_b =
+      elim (uses-alike t all.0 w s stands f x (record { 0 = n }) l m a b at_l at_m uses_a uses_b) [
+        | inl (p, q) ↦ taken-apart (record { 0 = n }) f x l m a b at_l at_m p q back_a back_b has_a has_b two
+        | inr (p, q) ↦ sent-apart (record { 0 = n }) f x l m a b at_l at_m p q back_a back_b has_a has_b two
       ]
     where
-      one-lsp : (z : Bool) → same_lsp l m ≡ z → ((l ≡ m → ⊥) → ⊥) → l ≡ m
-      one-lsp true e not = same_lsp-eq l m e
-      one-lsp false e not =
-          absurd (not (λ is. (let yes : same_lsp l m ≡ true = rw is (same_lsp-refl m) in cc (yes, e))))
+      two : l ≡ m → ⊥
+      two same = other a.lsp m ⊥ differ (found-lsp l (s.nodes n).legs a at_l ∙ same)
 
 -- the law of a mesh
 pub no_contend : NoContend

@@ -16,10 +16,10 @@ use Rattle.ason_base.specs.declared.messages.Msg.TheVariants.{Path, Resv, PathEr
 use Rattle.ason_base.specs.declared.tables.Leg.{Leg}
 use Rattle.mesh_rules.specs.declared.neighbours.Neighbour.{Neighbour}
 use Rattle.mesh_rules.specs.State.{NodeState}
-use Rattle.mesh_rules.specs.Activations.{armed_on, busy_to, is_contended, resv_to}
+use Rattle.mesh_rules.specs.Activations.{armed_on, busy_to, resv_to}
 use Rattle.mesh_rules.specs.Changes.{Answer, puts, sends, to_node}
 use Rattle.mesh_rules.specs.LocalNodes.{LocalNode, local_node}
-use Rattle.mesh_rules.specs.Legs.{following, previous, with_phase}
+use Rattle.mesh_rules.specs.Legs.{following, is_contended, previous, with_phase}
 use Rattle.mesh_rules.specs.Machine.{Mesh}
 use Rattle.mesh_rules.specs.Messages.{arrival}
 use Rattle.mesh_rules.specs.Paths.{PathRequest, path_with}
@@ -172,7 +172,7 @@ module _ (t : Network) (q : Purpose) (s : Mesh) (l : Lsp) (p : Plan) (i : ℕ) (
       taken : Keeps (path_with place state asks (Some g))
       taken =
           rw (held, previous_is t q l p i g fits, over, same (node_at p i).0, same (link_at p i).0)
-          (if_cases Keeps (is_contended state.legs g g.in_fibre g.in_label) (sends (busy_to place g u ∷ []))
+          (if_cases Keeps (is_contended state.legs g) (sends (busy_to place g u ∷ []))
           (armed_on g (drop 1 r) role (following g)) (λ c. refuses) (λ c. onward (below_or_not (suc i) (hops p))))
 
     is_held : leg_kind (leg_at s l d) ≡ HeldLeg

@@ -2,8 +2,9 @@
 use Rattle.std.proofs.Common.{◌≡◌, inl, ℕ, Bool, true, false, cond, nat_eq, nat_le, List, [], ◌∷◌, ◌++◌, refl, sym, ap, subst, arith}
 use Rattle.std.specs.Prelude.{◌+◌, ◌&&◌, not, Option, Some, None}
 use Rattle.std.specs.List.{AllByRecursion}
-use Rattle.ason_base.specs.Codes.{fibre_down_code, fibre_up_code}
+use Rattle.ason_base.specs.Codes.{busy_code, fibre_down_code, fibre_up_code}
 use Rattle.ason_base.specs.Lsps.{has_fibre, without_fibre}
+use Rattle.ason_base.specs.declared.calls.Cause.TheVariants.{Code}
 use Rattle.ason_base.specs.Network.{Network, find_link, row_of}
 use Rattle.ason_base.specs.declared.codes.ErrCode.{ErrCode}
 use Rattle.ason_base.specs.declared.ids.CallNo.{CallNo}
@@ -22,18 +23,18 @@ use Rattle.ason_base.specs.declared.tables.Leg.{Leg}
 use Rattle.mesh_rules.specs.declared.events.MeshEvent.{MeshEvent}
 use Rattle.mesh_rules.specs.declared.events.MeshEvent.TheVariants.{Take, Desk, Tick, Learn, Post}
 use Rattle.mesh_rules.specs.Alarms.{enters, knows_down}
-use Rattle.mesh_rules.specs.Calls.{find_call, guarded, is_stuck, is_turned, turning}
+use Rattle.mesh_rules.specs.Calls.{find_call, guarded, is_stuck, is_turned, stuck, turning}
 use Rattle.mesh_rules.specs.Changes.{Answer, learns, nothing}
 use Rattle.mesh_rules.specs.Commands.{has_backup_way, is_valid}
 use Rattle.mesh_rules.specs.Events.{first_route, on_first, on_first_item, or_route, posted, sent_at_ingress, step}
 use Rattle.mesh_rules.specs.KnownRows.{has_row, known_rows}
 use Rattle.mesh_rules.specs.Learnt.{on_link}
-use Rattle.mesh_rules.specs.Legs.{find_leg, is_held, is_in_use, leg_of, previous}
+use Rattle.mesh_rules.specs.Legs.{find_leg, is_contended, is_held, is_in_use, leg_of, previous}
 use Rattle.mesh_rules.specs.Pairs.{route_from}
 use Rattle.mesh_rules.specs.Reports.{fibre_into}
 use Rattle.mesh_rules.specs.Retries.{retries, retry_with}
 use Rattle.mesh_rules.specs.Reverts.{revert_with, reverts}
-use Rattle.mesh_rules.specs.Turns.{arms, call_put, disarms, go_back, has_any, turn}
+use Rattle.mesh_rules.specs.Turns.{arms, call_put, disarms, go_back, has_any, turn, turn_to}
 use Rattle.mesh_rules.specs.Waits.{all_ticked, on_tick, ticked, waits}
 use Rattle.mesh_rules.specs.LocalNodes.{LocalNode, local_node, own_link}
 use Rattle.mesh_rules.specs.Machine.{Mesh, without_first, without_item}
@@ -45,7 +46,7 @@ use Rattle.mesh_nodes.proofs.Alarms.{all-append}
 use Rattle.mesh_nodes.proofs.CallList.{all-calls_found}
 use Rattle.mesh_nodes.proofs.Cases.{both_left, both_right, if_cases}
 use Rattle.mesh_laws.specs.ReportLaw.{IsOfRoute}
-use Rattle.mesh_laws.proofs.nodes.CallMoves.{IsSameCall, to-guarded, to-turning, waits-more}
+use Rattle.mesh_laws.proofs.nodes.CallMoves.{IsSameCall, to-guarded, to-stuck, to-turning, waits-more}
 use Rattle.mesh_laws.proofs.nodes.CallChanges.{ArePut, EachCall, MayGo}
 use Rattle.mesh_laws.proofs.nodes.CallsHold.{message-holds, protect-holds, release-holds}
 use Rattle.mesh_laws.proofs.nodes.SetupsHold.{setup-holds}
@@ -110,18 +111,27 @@ module _ (t : Network) (s : Mesh) (n : NodeId) (o : Routes) (f : EachFollows t s
         IsGiven t (grown n o a) n d × Unit {0}
     same-puts a c d is here = (keeps a c d is here, tt)
 
-    turn-puts : (c : CallRec) (b : Option Leg) → IsGiven t o n c → Puts (turn c b)
-    turn-puts c None here = same-puts (turn c None) c c (same-call t o c) here
-    turn-puts c (Some b) here =
-        if_cases Puts (is_held b.phase) (arms c b) (call_put c)
-        (λ h. same-puts (arms c b) c (turning c)
+    turn-puts : (legs : List Leg) (c : CallRec) (b : Option Leg) → IsGiven t o n c → Puts (turn legs c b)
+    turn-puts legs c None here = same-puts (turn legs c None) c c (same-call t o c) here
+    turn-puts legs c (Some b) here =
+        if_cases Puts (is_held b.phase) (turn_to legs c b) (call_put c)
+        (λ h. if_cases Puts (is_contended legs b) (call_put (stuck c (Code busy_code))) (arms c b)
+        (λ busy. same-puts (call_put (stuck c (Code busy_code))) c (stuck c (Code busy_code))
+        (record {
+          egress = refl;
+          protected = refl;
+          backup = refl;
+          work = inl refl;
+          moves = to-stuck (IsOfRoute t o) c (Code busy_code) refl;
+        }) here)
+        (λ free. same-puts (arms c b) c (turning c)
         (record {
           egress = refl;
           protected = refl;
           backup = refl;
           work = inl refl;
           moves = to-turning (IsOfRoute t o) c;
-        }) here)
+        }) here))
         (λ h. same-puts (call_put c) c c (same-call t o c) here)
 
     back-puts : (a : Answer) (c : CallRec) (b : Option Leg) → IsGiven t o n c →
@@ -145,8 +155,8 @@ module _ (t : Network) (s : Mesh) (n : NodeId) (o : Routes) (f : EachFollows t s
     retry-puts from k (Some c) is =
         if_cases Puts (nat_eq from.0 n.0) (retries (s.nodes n.0) c) nothing
         (λ h. if_cases Puts (is_stuck c.state && (has_any c.work_reports && not (has_any c.back_reports)))
-        (turn c (leg_of c.back (s.nodes n.0).legs)) nothing
-        (λ stuck. turn-puts c (leg_of c.back (s.nodes n.0).legs) (each n k c is)) (λ stuck. tt))
+        (turn (s.nodes n.0).legs c (leg_of c.back (s.nodes n.0).legs)) nothing
+        (λ stuck. turn-puts (s.nodes n.0).legs c (leg_of c.back (s.nodes n.0).legs) (each n k c is)) (λ stuck. tt))
         (λ h. tt)
 
     revert-puts : (from : NodeId) (k : CallNo) (c : Option CallRec) → find_call k (s.nodes n.0).calls ≡ c →

@@ -98,7 +98,7 @@ at_ingress (Some h) a = nothing
 
 abbrev pub call_again : NodeState → Arrival → ℕ → Leg → Answer
 call_again s a x g =
-    if is_confirmed a x g then at_ingress (previous g) (call_turned (with_phase Live g) (call_with g.lsp s.calls))
+    if is_confirmed a x g then at_ingress (previous g) (call_turned s (with_phase Live g) (call_with g.lsp s.calls))
     else nothing
 
 abbrev pub call_of_resv : LocalNode → NodeState → Arrival → ℕ → Option Leg → Answer
@@ -114,7 +114,7 @@ call_of_removal s g e =
 
 abbrev pub call_of_contention : NodeState → Leg → Answer
 call_of_contention s g =
-    if is_armed g.phase then at_ingress (previous g) (call_contended (with_phase Held g) (call_with g.lsp s.calls))
+    if is_armed g.phase then at_ingress (previous g) (call_contended s (with_phase Held g) (call_with g.lsp s.calls))
     else nothing
 
 abbrev pub call_of_failure : NodeState → Leg → PathFailure → Answer
@@ -171,7 +171,7 @@ answered-parts p s a x g (Some h) = sym (then-nothing (leg_answers p s a x g (So
 
 confirmed-parts : (s : NodeState) (g : Leg) (o : Option Neighbour) →
     confirmed s g o ≡
-    followed_by (leg_confirmed g o) (at_ingress o (call_turned (with_phase Live g) (call_with g.lsp s.calls)))
+    followed_by (leg_confirmed g o) (at_ingress o (call_turned s (with_phase Live g) (call_with g.lsp s.calls)))
 confirmed-parts s g None = refl
 confirmed-parts s g (Some h) = sym (then-nothing (leg_confirmed g (Some h)))
 
@@ -180,7 +180,7 @@ again-parts : (s : NodeState) (a : Arrival) (x : ℕ) (g : Leg) →
 again-parts s a x g =
     elim (is_confirmed a x g) as (λ b. cond b (confirmed s g (previous g)) nothing ≡
     followed_by (cond b (leg_confirmed g (previous g)) nothing)
-    (cond b (at_ingress (previous g) (call_turned (with_phase Live g) (call_with g.lsp s.calls))) nothing)) [
+    (cond b (at_ingress (previous g) (call_turned s (with_phase Live g) (call_with g.lsp s.calls))) nothing)) [
       | true ↦ confirmed-parts s g (previous g)
       | false ↦ refl
     ]
@@ -216,7 +216,7 @@ removed-parts s g e =
 
 disarmed-parts : (s : NodeState) (g : Leg) (m : Msg) (o : Option Neighbour) →
     disarmed s g m o ≡
-    followed_by (leg_disarmed g m o) (at_ingress o (call_contended (with_phase Held g) (call_with g.lsp s.calls)))
+    followed_by (leg_disarmed g m o) (at_ingress o (call_contended s (with_phase Held g) (call_with g.lsp s.calls)))
 disarmed-parts s g m None = refl
 disarmed-parts s g m (Some h) = refl
 
@@ -225,7 +225,7 @@ contended-parts : (s : NodeState) (g : Leg) (m : Msg) →
 contended-parts s g m =
     elim (is_armed g.phase) as (λ b. cond b (disarmed s g m (previous g)) nothing ≡
     followed_by (cond b (leg_disarmed g m (previous g)) nothing)
-    (cond b (at_ingress (previous g) (call_contended (with_phase Held g) (call_with g.lsp s.calls))) nothing)) [
+    (cond b (at_ingress (previous g) (call_contended s (with_phase Held g) (call_with g.lsp s.calls))) nothing)) [
       | true ↦ disarmed-parts s g m (previous g)
       | false ↦ refl
     ]

@@ -21,11 +21,11 @@ use Rattle.mesh_rules.specs.declared.changes.LegChange.{LegChange}
 use Rattle.mesh_rules.specs.declared.changes.LegChange.TheVariants.{Goes, Put}
 use Rattle.mesh_rules.specs.declared.neighbours.Neighbour.{Neighbour}
 use Rattle.mesh_rules.specs.State.{NodeState}
-use Rattle.mesh_rules.specs.Activations.{armed_on, is_contended, path_again, resv_to, taken_on}
+use Rattle.mesh_rules.specs.Activations.{armed_on, path_again, resv_to, taken_on}
 use Rattle.mesh_rules.specs.ActivationAnswers.{is_confirmed}
 use Rattle.mesh_rules.specs.Changes.{Answer, nothing, puts, to_node}
 use Rattle.mesh_rules.specs.LocalNodes.{LocalNode, own_link, leads}
-use Rattle.mesh_rules.specs.Legs.{find_leg, is_active_backup, is_armed, is_asked, is_closing, is_held, previous, following, is_node, is_over, with_phase, label_through}
+use Rattle.mesh_rules.specs.Legs.{find_leg, is_active_backup, is_armed, is_asked, is_closing, is_contended, is_held, previous, following, is_node, is_over, with_phase, label_through}
 use Rattle.mesh_rules.specs.Paths.{PathRequest, is_active, risks_here, first_failure, checks, offered_labels, at_egress, in_transit, admitted, judged, first_path, path_with}
 use Rattle.mesh_rules.specs.Resvs.{is_expected, labels_left, passed_back}
 use Rattle.mesh_rules.specs.PathErrs.{PathFailure}
@@ -130,7 +130,7 @@ own-path_again : (l : Lsp) (p : LocalNode) (s : NodeState) (a : Arrival) (route 
 own-path_again l p s a route (Work guard) g is = own-nothing l
 own-path_again l p s a route (Back true work primary) g is =
     if_cases (Own l) (is_held g.phase && is_over (previous g) a.from a.link) _ _
-    (λ h. if_cases (Own l) (is_contended s.legs g g.in_fibre g.in_label) _ _
+    (λ h. if_cases (Own l) (is_contended s.legs g) _ _
     (λ c. record { legs = tt; sent = (is, refl, tt); numbers = refl })
     (λ c. own-armed_on l g route (Back true work primary) (following g) is))
     (λ h. own-nothing l)

@@ -212,7 +212,7 @@ module _ (t : Network) (s : Mesh) (n : NodeId) (o : Routes) (f : EachFollows t s
         (λ protected. pair_stepped c g here (may c refl work protected) sent)
         (λ h. put_stepped (bare c)))
         (λ h. none_stepped))
-        (λ h. if_cases Steps (is_pairing c.state) _ _ (λ h. decide_stepped t s n o f (guarded c) (Some g) fits)
+        (λ h. if_cases Steps (is_pairing c.state) _ _ (λ h. decide_stepped t s n o f st.legs (guarded c) (Some g) fits)
         (λ h. none_stepped))
       where
         fits : (b : Leg) → Some g ≡ Some b → BackStands s n Guarded b

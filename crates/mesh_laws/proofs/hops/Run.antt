@@ -151,7 +151,7 @@ module _ (t : Network) (s : Mesh) (o : Routes) (n : NodeId) (f : EachFollows t s
   retry_stepped k from (Some c) e =
       if_cases Steps (nat_eq from.0 n.0) _ _
       (λ h. if_cases Steps (is_stuck c.state && (has_any c.work_reports && not (has_any c.back_reports))) _ _
-      (λ stuck. turn_stepped t s n o f c (leg_of c.back (s.nodes n.0).legs)
+      (λ stuck. turn_stepped t s n o f (s.nodes n.0).legs c (leg_of c.back (s.nodes n.0).legs)
       (λ b here. (facts.backs n k c e b here).begins))
       (λ stuck. none_stepped))
       (λ h. none_stepped)

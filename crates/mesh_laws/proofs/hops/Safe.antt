@@ -17,7 +17,7 @@ use Rattle.mesh_rules.specs.Events.{after, route_of}
 use Rattle.mesh_laws.specs.HopLaw.{leg_at, mail_between, HasOneLegEach}
 use Rattle.mesh_laws.specs.SafeLaw.{StandsAt, EveryRunIsSafe}
 use Rattle.mesh_laws.proofs.nodes.Facts.{MeshFacts}
-use Rattle.mesh_laws.proofs.nodes.LegParts.{takes-by}
+use Rattle.mesh_laws.proofs.nodes.LegParts.{taken-used, takes-by}
 use Rattle.mesh_laws.proofs.nodes.Runs.{facts-hold}
 use Rattle.mesh_laws.proofs.hops.Plans.{Plan, hops, plan, node_at, link_at, fibre_at, IsRoute, Leads, distinct, same, same_node, lt_true, lt_false, joined}
 use Rattle.mesh_laws.proofs.hops.Rows.{live_upstream}
@@ -51,8 +51,8 @@ owners t s f x l m facts a b =
     let takes_b = takes-by f x b.leg b.fibre b.label in
     elim (here.labels f x l m a.leg b.leg found b.found takes_a takes_b) [
       | inl same ↦ same
-      | inr shares ↦ here.marks f x l m a.leg b.leg found b.found takes_a takes_b
-          (marked a.leg shares.backups.0 a.live) (marked b.leg shares.backups.1 b.live)
+      | inr shares ↦ here.marks f x l m a.leg b.leg found b.found (taken-used f x a.leg takes_a)
+          (taken-used f x b.leg takes_b) (marked a.leg shares.backups.0 a.live) (marked b.leg shares.backups.1 b.live)
     ]
 
 -- The node into which the fibre of a hop leads

@@ -107,10 +107,10 @@ module _ (t : Network) (s : Mesh) (o : Routes) (d u : NodeId) (m : Msg) (rest : 
 
       turned_here : g.phase ≡ Armed → (h : Option Neighbour) → previous g ≡ h →
           (previous g ≡ None → leg_part (local_node t d) (s.nodes d.0) u m ≡ puts (with_phase Live g) []) →
-          Steps (at_ingress h (call_turned (with_phase Live g) (call_with g.lsp (s.nodes d.0).calls)))
+          Steps (at_ingress h (call_turned (s.nodes d.0) (with_phase Live g) (call_with g.lsp (s.nodes d.0).calls)))
       turned_here armed (Some h) first puts = quiet
       turned_here armed None first puts =
-          turned_stepped t (after_leg t s d u m) d o leg_follows (with_phase Live g)
+          turned_stepped t (after_leg t s d u m) d o leg_follows (s.nodes d.0) (with_phase Live g)
           (record {
             begins = record {
               there = placed (with_phase Live g) [] (puts first);
@@ -124,10 +124,10 @@ module _ (t : Network) (s : Mesh) (o : Routes) (d u : NodeId) (m : Msg) (rest : 
           (call_with g.lsp (s.nodes d.0).calls)
 
       contended_here : (h : Option Neighbour) →
-          Steps (at_ingress h (call_contended (with_phase Held g) (call_with g.lsp (s.nodes d.0).calls)))
+          Steps (at_ingress h (call_contended (s.nodes d.0) (with_phase Held g) (call_with g.lsp (s.nodes d.0).calls)))
       contended_here (Some h) = quiet
       contended_here None =
-          contended_stepped t (after_leg t s d u m) d o leg_follows (with_phase Held g)
+          contended_stepped t (after_leg t s d u m) d o leg_follows (s.nodes d.0) (with_phase Held g)
           (call_with g.lsp (s.nodes d.0).calls)
 
       failed_here : (failure : PathFailure) → Steps (call_of_failure (s.nodes d.0) g failure)
@@ -179,7 +179,7 @@ module _ (t : Network) (s : Mesh) (o : Routes) (d u : NodeId) (m : Msg) (rest : 
           call_with l (s.nodes d.0).calls ≡ called → Steps (call_reported (s.nodes d.0) l down fibre called)
       reported_call l down fibre None is = quiet
       reported_call l down fibre (Some c) is =
-          decide_stepped t (after_leg t s d u m) d o leg_follows (with_report c l down fibre)
+          decide_stepped t (after_leg t s d u m) d o leg_follows (s.nodes d.0).legs (with_report c l down fibre)
           (leg_of c.back (s.nodes d.0).legs)
           (λ b back. subst (λ state. BackStands (after_leg t s d u m) d state b) (sym (reported_state c l down fibre))
           (record {

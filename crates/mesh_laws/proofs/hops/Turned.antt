@@ -1,6 +1,6 @@
 -- A backup is activated at its ingress, and its activation is taken back there: what becomes of a call whose working
 -- LSP or backup is hit.
-use Rattle.std.proofs.Common.{◌≡◌, ◌<◌, ℕ, Bool, true, false, refl, sym, ◌∙◌, subst, arith}
+use Rattle.std.proofs.Common.{◌≡◌, ◌<◌, ℕ, Bool, true, false, List, refl, sym, ◌∙◌, subst, arith}
 use Rattle.std.specs.Prelude.{Option, Some, None}
 use Rattle.ason_base.specs.Codes.{busy_code}
 use Rattle.ason_base.specs.Network.{Network}
@@ -21,8 +21,9 @@ use Rattle.mesh_rules.specs.declared.neighbours.Neighbour.{Neighbour}
 use Rattle.mesh_rules.specs.Calls.{guarded, is_turning, stuck, turned}
 use Rattle.mesh_rules.specs.CallSteps.{call_contended, call_turned}
 use Rattle.mesh_rules.specs.Changes.{Answer, nothing}
-use Rattle.mesh_rules.specs.Legs.{following, is_held, is_in_use, with_phase}
+use Rattle.mesh_rules.specs.Legs.{following, is_contended, is_held, is_in_use, with_phase}
 use Rattle.mesh_rules.specs.Machine.{Mesh, commit}
+use Rattle.mesh_rules.specs.State.{NodeState}
 use Rattle.mesh_rules.specs.Turns.{activating, activating_path, arms, call_put, decide, decided, disarms, go_back, has_any, taking_back, taking_path, turn}
 use Rattle.mesh_laws.specs.HopShapes.{ActivePath, PlainPath, path_kind}
 use Rattle.mesh_laws.specs.HopLaw.{leg_at, mail_between}
@@ -150,17 +151,19 @@ module _ (t : Network) (s : Mesh) (n : NodeId) (o : Routes) (f : EachFollows t s
   none : Stays nothing
   none = quiet nothing (record { legs = refl; sent = refl; numbers = refl })
 
-  turn_stays : (c : CallRec) (b : Option Leg) → ((g : Leg) → b ≡ Some g → BeginsHere s n g) → Stays (turn c b)
-  turn_stays c None begins = put c
-  turn_stays c (Some b) begins =
+  turn_stays : (legs : List Leg) (c : CallRec) (b : Option Leg) → ((g : Leg) → b ≡ Some g → BeginsHere s n g) →
+      Stays (turn legs c b)
+  turn_stays legs c None begins = put c
+  turn_stays legs c (Some b) begins =
       if_cases Stays (is_held b.phase) _ _
-      (λ held. stays_moved t s n o f b (begins b refl) (arms c b) (own_arms c b) refl
-      (λ q p pl here. arms_chain t s o c b.lsp q p b pl here (held-is b.phase held)))
+      (λ held. if_cases Stays (is_contended legs b) _ _ (λ busy. put (stuck c (Code busy_code)))
+      (λ free. stays_moved t s n o f b (begins b refl) (arms c b) (own_arms c b) refl
+      (λ q p pl here. arms_chain t s o c b.lsp q p b pl here (held-is b.phase held))))
       (λ held. put c)
 
-  pub turn_stepped : (c : CallRec) (b : Option Leg) → ((g : Leg) → b ≡ Some g → BeginsHere s n g) →
-      EachStepped t s n o (turn c b)
-  turn_stepped c b begins = stays_stepped t s n o (turn c b) (turn_stays c b begins)
+  pub turn_stepped : (legs : List Leg) (c : CallRec) (b : Option Leg) →
+      ((g : Leg) → b ≡ Some g → BeginsHere s n g) → EachStepped t s n o (turn legs c b)
+  turn_stepped legs c b begins = stays_stepped t s n o (turn legs c b) (turn_stays legs c b begins)
 
   pub go_back_stays : (c : CallRec) (b : Option Leg) (state : CallState) → state ≡ Turned → BackFits s n state b →
       EachStays t s n o (go_back c b)
@@ -178,47 +181,50 @@ module _ (t : Network) (s : Mesh) (n : NodeId) (o : Routes) (f : EachFollows t s
 
   -- Decisions
 
-  decided_stays : (c : CallRec) (b : Option Leg) (state : CallState) → BackFits s n state b → (works backs : Bool) →
-      Stays (decided c b state works backs)
-  decided_stays c b Guarded fit true false = turn_stays c b (λ g is. (fit g is).begins)
-  decided_stays c b Guarded fit true true = put (stuck c BackDown)
-  decided_stays c b Guarded fit false backs = put c
-  decided_stays c b Turned fit false true = go_back_stays c b Turned refl fit
-  decided_stays c b Turned fit false false = put c
-  decided_stays c b Turned fit true backs = put c
-  decided_stays c b Stuck fit false backs = put (guarded c)
-  decided_stays c b Stuck fit true backs = put c
-  decided_stays c b Asking fit works backs = put c
-  decided_stays c b Bare fit works backs = put c
-  decided_stays c b Pairing fit works backs = put c
-  decided_stays c b Turning fit works backs = put c
-  decided_stays c b Blocked fit works backs = put c
+  decided_stays : (legs : List Leg) (c : CallRec) (b : Option Leg) (state : CallState) → BackFits s n state b →
+      (works backs : Bool) → Stays (decided legs c b state works backs)
+  decided_stays legs c b Guarded fit true false = turn_stays legs c b (λ g is. (fit g is).begins)
+  decided_stays legs c b Guarded fit true true = put (stuck c BackDown)
+  decided_stays legs c b Guarded fit false backs = put c
+  decided_stays legs c b Turned fit false true = go_back_stays c b Turned refl fit
+  decided_stays legs c b Turned fit false false = put c
+  decided_stays legs c b Turned fit true backs = put c
+  decided_stays legs c b Stuck fit false backs = put (guarded c)
+  decided_stays legs c b Stuck fit true backs = put c
+  decided_stays legs c b Asking fit works backs = put c
+  decided_stays legs c b Bare fit works backs = put c
+  decided_stays legs c b Pairing fit works backs = put c
+  decided_stays legs c b Turning fit works backs = put c
+  decided_stays legs c b Blocked fit works backs = put c
 
-  pub decide_stepped : (c : CallRec) (b : Option Leg) → BackFits s n c.state b → EachStepped t s n o (decide c b)
-  decide_stepped c b fit =
-      stays_stepped t s n o (decide c b)
-      (decided_stays c b c.state fit (has_any c.work_reports) (has_any c.back_reports))
+  pub decide_stepped : (legs : List Leg) (c : CallRec) (b : Option Leg) → BackFits s n c.state b →
+      EachStepped t s n o (decide legs c b)
+  decide_stepped legs c b fit =
+      stays_stepped t s n o (decide legs c b)
+      (decided_stays legs c b c.state fit (has_any c.work_reports) (has_any c.back_reports))
 
-  pub turned_stepped : (b : Leg) → BackStands s n Turned b → (called : Option CallRec) →
-      EachStepped t s n o (call_turned b called)
-  turned_stepped b stands None = stays_stepped t s n o nothing none
-  turned_stepped b stands (Some c) =
+  pub turned_stepped : (st : NodeState) (b : Leg) → BackStands s n Turned b → (called : Option CallRec) →
+      EachStepped t s n o (call_turned st b called)
+  turned_stepped st b stands None = stays_stepped t s n o nothing none
+  turned_stepped st b stands (Some c) =
       if_cases (EachStepped t s n o) (is_turning c.state) _ _
-      (λ h. decide_stepped (turned c) (Some b) (λ g is. subst (BackStands s n Turned) (same b g is) stands))
+      (λ h. decide_stepped st.legs (turned c) (Some b) (λ g is. subst (BackStands s n Turned) (same b g is) stands))
       (λ h. stays_stepped t s n o nothing none)
     where
       same : (b g : Leg) → Some b ≡ Some g → b ≡ g
       same b g is = cc is
 
   -- a stuck call doesn't move
-  stuck_stays : (c : CallRec) (b : Option Leg) (works backs : Bool) → Stays (decided c b Stuck works backs)
-  stuck_stays c b false backs = put (guarded c)
-  stuck_stays c b true backs = put c
+  stuck_stays : (legs : List Leg) (c : CallRec) (b : Option Leg) (works backs : Bool) →
+      Stays (decided legs c b Stuck works backs)
+  stuck_stays legs c b false backs = put (guarded c)
+  stuck_stays legs c b true backs = put c
 
-  pub contended_stepped : (b : Leg) (called : Option CallRec) → EachStepped t s n o (call_contended b called)
-  contended_stepped b None = stays_stepped t s n o nothing none
-  contended_stepped b (Some c) =
+  pub contended_stepped : (st : NodeState) (b : Leg) (called : Option CallRec) →
+      EachStepped t s n o (call_contended st b called)
+  contended_stepped st b None = stays_stepped t s n o nothing none
+  contended_stepped st b (Some c) =
       if_cases (EachStepped t s n o) (is_turning c.state) _ _
-      (λ h. stays_stepped t s n o (decide (stuck c (Code busy_code)) (Some b))
-      (stuck_stays (stuck c (Code busy_code)) (Some b) (has_any c.work_reports) (has_any c.back_reports)))
+      (λ h. stays_stepped t s n o (decide st.legs (stuck c (Code busy_code)) (Some b))
+      (stuck_stays st.legs (stuck c (Code busy_code)) (Some b) (has_any c.work_reports) (has_any c.back_reports)))
       (λ h. stays_stepped t s n o nothing none)

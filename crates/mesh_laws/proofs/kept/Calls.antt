@@ -12,8 +12,9 @@ use Rattle.mesh_rules.specs.declared.neighbours.Neighbour.{Neighbour}
 use Rattle.mesh_rules.specs.Calls.{is_turning, stuck, turned}
 use Rattle.mesh_rules.specs.CallSteps.{call_contended, call_turned}
 use Rattle.mesh_rules.specs.Changes.{nothing}
-use Rattle.mesh_rules.specs.Legs.{following, is_held, is_in_use}
-use Rattle.mesh_rules.specs.Turns.{activating_path, arms, call_put, decide, decided, disarms, go_back, has_any, taking_path, turn}
+use Rattle.mesh_rules.specs.Legs.{following, is_contended, is_held, is_in_use}
+use Rattle.mesh_rules.specs.State.{NodeState}
+use Rattle.mesh_rules.specs.Turns.{activating_path, arms, call_put, decide, decided, disarms, go_back, has_any, taking_path, turn, turn_to}
 use Rattle.mesh_nodes.proofs.Cases.{if_cases}
 use Rattle.mesh_laws.proofs.kept.Phases.{IsHere, IsHereToo, Kept, OutKept, kept-nothing}
 
@@ -29,11 +30,14 @@ module _ (legs : List Leg) where
       path None = tt
       path (Some h) = (tt, tt)
 
-  -- a call that turns arms its backup's leg
-  pub turn-kept : (c : CallRec) (b : Option Leg) → IsHereToo legs b → Kept legs (turn c b)
-  turn-kept c None here = kept-call c
-  turn-kept c (Some b) here =
-      if_cases (Kept legs) (is_held b.phase) (arms c b) (call_put c) (λ e. arms-kept c b here) (λ e. kept-call c)
+  -- a call that turns arms its backup's leg; the rule read these legs
+  pub turn-kept : (read : List Leg) (c : CallRec) (b : Option Leg) → IsHereToo legs b → Kept legs (turn read c b)
+  turn-kept read c None here = kept-call c
+  turn-kept read c (Some b) here =
+      if_cases (Kept legs) (is_held b.phase) (turn_to read c b) (call_put c)
+      (λ e. if_cases (Kept legs) (is_contended read b) (call_put (stuck c (Code busy_code))) (arms c b)
+      (λ busy. kept-call (stuck c (Code busy_code))) (λ free. arms-kept c b here))
+      (λ e. kept-call c)
 
   disarms-kept : (c : CallRec) (b : Leg) → IsHere legs b → Kept legs (disarms c b)
   disarms-kept c b here = record { legs = ((refl, here), tt); sent = path (following b) }
@@ -49,36 +53,38 @@ module _ (legs : List Leg) where
       if_cases (Kept legs) (is_in_use b.phase) (disarms c b) (call_put c) (λ e. disarms-kept c b here)
       (λ e. kept-call c)
 
-  decided-kept : (c : CallRec) (b : Option Leg) (state : CallState) (works backs : Bool) → IsHereToo legs b →
-      Kept legs (decided c b state works backs)
-  decided-kept c b Guarded true false here = turn-kept c b here
-  decided-kept c b Guarded true true here = kept-call _
-  decided-kept c b Guarded false backs here = kept-call c
-  decided-kept c b Stuck false backs here = kept-call _
-  decided-kept c b Stuck true backs here = kept-call c
-  decided-kept c b Turned false true here = go_back-kept c b here
-  decided-kept c b Turned false false here = kept-call c
-  decided-kept c b Turned true backs here = kept-call c
-  decided-kept c b Asking works backs here = kept-call c
-  decided-kept c b Bare works backs here = kept-call c
-  decided-kept c b Blocked works backs here = kept-call c
-  decided-kept c b Pairing works backs here = kept-call c
-  decided-kept c b Turning works backs here = kept-call c
+  decided-kept : (read : List Leg) (c : CallRec) (b : Option Leg) (state : CallState) (works backs : Bool) →
+      IsHereToo legs b → Kept legs (decided read c b state works backs)
+  decided-kept read c b Guarded true false here = turn-kept read c b here
+  decided-kept read c b Guarded true true here = kept-call _
+  decided-kept read c b Guarded false backs here = kept-call c
+  decided-kept read c b Stuck false backs here = kept-call _
+  decided-kept read c b Stuck true backs here = kept-call c
+  decided-kept read c b Turned false true here = go_back-kept c b here
+  decided-kept read c b Turned false false here = kept-call c
+  decided-kept read c b Turned true backs here = kept-call c
+  decided-kept read c b Asking works backs here = kept-call c
+  decided-kept read c b Bare works backs here = kept-call c
+  decided-kept read c b Blocked works backs here = kept-call c
+  decided-kept read c b Pairing works backs here = kept-call c
+  decided-kept read c b Turning works backs here = kept-call c
 
   -- what becomes of it is told by its state and its reports; the leg of its backup stands
-  pub decide-kept : (c : CallRec) (b : Option Leg) → IsHereToo legs b → Kept legs (decide c b)
-  decide-kept c b here = decided-kept c b c.state (has_any c.work_reports) (has_any c.back_reports) here
+  pub decide-kept : (read : List Leg) (c : CallRec) (b : Option Leg) → IsHereToo legs b →
+      Kept legs (decide read c b)
+  decide-kept read c b here = decided-kept read c b c.state (has_any c.work_reports) (has_any c.back_reports) here
 
   -- the call of a backup that is confirmed
-  pub call_turned-kept : (b : Leg) (c : Option CallRec) → IsHere legs b → Kept legs (call_turned b c)
-  call_turned-kept b None here = kept-nothing legs
-  call_turned-kept b (Some c) here =
-      if_cases (Kept legs) (is_turning c.state) (decide (turned c) (Some b)) nothing
-      (λ e. decide-kept (turned c) (Some b) here) (λ e. kept-nothing legs)
+  pub call_turned-kept : (s : NodeState) (b : Leg) (c : Option CallRec) → IsHere legs b → Kept legs (call_turned s b c)
+  call_turned-kept s b None here = kept-nothing legs
+  call_turned-kept s b (Some c) here =
+      if_cases (Kept legs) (is_turning c.state) (decide s.legs (turned c) (Some b)) nothing
+      (λ e. decide-kept s.legs (turned c) (Some b) here) (λ e. kept-nothing legs)
 
   -- the call of a backup that is refused
-  pub call_contended-kept : (b : Leg) (c : Option CallRec) → IsHere legs b → Kept legs (call_contended b c)
-  call_contended-kept b None here = kept-nothing legs
-  call_contended-kept b (Some c) here =
-      if_cases (Kept legs) (is_turning c.state) (decide (stuck c (Code busy_code)) (Some b)) nothing
-      (λ e. decide-kept (stuck c (Code busy_code)) (Some b) here) (λ e. kept-nothing legs)
+  pub call_contended-kept : (s : NodeState) (b : Leg) (c : Option CallRec) → IsHere legs b →
+      Kept legs (call_contended s b c)
+  call_contended-kept s b None here = kept-nothing legs
+  call_contended-kept s b (Some c) here =
+      if_cases (Kept legs) (is_turning c.state) (decide s.legs (stuck c (Code busy_code)) (Some b)) nothing
+      (λ e. decide-kept s.legs (stuck c (Code busy_code)) (Some b) here) (λ e. kept-nothing legs)

@@ -73,8 +73,8 @@ module _ (p : LocalNode) (s : NodeState) where
   retry-kept from (Some c) =
       if_cases Good (nat_eq from.0 p.id.0) (retries s c) nothing
       (λ e. if_cases Good (is_stuck c.state && (has_any c.work_reports && not (has_any c.back_reports)))
-      (turn c (leg_of c.back s.legs)) nothing
-      (λ x. turn-kept s.legs c (leg_of c.back s.legs) (leg_of-here c.back s.legs)) (λ x. kept-nothing s.legs))
+      (turn s.legs c (leg_of c.back s.legs)) nothing
+      (λ x. turn-kept s.legs s.legs c (leg_of c.back s.legs) (leg_of-here c.back s.legs)) (λ x. kept-nothing s.legs))
       (λ e. kept-nothing s.legs)
 
   revert-kept : (from : NodeId) (c : Option CallRec) → Good (revert_with p s from c)

@@ -16,12 +16,12 @@ use Rattle.ason_base.specs.declared.tables.CallRec.{CallRec}
 use Rattle.ason_base.specs.declared.tables.Leg.{Leg}
 use Rattle.mesh_rules.specs.declared.arrivals.Arrival.{Arrival}
 use Rattle.mesh_rules.specs.declared.neighbours.Neighbour.{Neighbour}
-use Rattle.mesh_rules.specs.Activations.{activated, armed_on, busy_to, is_contended, path_again, resv_to, taken_back, taken_on}
+use Rattle.mesh_rules.specs.Activations.{activated, armed_on, busy_to, path_again, resv_to, taken_back, taken_on}
 use Rattle.mesh_rules.specs.ActivationAnswers.{confirmed, contended, disarmed, is_confirmed, resv_again}
 use Rattle.mesh_rules.specs.Calls.{call_with}
 use Rattle.mesh_rules.specs.CallSteps.{call_contended, call_turned}
 use Rattle.mesh_rules.specs.Changes.{Answer, nothing, puts, sends}
-use Rattle.mesh_rules.specs.Legs.{find_leg, following, is_active_backup, is_armed, is_asked, is_beyond_asked, is_closing, is_held, is_node, is_over, leg_of, previous, with_phase}
+use Rattle.mesh_rules.specs.Legs.{find_leg, following, is_active_backup, is_armed, is_asked, is_beyond_asked, is_closing, is_contended, is_held, is_node, is_over, leg_of, previous, with_phase}
 use Rattle.mesh_rules.specs.LocalNodes.{LocalNode}
 use Rattle.mesh_rules.specs.Messages.{arrival, on_message}
 use Rattle.mesh_rules.specs.Notifies.{Notice, notice_passed, notice_told, notify_with}
@@ -36,7 +36,7 @@ use Rattle.mesh_nodes.proofs.LegList.{found-all}
 use Rattle.mesh_laws.proofs.kept.Phases.{IsHere, IsUp, Kept, LegsUp, MsgKept, OutKept, found-here, kept-nothing, kept-puts, kept-sends, kept-then, leg_of-here}
 use Rattle.mesh_laws.proofs.kept.Calls.{call_contended-kept, call_turned-kept, decide-kept}
 
-up-not_asked : (q : Phase) → is_beyond_asked q ≡ true → is_asked q ≡ true → ⊥
+pub up-not_asked : (q : Phase) → is_beyond_asked q ≡ true → is_asked q ≡ true → ⊥
 up-not_asked Asked up e = absurd (cc up)
 up-not_asked Held up e = absurd (cc e)
 up-not_asked Armed up e = absurd (cc e)
@@ -63,7 +63,7 @@ module _ (p : LocalNode) (s : NodeState) (up : LegsUp s.legs) where
 
     activated-kept : (a : Arrival) (route : List Step) (r : PathRole) → Good (activated p s a route r b)
     activated-kept a route r =
-        if_cases Good (is_contended s.legs b b.in_fibre b.in_label) (sends (busy_to p b a.from ∷ []))
+        if_cases Good (is_contended s.legs b) (sends (busy_to p b a.from ∷ []))
         (armed_on b route r (following b)) (λ e. kept-sends s.legs _ (tt, tt))
         (λ e. armed_on-kept route r (following b))
 
@@ -85,9 +85,9 @@ module _ (p : LocalNode) (s : NodeState) (up : LegsUp s.legs) where
 
     confirmed-kept : (h : Option Neighbour) → Good (confirmed s b h)
     confirmed-kept None =
-        kept-then s.legs (puts (with_phase Live b) []) (call_turned (with_phase Live b) (call_with b.lsp s.calls))
+        kept-then s.legs (puts (with_phase Live b) []) (call_turned s (with_phase Live b) (call_with b.lsp s.calls))
         (kept-puts s.legs (with_phase Live b) [] refl here tt)
-        (call_turned-kept s.legs (with_phase Live b) (call_with b.lsp s.calls) here)
+        (call_turned-kept s.legs s (with_phase Live b) (call_with b.lsp s.calls) here)
     confirmed-kept (Some h) =
         kept-puts s.legs (with_phase Live b) _ refl here (resv_to-kept (Some h) b.in_label)
 
@@ -103,9 +103,9 @@ module _ (p : LocalNode) (s : NodeState) (up : LegsUp s.legs) where
 
     disarmed-kept : (m : Msg) (h : Option Neighbour) → MsgKept m → Good (disarmed s b m h)
     disarmed-kept m None kept =
-        kept-then s.legs (puts (with_phase Held b) []) (call_contended (with_phase Held b) (call_with b.lsp s.calls))
+        kept-then s.legs (puts (with_phase Held b) []) (call_contended s (with_phase Held b) (call_with b.lsp s.calls))
         (kept-puts s.legs (with_phase Held b) [] refl here tt)
-        (call_contended-kept s.legs (with_phase Held b) (call_with b.lsp s.calls) here)
+        (call_contended-kept s.legs s (with_phase Held b) (call_with b.lsp s.calls) here)
     disarmed-kept m (Some h) kept = kept-puts s.legs (with_phase Held b) _ refl here (kept, tt)
 
     contended-kept : (m : Msg) → MsgKept m → Good (contended s b m)
@@ -118,7 +118,7 @@ module _ (p : LocalNode) (s : NodeState) (up : LegsUp s.legs) where
   call_reported-kept : (l : Lsp) (down : Bool) (f : Fibre) (c : Option CallRec) → Good (call_reported s l down f c)
   call_reported-kept l down f None = kept-nothing s.legs
   call_reported-kept l down f (Some c) =
-      decide-kept s.legs (with_report c l down f) (leg_of c.back s.legs) (leg_of-here c.back s.legs)
+      decide-kept s.legs s.legs (with_report c l down f) (leg_of c.back s.legs) (leg_of-here c.back s.legs)
 
   reported_on-kept : (b : Leg) (down : Bool) (f : Option Fibre) → Good (reported_on s b down f)
   reported_on-kept b down None = kept-nothing s.legs

@@ -3,6 +3,7 @@
 use Rattle.std.proofs.Common.{◌≡◌, ℕ, List, [], ◌∷◌, ◌++◌, refl, sym, ap, ◌∙◌, subst}
 use Rattle.std.specs.Prelude.{Option, Some, None}
 use Rattle.std.specs.List.{AllByRecursion}
+use Rattle.ason_base.specs.Lsps.{same_lsp}
 use Rattle.ason_base.specs.Network.{Network, find_link}
 use Rattle.ason_base.specs.declared.ids.Lsp.{Lsp}
 use Rattle.ason_base.specs.declared.ids.NodeId.{NodeId}
@@ -17,20 +18,21 @@ use Rattle.mesh_rules.specs.declared.events.MeshEvent.{MeshEvent}
 use Rattle.mesh_rules.specs.declared.events.MeshEvent.TheVariants.{Take, Desk, Tick, Learn, Post}
 use Rattle.mesh_rules.specs.Events.{IsRun, after, on_first, on_first_item, route_of, step}
 use Rattle.mesh_rules.specs.Failures.{with_group, without_group}
-use Rattle.mesh_rules.specs.Legs.{find_leg, takes, with_phase}
+use Rattle.mesh_rules.specs.Legs.{find_leg, uses, with_phase}
 use Rattle.mesh_rules.specs.LocalNodes.{local_node}
 use Rattle.mesh_rules.specs.Machine.{Mesh, start, without_first, without_item}
 use Rattle.mesh_rules.specs.Quiet.{IsQuiet}
+use Rattle.mesh_nodes.proofs.LegList.{found-all}
 use Rattle.mesh_laws.specs.HopLaw.{LspFits}
 use Rattle.mesh_laws.specs.ContendLaw.{GoesOnWith}
 use Rattle.mesh_laws.proofs.alone.Facts.{Routes}
 use Rattle.mesh_laws.proofs.hops.Laws.{every_hop}
 use Rattle.mesh_laws.proofs.alone.Groups.{FailsOnly, has_one}
-use Rattle.mesh_laws.proofs.alone.Legs.{Apart}
-use Rattle.mesh_laws.proofs.alone.Runs.{after-append, append-one, run-first, AllApart, StayApart}
+use Rattle.mesh_laws.proofs.alone.Legs.{Apart, MsgApart}
+use Rattle.mesh_laws.proofs.alone.Runs.{after-append, append-one, run-first, StayApart}
 use Rattle.mesh_laws.proofs.kept.Items.{item-kept, link-kept, tick-kept}
-use Rattle.mesh_laws.proofs.kept.Messages.{ComesToLeg, message-kept}
-use Rattle.mesh_laws.proofs.kept.Phases.{ItemKept, Kept, LegsUp, MeshKept, MsgKept, SameLegs, but_phase, commit-kept, failed-kept, handled-kept, kept-nothing, ordered-kept, taken-kept}
+use Rattle.mesh_laws.proofs.kept.Messages.{ComesToLeg, message-kept, up-not_asked}
+use Rattle.mesh_laws.proofs.kept.Phases.{IsUp, ItemKept, Kept, LegsUp, MeshKept, MsgKept, SameLegs, but_phase, commit-kept, failed-kept, handled-kept, kept-nothing, ordered-kept, taken-kept}
 use Rattle.mesh_laws.proofs.kept.Places.{path-there}
 
 -- What stays apart
@@ -47,14 +49,24 @@ was-there was now same l a found = go (find_leg l was) refl (sym (same l) ∙ ap
     go None is e = absurd (cc e)
     go (Some b) is e = record { leg = b; found = is; same = cc e }
 
--- what a leg takes doesn't depend on its phase
+-- what a leg uses doesn't depend on its phase
 apart-kept : (gs : List Group) (was now : List Leg) → SameLegs was now → Apart gs was → Apart gs now
-apart-kept gs was now same apart f x l m a b at_l at_m takes_a takes_b back_a back_b has_a has_b =
+apart-kept gs was now same apart l a at_l f x m b differ at_m uses_a uses_b back_a back_b has_a has_b =
     let p = was-there was now same l a at_l in
     let q = was-there was now same m b at_m in
-    apart f x l m p.leg q.leg p.found q.found (ap (takes f x) p.same ∙ takes_a) (ap (takes f x) q.same ∙ takes_b)
+    apart l p.leg p.found f x m q.leg (ap (λ (z : Leg). same_lsp z.lsp m) p.same ∙ differ) q.found
+    (ap (uses f x) p.same ∙ uses_a) (ap (uses f x) q.same ∙ uses_b)
     (ap (λ (z : Leg). z.role) p.same ∙ back_a) (ap (λ (z : Leg). z.role) q.same ∙ back_b)
     (ap (λ (z : Leg). has_one z.risks gs) p.same ∙ has_a) (ap (λ (z : Leg). has_one z.risks gs) q.same ∙ has_b)
+
+-- and no leg that is up waits for its label
+gifts-apart : (gs : List Group) (legs : List Leg) → LegsUp legs → (u : NodeId) (m : Msg) → MsgApart gs legs u m
+gifts-apart gs legs up u (Path l e k route set back r) = tt
+gifts-apart gs legs up u (Resv l e k x) =
+    λ b found asked over. absurd (up-not_asked b.phase (found-all IsUp l legs b found up) asked)
+gifts-apart gs legs up u (PathTear l e k) = tt
+gifts-apart gs legs up u (PathErr l e at gone code) = tt
+gifts-apart gs legs up u (Notify l e at k code) = tt
 
 -- One step
 
@@ -119,7 +131,7 @@ module _ (t : Network) (gs : List Group) (was s : Mesh) (o : Routes) (hops : (l 
 -- A run
 
 -- from a state on in which backups are apart, they stay apart
-module _ (t : Network) (gs : List Group) (was : Mesh) (apart : AllApart gs was) where
+module _ (t : Network) (gs : List Group) (was : Mesh) (apart : (n : ℕ) → Apart gs (was.nodes n).legs) where
   stays : (before since : List MeshEvent) → IsRun t start (before ++ since) → AllByRecursion (GoesOnWith gs) since →
       MeshKept was (after t start before) → StayApart t gs (after t start before) since
   stays before [] run only kept = tt
@@ -128,7 +140,10 @@ module _ (t : Network) (gs : List Group) (was : Mesh) (apart : AllApart gs was) 
       let first = run-first t start before (e ∷ es) run in
       let next : after t start (before ++ e ∷ []) ≡ step t s e = after-append t start before (e ∷ []) in
       let kept_on = step-kept t gs was s (route_of t start before) (every_hop t before first).1 kept e only.0 in (
-        λ n. apart-kept gs (was.nodes n).legs (s.nodes n).legs (kept.legs n) (apart n),
+        record {
+          legs = λ n. apart-kept gs (was.nodes n).legs (s.nodes n).legs (kept.legs n) (apart n);
+          firsts = λ u d m ms is. gifts-apart gs (s.nodes d.0).legs (kept.up d.0) u m;
+        },
         subst (λ x. StayApart t gs x es) next
             (stays (before ++ e ∷ []) es (subst (IsRun t start) (sym (append-one before e es)) run) only.1
             (subst (MeshKept was) (sym next) kept_on)),
@@ -137,7 +152,8 @@ module _ (t : Network) (gs : List Group) (was : Mesh) (apart : AllApart gs was) 
 -- from a quiet state of the run on
 pub stay-apart : (t : Network) (gs : List Group) (before since : List MeshEvent) → IsRun t start (before ++ since) →
     AllByRecursion (GoesOnWith gs) since → IsQuiet (after t start before) →
-    ((n : ℕ) → LegsUp ((after t start before).nodes n).legs) → AllApart gs (after t start before) →
+    ((n : ℕ) → LegsUp ((after t start before).nodes n).legs) →
+    ((n : ℕ) → Apart gs ((after t start before).nodes n).legs) →
     StayApart t gs (after t start before) since
 stay-apart t gs before since run only quiet up apart =
     stays t gs (after t start before) apart before since run only (record {

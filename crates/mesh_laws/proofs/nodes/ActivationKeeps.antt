@@ -18,11 +18,11 @@ use Rattle.ason_base.specs.declared.steps.Step.{Step}
 use Rattle.mesh_rules.specs.declared.arrivals.Arrival.{Arrival}
 use Rattle.mesh_rules.specs.declared.neighbours.Neighbour.{Neighbour}
 use Rattle.mesh_rules.specs.ActivationAnswers.{confirmed, contended, disarmed, is_confirmed, resv_again}
-use Rattle.mesh_rules.specs.Activations.{armed_on, is_contended, path_again}
+use Rattle.mesh_rules.specs.Activations.{armed_on, path_again}
 use Rattle.mesh_rules.specs.CallSteps.{call_contended, call_turned}
 use Rattle.mesh_rules.specs.Calls.{call_with, find_call, is_turning}
 use Rattle.mesh_rules.specs.Changes.{changed, followed_by, puts}
-use Rattle.mesh_rules.specs.Legs.{find_leg, following, is_active_backup, is_armed, is_beyond_asked, is_closing, is_held, is_over, is_work, leg_of, previous, with_leg, with_phase}
+use Rattle.mesh_rules.specs.Legs.{find_leg, following, is_active_backup, is_armed, is_beyond_asked, is_closing, is_contended, is_held, is_over, is_work, leg_of, previous, with_leg, with_phase}
 use Rattle.mesh_rules.specs.LocalNodes.{LocalNode}
 use Rattle.mesh_rules.specs.Paths.{PathRequest, path_with}
 use Rattle.mesh_rules.specs.State.{NodeState}
@@ -51,13 +51,13 @@ module _ (p : LocalNode) (s : NodeState) (g : Leg) (facts : NodeFacts p.id.0 s)
   leg = facts.leg g.lsp g here
 
   module _ (away : nat_eq g.lsp.ingress.0 p.id.0 ≡ false) (held : is_held g.phase ≡ true)
-      (free : is_contended s.legs g g.in_fibre g.in_label ≡ false) where
+      (free : is_contended s.legs g ≡ false) where
     used : (f : Phase) → is_beyond_asked f ≡ true → NodeFacts p.id.0 (changed s (puts (with_phase f g) []))
     used f later =
         let is = held-is g.phase held in
         keeps-leg p.id.0 s (with_phase f g) away
         (stands-alone p.id.0 s.lsp s.legs f g (leg_part p.id.0 s facts) here (rw is refl) later
-        (held-back p.id.0 s.lsp g leg is) free)
+        (held-back p.id.0 s.lsp g leg is) s.legs (λ m h apart there. there) free)
         facts
 
     keeps-armed_on : (route : List Step) (r : PathRole) (o : Option Neighbour) → Keeps p s (armed_on g route r o)
@@ -84,7 +84,7 @@ module _ (p : LocalNode) (s : NodeState) (g : Leg) (facts : NodeFacts p.id.0 s)
       (λ e. facts)
   keeps-again a route (path.Back true work primary) =
       if_cases (Keeps p s) (is_held g.phase && is_over (previous g) a.from a.link) _ _
-      (λ e. if_cases (Keeps p s) (is_contended s.legs g g.in_fibre g.in_label) _ _ (λ b. facts)
+      (λ e. if_cases (Keeps p s) (is_contended s.legs g) _ _ (λ b. facts)
       (λ free. keeps-armed_on
       (previous-away p.id.0 s.lsp g a.from a.link leg (both_right (is_held g.phase) _ e))
       (both_left (is_held g.phase) _ e) free route (path.Back true work primary) (following g)))
@@ -133,9 +133,10 @@ module _ (p : LocalNode) (s : NodeState) (g : Leg) (facts : NodeFacts p.id.0 s)
 
         decides : (state : CallState) (cause : Cause) → fits state (Some Live) (Some f) ≡ true →
             Keeps p s (followed_by (puts (with_phase f g) [])
-            (decide (revised c state c.work_reports c.back_reports cause 0) (Some (with_phase f g))))
+            (decide s.legs (revised c state c.work_reports c.back_reports cause 0) (Some (with_phase f g))))
         decides state cause standing =
-            after-puts p s (decide (revised c state c.work_reports c.back_reports cause 0) (Some (with_phase f g)))
+            after-puts p s
+            (decide s.legs (revised c state c.work_reports c.back_reports cause 0) (Some (with_phase f g)))
             (with_phase f g)
             (decide-after p.id.0 s facts c found g here is-back f g.in_label g.out_label
             (with_leg (with_phase f g) s.legs) (find-with_leg (with_phase f g) s.legs) legs_kept c.work_reports
@@ -153,7 +154,7 @@ module _ (p : LocalNode) (s : NodeState) (g : Leg) (facts : NodeFacts p.id.0 s)
         begins = no_previous-here p.id.0 s.lsp g leg before
 
         go : (o : Option CallRec) → call_with g.lsp s.calls ≡ o →
-            Keeps p s (followed_by (puts (with_phase Live g) []) (call_turned (with_phase Live g) o))
+            Keeps p s (followed_by (puts (with_phase Live g) []) (call_turned s (with_phase Live g) o))
         go None none = absurd (must-have Live refl begins none)
         go (Some c) called =
             rw (turns Live refl begins c called) (decides Live refl begins c called Turned Unset refl)
@@ -166,7 +167,7 @@ module _ (p : LocalNode) (s : NodeState) (g : Leg) (facts : NodeFacts p.id.0 s)
         begins = no_previous-here p.id.0 s.lsp g leg before
 
         go : (o : Option CallRec) → call_with g.lsp s.calls ≡ o →
-            Keeps p s (followed_by (puts (with_phase Held g) []) (call_contended (with_phase Held g) o))
+            Keeps p s (followed_by (puts (with_phase Held g) []) (call_contended s (with_phase Held g) o))
         go None none = absurd (must-have Held refl begins none)
         go (Some c) called =
             rw (turns Held refl begins c called) (decides Held refl begins c called Stuck (Code busy_code) refl)

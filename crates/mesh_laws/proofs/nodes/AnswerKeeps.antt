@@ -18,13 +18,14 @@ use Rattle.mesh_rules.specs.Resvs.{is_expected, labels_left, passed_back, answer
 use Rattle.mesh_rules.specs.PathErrs.{PathFailure, err_passed, removed, path_err_with}
 use Rattle.mesh_rules.specs.Tears.{torn, tear_with}
 use Rattle.mesh_nodes.proofs.Cases.{if_cases, both_left, both_right}
-use Rattle.mesh_laws.proofs.nodes.Facts.{LegFacts, NodeFacts}
+use Rattle.mesh_laws.proofs.nodes.Facts.{NodeFacts}
 use Rattle.mesh_nodes.proofs.LegList.{found-lsp}
-use Rattle.mesh_laws.proofs.nodes.NewLegs.{beside, alone_fibre, back-has, closed-stands, connected-stands, ingress-stands}
+use Rattle.mesh_laws.proofs.nodes.NewLegs.{beside, alone_fibre, back-has, connected-stands, ingress-stands}
 use Rattle.mesh_laws.proofs.nodes.ActivationKeeps.{keeps-contended, keeps-resv_again}
 use Rattle.mesh_laws.proofs.nodes.CallStepKeeps.{keeps-connected_here, keeps-refused_here}
+use Rattle.mesh_laws.proofs.nodes.ClosedLegs.{closed-stands}
 use Rattle.mesh_laws.proofs.nodes.LegEnds.{has_previous-away, no_previous-here, over-some, previous-away}
-use Rattle.mesh_laws.proofs.nodes.Parts.{call_part, unnamed-away, unnamed-torn, keeps-leg, keeps-gone}
+use Rattle.mesh_laws.proofs.nodes.Parts.{call_part, leg_part, unnamed-away, unnamed-torn, keeps-leg, keeps-gone}
 use Rattle.mesh_laws.proofs.nodes.PathKeeps.{Keeps}
 
 pub asked-is : (f : Phase) → is_asked f ≡ true → f ≡ Asked
@@ -38,12 +39,13 @@ asked-is Falling e = absurd (cc e)
 -- Resv
 
 keeps-passed_back : (p : LocalNode) (s : NodeState) (a : Arrival) (g : Leg) (h : Neighbour) (x : ℕ) (o : Option ℕ) →
-    NodeFacts p.id.0 s → LegFacts p.id.0 s.lsp g → previous g ≡ Some h → is_some g.next ≡ true → has g.sent x ≡ true →
-    label_through p (labels_left p s g h) x ≡ o → Keeps p s (passed_back p a g h x o)
-keeps-passed_back p s a g h x None facts leg is goes_on sent looked =
-    keeps-leg p.id.0 s (closed g) (has_previous-away p.id.0 s.lsp g h leg is)
-    (closed-stands p.id.0 s.lsp s.legs g goes_on leg) facts
-keeps-passed_back p s a g h x (Some y) facts leg is goes_on sent looked =
+    NodeFacts p.id.0 s → find_leg g.lsp s.legs ≡ Some g → previous g ≡ Some h → is_some g.next ≡ true →
+    has g.sent x ≡ true → label_through p (labels_left p s g h) x ≡ o → Keeps p s (passed_back p a g h x o)
+keeps-passed_back p s a g h x None facts here is goes_on sent looked =
+    keeps-leg p.id.0 s (closed g) (has_previous-away p.id.0 s.lsp g h (facts.leg g.lsp g here) is)
+    (closed-stands p.id.0 s.lsp s.legs g (leg_part p.id.0 s facts) here goes_on) facts
+keeps-passed_back p s a g h x (Some y) facts here is goes_on sent looked =
+    let leg = facts.leg g.lsp g here in
     keeps-leg p.id.0 s (connected g (Some y) x) (has_previous-away p.id.0 s.lsp g h leg is)
     (connected-stands p s.lsp s.legs g h x y leg (beside g.prev g.in_fibre h is).fibre goes_on sent
     (back-has p (labels_left p s g h) x y looked)) facts
@@ -58,7 +60,7 @@ keeps-answered p s a x g None facts here asked goes_on sent is =
     (ingress-stands p.id.0 s.lsp s.legs g x mine (alone_fibre g.prev g.in_fibre mine.in_fibre is) goes_on sent)
 keeps-answered p s a x g (Some h) facts here asked goes_on sent is =
     keeps-passed_back p s a g h x (label_through p (labels_left p s g h) x)
-    facts (facts.leg g.lsp g here) is goes_on sent refl
+    facts here is goes_on sent refl
 
 pub keeps-on_resv : (p : LocalNode) (s : NodeState) (a : Arrival) (x : ℕ) (o : Option Leg) → NodeFacts p.id.0 s →
     find_leg a.lsp s.legs ≡ o → Keeps p s (resv_with p s a x o)
@@ -123,8 +125,8 @@ keeps-torn : (p : LocalNode) (s : NodeState) (g : Leg) (answer : Out) (o : Optio
 keeps-torn p s g answer None facts here away is =
     keeps-gone p.id.0 s g.lsp (unnamed-away p.id.0 s.lsp s.legs s.calls g.lsp away (call_part p.id.0 s facts)) facts
 keeps-torn p s g answer (Some h) facts here away is =
-    keeps-leg p.id.0 s (closed g) away (closed-stands p.id.0 s.lsp s.legs g (following-some g.next g.out_fibre h is)
-    (facts.leg g.lsp g here)) facts
+    keeps-leg p.id.0 s (closed g) away
+    (closed-stands p.id.0 s.lsp s.legs g (leg_part p.id.0 s facts) here (following-some g.next g.out_fibre h is)) facts
 
 pub keeps-on_tear : (p : LocalNode) (s : NodeState) (a : Arrival) (o : Option Leg) → NodeFacts p.id.0 s →
     find_leg a.lsp s.legs ≡ o → Keeps p s (tear_with p a o)

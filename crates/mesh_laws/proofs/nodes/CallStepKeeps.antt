@@ -71,9 +71,9 @@ module _ (p : LocalNode) (s : NodeState) (g : Leg) (facts : NodeFacts p.id.0 s) 
           (call-bare p.id.0 s facts g here c called x e asked)
 
       -- a call that is guarded from now on decides at once
-      keeps-guarded : is_work g.role ≡ false → Connects (decide (guarded c) (Some (connected g None x)))
+      keeps-guarded : is_work g.role ≡ false → Connects (decide s.legs (guarded c) (Some (connected g None x)))
       keeps-guarded e =
-          after-puts p s (decide (guarded c) (Some (connected g None x))) (connected g None x)
+          after-puts p s (decide s.legs (guarded c) (Some (connected g None x))) (connected g None x)
           (decide-after p.id.0 s facts c (call-found p.id.0 s facts g here c called) g here
           (is-backup p.id.0 s facts g here c called e) (reserved g.role) None (Some x)
           (with_leg (connected g None x) s.legs) (find-with_leg (connected g None x) s.legs) legs_kept c.work_reports

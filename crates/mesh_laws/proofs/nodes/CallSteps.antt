@@ -23,7 +23,7 @@ use Rattle.mesh_rules.specs.Calls.{bare, blocked, call_with, guarded, is_asking,
 use Rattle.mesh_rules.specs.Changes.{Answer}
 use Rattle.mesh_rules.specs.FirstLegs.{first_link, is_full}
 use Rattle.mesh_rules.specs.KnownRows.{known_rows}
-use Rattle.mesh_rules.specs.Legs.{is_held, is_in_use, is_work, leg_of}
+use Rattle.mesh_rules.specs.Legs.{is_contended, is_held, is_in_use, is_work, leg_of}
 use Rattle.mesh_rules.specs.LocalNodes.{LocalNode}
 use Rattle.mesh_rules.specs.Pairs.{beside_lsp, admitted_backup, backup_route, over_backup, pair, pair_over, route_from}
 use Rattle.mesh_rules.specs.Reports.{call_reported, fibres_after, with_back_reports, with_report, with_work_reports}
@@ -95,11 +95,17 @@ module _ (Rep : Lsp → Fibre → Type 0) (G : CallNo → Type 0) (P R : CallRec
   -- A call turns, or decides
 
   module _ (c : CallRec) (here : P c) where
-    pub holds-turn : (d : CallRec) (o : Option Leg) → IsSameCall Rep c d → Holds (turn d o)
+    pub holds-turn : (d : CallRec) (o : Option Leg) → IsSameCall Rep c d → Holds (turn s.legs d o)
     holds-turn d None same = (keeps c d same here, tt)
     holds-turn d (Some b) same =
         if_cases Holds (is_held b.phase) _ _
-        (λ e. (keeps c (turning d) (still Rep c d (turning d) same refl refl refl refl (to-turning Rep d)) here, tt))
+        (λ e. if_cases Holds (is_contended s.legs b) _ _
+        (λ f. (
+          keeps c (stuck d (Code busy_code)) (still Rep c d (stuck d (Code busy_code)) same refl refl refl refl
+              (to-stuck Rep d (Code busy_code) refl)) here,
+          tt,
+        ))
+        (λ f. (keeps c (turning d) (still Rep c d (turning d) same refl refl refl refl (to-turning Rep d)) here, tt)))
         (λ e. (keeps c d same here, tt))
 
     pub holds-go_back : (d : CallRec) (o : Option Leg) → IsSameCall Rep c d → Holds (go_back d o)
@@ -110,7 +116,7 @@ module _ (Rep : Lsp → Fibre → Type 0) (G : CallNo → Type 0) (P R : CallRec
         (λ e. (keeps c d same here, tt))
 
     pub holds-decided : (d : CallRec) (o : Option Leg) (state : CallState) (works backs : Bool) → IsSameCall Rep c d →
-        Holds (decided d o state works backs)
+        Holds (decided s.legs d o state works backs)
     holds-decided d o Asking works backs same = (keeps c d same here, tt)
     holds-decided d o Blocked works backs same = (keeps c d same here, tt)
     holds-decided d o Bare works backs same = (keeps c d same here, tt)
@@ -130,7 +136,7 @@ module _ (Rep : Lsp → Fibre → Type 0) (G : CallNo → Type 0) (P R : CallRec
     holds-decided d o Stuck false backs same =
         (keeps c (guarded d) (still Rep c d (guarded d) same refl refl refl refl (to-guarded Rep d)) here, tt)
 
-    pub holds-decide : (d : CallRec) (o : Option Leg) → IsSameCall Rep c d → Holds (decide d o)
+    pub holds-decide : (d : CallRec) (o : Option Leg) → IsSameCall Rep c d → Holds (decide s.legs d o)
     holds-decide d o same = holds-decided d o d.state (has_any d.work_reports) (has_any d.back_reports) same
 
   -- What a message makes of the call of an LSP
@@ -150,7 +156,7 @@ module _ (Rep : Lsp → Fibre → Type 0) (G : CallNo → Type 0) (P R : CallRec
       (λ e. holds-decide c here (guarded c) (Some g)
       (revised-call Rep c (guarded c) refl refl refl refl (to-guarded Rep c))) (λ e. tt))
 
-  pub holds-call_turned : (l : Lsp) (b : Leg) (o : Option CallRec) → call_with l s.calls ≡ o → Holds (call_turned b o)
+  pub holds-call_turned : (l : Lsp) (b : Leg) (o : Option CallRec) → call_with l s.calls ≡ o → Holds (call_turned s b o)
   holds-call_turned l b None is = tt
   holds-call_turned l b (Some c) is =
       if_cases Holds (is_turning c.state) _ _
@@ -158,7 +164,7 @@ module _ (Rep : Lsp → Fibre → Type 0) (G : CallNo → Type 0) (P R : CallRec
       (revised-call Rep c (turned c) refl refl refl refl (to-turned Rep c))) (λ e. tt)
 
   pub holds-call_contended : (l : Lsp) (b : Leg) (o : Option CallRec) → call_with l s.calls ≡ o →
-      Holds (call_contended b o)
+      Holds (call_contended s b o)
   holds-call_contended l b None is = tt
   holds-call_contended l b (Some c) is =
       if_cases Holds (is_turning c.state) _ _

@@ -25,11 +25,11 @@ use Rattle.ason_base.specs.Lsps.{has_fibre}
 use Rattle.mesh_rules.specs.declared.arrivals.Arrival.{Arrival}
 use Rattle.mesh_rules.specs.declared.neighbours.Neighbour.{Neighbour}
 use Rattle.mesh_rules.specs.ActivationAnswers.{confirmed, disarmed, is_confirmed}
-use Rattle.mesh_rules.specs.Activations.{armed_on, is_contended, path_again}
+use Rattle.mesh_rules.specs.Activations.{armed_on, path_again}
 use Rattle.mesh_rules.specs.Alarms.{enters, on_alarm, on_clear}
 use Rattle.mesh_rules.specs.Calls.{call_with, find_call, is_bare, is_stuck, is_turned}
 use Rattle.mesh_rules.specs.Changes.{Answer}
-use Rattle.mesh_rules.specs.Legs.{connected, find_leg, following, is_active_backup, is_armed, is_asked, is_closing, is_held, is_node, is_over, label_through, leg_of, previous, with_phase}
+use Rattle.mesh_rules.specs.Legs.{connected, find_leg, following, is_active_backup, is_armed, is_asked, is_closing, is_contended, is_held, is_node, is_over, label_through, leg_of, previous, with_phase}
 use Rattle.mesh_rules.specs.LocalNodes.{LocalNode, leads, own_link}
 use Rattle.mesh_rules.specs.Messages.{arrival, on_message}
 use Rattle.mesh_rules.specs.Notifies.{Notice, notice_passed, notice_told, notify_with}
@@ -153,7 +153,7 @@ module _ (Rep : Lsp → Fibre → Type 0) (G : CallNo → Type 0) (P R : CallRec
       if_cases Holds (is_active_backup g && is_over (previous g) a.from a.link) _ _ (λ e. tt) (λ e. tt)
   holds-again a route (path.Back true work primary) g =
       if_cases Holds (is_held g.phase && is_over (previous g) a.from a.link) _ _
-      (λ e. if_cases Holds (is_contended s.legs g g.in_fibre g.in_label) _ _ (λ b. tt)
+      (λ e. if_cases Holds (is_contended s.legs g) _ _ (λ b. tt)
       (λ b. holds-armed_on g route (path.Back true work primary) (following g)))
       (λ e. tt)
 

@@ -1,10 +1,11 @@
 -- What a call decides keeps the facts of a node: it turns to its backup, goes back, is stuck, or stays as it is.
 use Rattle.std.proofs.Common.{◌≡◌, ℕ, Bool, true, false, cond, not, List, [], ◌∷◌, refl, sym, ap, subst, ◌∙◌, arith}
 use Rattle.std.specs.Prelude.{Option, Some, None, IfSome}
+use Rattle.ason_base.specs.Codes.{busy_code}
 use Rattle.ason_base.specs.declared.calls.CallState.{CallState}
 use Rattle.ason_base.specs.declared.calls.CallState.TheVariants.{Asking, Bare, Pairing, Guarded, Turning, Turned, Stuck, Blocked}
 use Rattle.ason_base.specs.declared.calls.Cause.{Cause}
-use Rattle.ason_base.specs.declared.calls.Cause.TheVariants.{BackDown, Unset}
+use Rattle.ason_base.specs.declared.calls.Cause.TheVariants.{BackDown, Code, Unset}
 use Rattle.ason_base.specs.declared.calls.Phase.{Phase}
 use Rattle.ason_base.specs.declared.calls.Phase.TheVariants.{Armed, Held, Live}
 use Rattle.ason_base.specs.declared.calls.Role.TheVariants.{Work, Back}
@@ -18,20 +19,19 @@ use Rattle.mesh_rules.specs.declared.changes.CallChange.TheVariants as call
 use Rattle.mesh_rules.specs.declared.changes.LegChange.TheVariants as leg
 use Rattle.mesh_rules.specs.Calls.{find_call, names, with_call}
 use Rattle.mesh_rules.specs.Changes.{Answer, changed, nothing}
-use Rattle.mesh_rules.specs.Legs.{find_leg, following, is_beyond_asked, is_held, is_in_use, leg_of, with_leg, with_phase}
+use Rattle.mesh_rules.specs.Legs.{find_leg, following, is_contended, is_held, is_in_use, leg_of, with_leg, with_phase}
 use Rattle.mesh_rules.specs.State.{NodeState}
 use Rattle.mesh_rules.specs.Turns.{activating_path, arms, call_put, decide, decided, disarms, go_back, has_any, taking_path, turn}
 use Rattle.mesh_nodes.proofs.Cases.{if_cases}
 use Rattle.mesh_nodes.proofs.LegList.{find-with_leg, same_lsp-eq, same_lsp-refl}
 use Rattle.mesh_laws.specs.CallLaw.{FitsLegs, GuardsWork, IsNamed, fits, fits_reports, phase_of}
-use Rattle.mesh_laws.proofs.nodes.Facts.{LegFacts, NodeFacts}
+use Rattle.mesh_laws.proofs.nodes.Facts.{NodeFacts}
 use Rattle.mesh_laws.proofs.nodes.CallKeeps.{named-leg}
 use Rattle.mesh_laws.proofs.nodes.CallParts.{Becomes, CallPart, leg_of-stays, named-lsp, named-stays, names-back, or-true, other-stays}
 use Rattle.mesh_laws.proofs.nodes.CallTouched.{same-leg, touched-changes}
-use Rattle.mesh_laws.proofs.nodes.LegParts.{LegPart, part-with_leg}
-use Rattle.mesh_laws.proofs.nodes.NewLegs.{no_label}
+use Rattle.mesh_laws.proofs.nodes.LegParts.{LegPart, MayStand, part-with_leg}
 use Rattle.mesh_laws.proofs.nodes.Parts.{back-row, node_facts}
-use Rattle.mesh_laws.proofs.nodes.PhaseLegs.{ingress-unlabelled, phase-facts}
+use Rattle.mesh_laws.proofs.nodes.PhaseLegs.{stands-alone, stands-unmarked}
 use Rattle.mesh_laws.proofs.nodes.States.{AskingRow, BareRow, BlockedRow, GuardedRow, PairingRow, Row, StuckRow, TurnedRow, TurningRow, guarded-back, guarded-stuck, live-work, stuck-guarded, turned-back}
 
 -- the call, in this state, with these reports
@@ -147,43 +147,51 @@ module _ (n : ℕ) (s : NodeState) (facts : NodeFacts n s) (c : CallRec) (found 
         twice true e = refl
         twice false e = e
 
-    -- the leg gets the phase q, and the call the state that goes with it
+    -- the leg gets the phase q, in which it may stand, and the call the state that goes with it
     moves-after : (q : Phase) (state : CallState) (works backs : List Fibre) (sent : List Out) →
-        is_beyond_asked f ≡ true → is_beyond_asked q ≡ true → fits state (Some Live) (Some q) ≡ true →
+        MayStand n s.lsp legs (with_phase q b) → fits state (Some Live) (Some q) ≡ true →
         fits_reports state (has_any works) (has_any backs) ≡ true →
         After (record nothing {
           legs = leg.Put (with_phase q b) ∷ [];
           calls = call.Put (revised c state works backs Unset 0) ∷ [];
           sent = sent;
         })
-    moves-after q state works backs sent beyond later standing reports =
-        let leg : LegFacts n s.lsp b = legs_part.leg g.lsp b (now-found f i o legs becomes) in
-        let moved = phase-facts n s.lsp q b leg beyond later own.0 in
+    moves-after q state works backs sent may standing reports =
         node_facts n
         (record s {
           legs = with_leg (with_phase q b) legs;
           calls = with_call (revised c state works backs Unset 0) s.calls;
         })
-        (part-with_leg n s.lsp s.lsp (with_phase q b) legs (omega arith) legs_part
-        (no_label n s.lsp legs (with_phase q b)
-        (ingress-unlabelled n s.lsp (with_phase q b) moved backup-begins) moved))
+        (part-with_leg n s.lsp s.lsp (with_phase q b) legs (omega arith) legs_part may)
         (revised-part q i o (with_leg (with_phase q b) legs) (phase-becomes q) state works backs Unset 0 standing
         reports)
 
-    pub arms-after : f ≡ Held → (state : CallState) (works backs : List Fibre) (cause : Cause) (ticks : ℕ) →
-        After (arms (revised c state works backs cause ticks) b)
-    arms-after held state works backs cause ticks =
-        moves-after Armed Turning works backs (activating_path b (following b)) (rw held refl) refl refl refl
+    -- the legs of other LSPs stand as the rule read them
+    stood : (m : Lsp) (h : Leg) → same_lsp g.lsp m ≡ false → find_leg m legs ≡ Some h → find_leg m s.legs ≡ Some h
+    stood m h apart there = sym (other-stays g.lsp m (Some b) s.legs legs becomes apart) ∙ there
+
+    arms-after : f ≡ Held → is_contended s.legs b ≡ false → (state : CallState) (works backs : List Fibre)
+        (cause : Cause) (ticks : ℕ) → After (arms (revised c state works backs cause ticks) b)
+    arms-after held free state works backs cause ticks =
+        moves-after Armed Turning works backs (activating_path b (following b))
+        (stands-alone n s.lsp legs Armed b legs_part (now-found f i o legs becomes) (rw held refl) refl own.0 s.legs
+        stood free) refl refl
 
     disarms-after : f ≡ Live → (state : CallState) (works backs : List Fibre) (cause : Cause) (ticks : ℕ) →
         has_any works ≡ false → After (disarms (revised c state works backs cause ticks) b)
     disarms-after live state works backs cause ticks quiet =
-        moves-after Held Guarded works backs (taking_path b (following b)) (rw live refl) refl refl (rw quiet refl)
+        moves-after Held Guarded works backs (taking_path b (following b))
+        (stands-unmarked n s.lsp legs Held b legs_part (now-found f i o legs becomes) (rw live refl) refl own.0
+        (λ mark. absurd (cc mark))) refl (rw quiet refl)
 
+    -- with a working report a call turns to a Held backup, or is stuck
     pub turn-after : f ≡ Held → (state : CallState) (works backs : List Fibre) (cause : Cause) (ticks : ℕ) →
-        After (turn (revised c state works backs cause ticks) (Some b))
-    turn-after held state works backs cause ticks =
-        if_cases After (is_held f) _ _ (λ e. arms-after held state works backs cause ticks)
+        has_any works ≡ true → After (turn s.legs (revised c state works backs cause ticks) (Some b))
+    turn-after held state works backs cause ticks hit =
+        if_cases After (is_held f) _ _
+        (λ e. if_cases After (is_contended s.legs b) _ _
+        (λ busy. put-after Stuck works backs (Code busy_code) 0 (rw held refl) hit)
+        (λ free. arms-after held free state works backs cause ticks))
         (λ e. let yes : is_held f ≡ true = ap is_held held in absurd (cc (yes, e)))
 
     -- without working reports a turned call goes back
@@ -196,7 +204,7 @@ module _ (n : ℕ) (s : NodeState) (facts : NodeFacts n s) (c : CallRec) (found 
     module _ (works backs : List Fibre) (cause : Cause) (ticks : ℕ) where
       decided-after : (state : CallState) (w k : Bool) → has_any works ≡ w → has_any backs ≡ k →
           fits state (Some Live) (Some f) ≡ true →
-          After (decided (revised c state works backs cause ticks) (Some b) state w k)
+          After (decided s.legs (revised c state works backs cause ticks) (Some b) state w k)
       decided-after Asking w k is_w is_k standing = absurd (cc standing)
       decided-after Bare w k is_w is_k standing = absurd (cc standing)
       decided-after Blocked w k is_w is_k standing = absurd (cc standing)
@@ -209,7 +217,7 @@ module _ (n : ℕ) (s : NodeState) (facts : NodeFacts n s) (c : CallRec) (found 
       decided-after Turned false false is_w is_k standing =
           put-after Turned works backs cause ticks standing (rw (is_w, is_k) refl)
       decided-after Guarded true false is_w is_k standing =
-          turn-after (guarded-back f standing) Guarded works backs cause ticks
+          turn-after (guarded-back f standing) Guarded works backs cause ticks is_w
       decided-after Guarded true true is_w is_k standing =
           put-after Stuck works backs BackDown 0 (guarded-stuck f standing) is_w
       decided-after Guarded false k is_w is_k standing =
@@ -219,7 +227,7 @@ module _ (n : ℕ) (s : NodeState) (facts : NodeFacts n s) (c : CallRec) (found 
           put-after Guarded works backs Unset 0 (stuck-guarded f standing) (rw is_w refl)
 
       pub decide-after : (state : CallState) → fits state (Some Live) (Some f) ≡ true →
-          After (decide (revised c state works backs cause ticks) (Some b))
+          After (decide s.legs (revised c state works backs cause ticks) (Some b))
       decide-after state standing = decided-after state (has_any works) (has_any backs) refl refl standing
 
 -- A call without a backup
@@ -248,13 +256,13 @@ module _ (n : ℕ) (s : NodeState) (facts : NodeFacts n s) (c : CallRec) (found 
         (λ x has. has) (λ x has never. has) (λ h is. named))
 
     pub decide-alone : (w : Option Phase) → Row c.state w None →
-        NodeFacts n (changed s (decide (revised c c.state works backs cause ticks) None))
+        NodeFacts n (changed s (decide s.legs (revised c c.state works backs cause ticks) None))
     decide-alone w standing = go c.state w None standing refl same-put
       where
         go : (state : CallState) (w b : Option Phase) → Row state w b → b ≡ None →
             NodeFacts n (changed s (call_put (revised c c.state works backs cause ticks))) →
-            NodeFacts n (changed s (decided (revised c c.state works backs cause ticks) None state (has_any works)
-            (has_any backs)))
+            NodeFacts n (changed s (decided s.legs (revised c c.state works backs cause ticks) None state
+            (has_any works) (has_any backs)))
         go _ _ _ AskingRow none put = put
         go _ _ _ BareRow none put = put
         go _ _ _ BlockedRow none put = put

@@ -9,9 +9,10 @@ use Rattle.ason_base.specs.declared.calls.Role.TheVariants.{Back}
 use Rattle.ason_base.specs.declared.tables.CallRec.{CallRec}
 use Rattle.ason_base.specs.declared.tables.Leg.{Leg}
 use Rattle.ason_base.specs.Labels.{has}
+use Rattle.ason_base.specs.Lsps.{same_lsp}
 use Rattle.ason_base.specs.Network.{Network}
 use Rattle.mesh_rules.specs.Commands.{is_searchable}
-use Rattle.mesh_rules.specs.Legs.{find_leg, is_armed, is_closing, is_held, is_marked, takes}
+use Rattle.mesh_rules.specs.Legs.{find_leg, is_armed, is_closing, is_held, is_marked, takes, uses}
 use Rattle.mesh_rules.specs.Calls.{find_call, names}
 use Rattle.mesh_rules.specs.Paths.{role_of}
 use Rattle.mesh_rules.specs.State.{NodeState}
@@ -67,11 +68,17 @@ LabelsFit legs =
     (f : Fibre) (x : ℕ) (l m : Lsp) (g h : Leg) → find_leg l legs ≡ Some g → find_leg m legs ≡ Some h →
     IsTrue (takes f x g) → IsTrue (takes f x h) → (l ≡ m) ⊎ MayShare g h
 
--- marked legs that take the same label of the same fibre are one LSP's
+-- marked legs that use the same label of the same fibre, whether they take it or send it, are one LSP's
 abbrev pub NoTwoMarked : List Leg → Type 0
 NoTwoMarked legs =
     (f : Fibre) (x : ℕ) (l m : Lsp) (g h : Leg) → find_leg l legs ≡ Some g → find_leg m legs ≡ Some h →
-    IsTrue (takes f x g) → IsTrue (takes f x h) → IsTrue (is_marked g) → IsTrue (is_marked h) → l ≡ m
+    IsTrue (uses f x g) → IsTrue (uses f x h) → IsTrue (is_marked g) → IsTrue (is_marked h) → l ≡ m
+
+-- each leg of another LSP that uses a label which this leg uses may share it; the leg itself needn't stand among them
+abbrev pub SharesAll : List Leg → Leg → Type 0
+SharesAll legs g =
+    (f : Fibre) (x : ℕ) (m : Lsp) (h : Leg) → same_lsp g.lsp m ≡ false → find_leg m legs ≡ Some h →
+    IsTrue (uses f x g) → IsTrue (uses f x h) → MayShare g h
 
 -- A call
 

@@ -7,12 +7,12 @@ use Rattle.ason_base.specs.declared.ids.Fibre.{Fibre}
 use Rattle.ason_base.specs.declared.ids.Lsp.{Lsp}
 use Rattle.ason_base.specs.declared.tables.Leg.{Leg}
 use Rattle.ason_base.specs.Lsps.{same_lsp}
-use Rattle.mesh_rules.specs.Legs.{find_leg, with_leg, without_leg, takes, is_marked, is_usable, is_beyond_asked}
+use Rattle.mesh_rules.specs.Legs.{find_leg, with_leg, without_leg, sends, takes, uses, is_marked, is_usable, is_beyond_asked}
 use Rattle.mesh_laws.specs.LabelLaw.{MayShare}
 use Rattle.mesh_laws.proofs.nodes.Facts.{FitsPhase, LabelsFit, LegFacts, NoTwoMarked}
 use Rattle.mesh_laws.proofs.nodes.Sharing.{may_share-flip, usable-shares}
 use Rattle.mesh_nodes.specs.Order.{LegsRise}
-use Rattle.mesh_nodes.proofs.LabelPlaces.{at-is, is-at, label_in-taken, one_way-takes}
+use Rattle.mesh_nodes.proofs.LabelPlaces.{at-is, is-at, label_in-taken, one_way-takes, or-first}
 use Rattle.mesh_nodes.proofs.LegList.{same_lsp-eq, find-with_leg, find-without_leg, rise-with_leg, rise-without_leg}
 
 pub record LegPart (n : ℕ) (next : ℕ) (legs : List Leg) : Type 0 where
@@ -47,16 +47,20 @@ taken n next f x g facts e =
 pub takes-by : (f : Fibre) (x : ℕ) (g : Leg) → g.in_fibre ≡ Some f → g.in_label ≡ Some x → takes f x g ≡ true
 takes-by f x g fibre label = label_in-taken g f x (is-at g.in_fibre g.in_label f x fibre label)
 
+-- what a leg takes it uses
+pub taken-used : (f : Fibre) (x : ℕ) (g : Leg) → takes f x g ≡ true → uses f x g ≡ true
+taken-used f x g e = or-first (takes f x g) (sends f x g) e
+
 -- A leg that may stand
 
 -- a leg with the facts of one, which may share its label with each leg of another LSP that takes it, and isn't marked
--- beside one that is
+-- beside one that uses a label of it and is
 pub record MayStand (n : ℕ) (next : ℕ) (legs : List Leg) (g : Leg) : Type 0 where
   pub facts : LegFacts n next g
   pub shares : (f : Fibre) (x : ℕ) (m : Lsp) (h : Leg) → same_lsp g.lsp m ≡ false → find_leg m legs ≡ Some h →
       takes f x g ≡ true → takes f x h ≡ true → MayShare g h
   pub alone : (f : Fibre) (x : ℕ) (m : Lsp) (h : Leg) → same_lsp g.lsp m ≡ false → find_leg m legs ≡ Some h →
-      takes f x g ≡ true → takes f x h ≡ true → is_marked g ≡ true → is_marked h ≡ true → ⊥
+      uses f x g ≡ true → uses f x h ≡ true → is_marked g ≡ true → is_marked h ≡ true → ⊥
 
 -- the label that it takes is usable for it, and it isn't marked
 pub with_usable : (n next : ℕ) (legs : List Leg) (g : Leg) → LegFacts n next g →
@@ -112,16 +116,16 @@ part-with_leg n a b g legs le part may = record {
       (λ e' is'. inr (subst (λ y. MayShare i y) is' (may_share-flip g i
       (may.shares f x l i e there (subst (λ y. takes f x y ≡ true) (sym is') takes_j) takes_i))))
       (λ e' there'. part.labels f x l m i j there there' takes_i takes_j));
-  marks = λ f x l m i j at_l at_m takes_i takes_j mark_i mark_j.
+  marks = λ f x l m i j at_l at_m uses_i uses_j mark_i mark_j.
       found-after (l ≡ m) g i legs l at_l
       (λ e is. found-after (l ≡ m) g j legs m at_m
       (λ e' is'. sym e ∙ e')
-      (λ e' there. absurd (may.alone f x m j e' there (subst (λ y. takes f x y ≡ true) (sym is) takes_i) takes_j
+      (λ e' there. absurd (may.alone f x m j e' there (subst (λ y. uses f x y ≡ true) (sym is) uses_i) uses_j
       (subst (λ y. is_marked y ≡ true) (sym is) mark_i) mark_j)))
       (λ e there. found-after (l ≡ m) g j legs m at_m
-      (λ e' is'. absurd (may.alone f x l i e there (subst (λ y. takes f x y ≡ true) (sym is') takes_j) takes_i
+      (λ e' is'. absurd (may.alone f x l i e there (subst (λ y. uses f x y ≡ true) (sym is') uses_j) uses_i
       (subst (λ y. is_marked y ≡ true) (sym is') mark_j) mark_i))
-      (λ e' there'. part.marks f x l m i j there there' takes_i takes_j mark_i mark_j));
+      (λ e' there'. part.marks f x l m i j there there' uses_i uses_j mark_i mark_j));
 }
 
 left : (h : Leg) (l m : Lsp) (legs : List Leg) → find_leg m (without_leg l legs) ≡ Some h → find_leg m legs ≡ Some h

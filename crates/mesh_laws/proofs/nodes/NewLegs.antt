@@ -8,8 +8,7 @@ use Rattle.ason_base.specs.declared.ids.NodeId.{NodeId}
 use Rattle.ason_base.specs.declared.network.LinkSpec.{LinkSpec}
 use Rattle.ason_base.specs.declared.network.TeRow.{TeRow}
 use Rattle.ason_base.specs.declared.steps.Step.{Step}
-use Rattle.ason_base.specs.declared.calls.Phase.{Phase}
-use Rattle.ason_base.specs.declared.calls.Phase.TheVariants.{Asked, Held, Armed, Live, Closing, Falling}
+use Rattle.ason_base.specs.declared.calls.Phase.TheVariants.{Asked}
 use Rattle.ason_base.specs.declared.calls.Role.{Role}
 use Rattle.ason_base.specs.declared.calls.Role.TheVariants.{Work, Back}
 use Rattle.ason_base.specs.declared.risks.Risk.{Risk}
@@ -17,7 +16,7 @@ use Rattle.ason_base.specs.declared.tables.Leg.{Leg}
 use Rattle.mesh_rules.specs.declared.neighbours.Neighbour.{Neighbour}
 use Rattle.mesh_rules.specs.FirstLegs.{NewLsp, first_leg}
 use Rattle.mesh_rules.specs.LocalNodes.{LocalNode, own_link, labels_of, fibre_in}
-use Rattle.mesh_rules.specs.Legs.{is_armed, is_held, is_marking, is_usable, is_work, usable, closed, closing_phase, connected, neighbour_over, reserved, label_through, only}
+use Rattle.mesh_rules.specs.Legs.{is_armed, is_held, is_marked, is_marking, is_usable, is_work, usable, connected, neighbour_over, reserved, label_through, only}
 use Rattle.mesh_rules.specs.State.{NodeState}
 use Rattle.mesh_rules.specs.Paths.{PathRequest, egress_leg, transit_leg, offered_labels, risks_here, role_of}
 use Rattle.mesh_nodes.proofs.Cases.{both_left, both_right, not-true}
@@ -55,17 +54,22 @@ back-has p labels x y e = go p.convert e
     go true e = least-has labels y e
     go false e = one (has labels x) refl e
 
--- A leg that takes no label
+-- A leg that takes no label, and isn't marked
 
-pub no_label : (n next : ℕ) (legs : List Leg) (g : Leg) → g.in_label ≡ None → LegFacts n next g → MayStand n next legs g
-no_label n next legs g none facts =
+no_label : (n next : ℕ) (legs : List Leg) (g : Leg) → g.in_label ≡ None → is_marked g ≡ false → LegFacts n next g →
+    MayStand n next legs g
+no_label n next legs g none plain facts =
     record {
       facts = facts;
       shares = λ f x m h apart found this that.
           let label = (taken n next f x g facts this).label in absurd (cc (none, label));
-      alone = λ f x m h apart found this that.
-          let label = (taken n next f x g facts this).label in absurd (cc (none, label));
+      alone = λ f x m h apart found this that mark. absurd (cc (mark, plain));
     }
+
+-- an Asked leg isn't marked
+asked-plain : (r : Role) → (not (is_work r) && is_marking Asked) ≡ false
+asked-plain Work = refl
+asked-plain Back = refl
 
 -- At the ingress
 
@@ -85,7 +89,7 @@ pub first-stands : (p : LocalNode) (rows : List TeRow) (l : NewLsp) (next : ℕ)
     l.lsp.ingress.0 ≡ p.id.0 → nat_eq l.egress.0 p.id.0 ≡ false → l.lsp.lsp < next →
     MayStand p.id.0 next legs (first_leg p rows l)
 first-stands p rows l next legs here away small =
-    no_label p.id.0 next legs (first_leg p rows l) refl (record {
+    no_label p.id.0 next legs (first_leg p rows l) refl (asked-plain (role_of l.role)) (record {
       prev = (let test : nat_eq l.lsp.ingress.0 p.id.0 ≡ true = grind arith in rw test refl);
       in_fibre = refl;
       next_node = rw away refl;
@@ -114,7 +118,7 @@ phase_reserved : (r : Role) (g : Leg) → HasItsLabels g → FitsPhase (reserved
 phase_reserved Work g labels = labels
 phase_reserved Back g labels = labels
 
-reserved-plain : (r : Role) → (not (is_work r) && is_marking (reserved r)) ≡ false
+pub reserved-plain : (r : Role) → (not (is_work r) && is_marking (reserved r)) ≡ false
 reserved-plain Work = refl
 reserved-plain Back = refl
 
@@ -161,7 +165,8 @@ module _ (p : LocalNode) (s : NodeState) (m : PathRequest) (link : LinkSpec) (ne
       nat_eq m.arrival.egress.0 p.id.0 ≡ false →
       MayStand p.id.0 next s.legs (transit_leg p m link risks out route offered)
   transit-stands out route offered on =
-      no_label p.id.0 next s.legs (transit_leg p m link risks out route offered) refl (record {
+      no_label p.id.0 next s.legs (transit_leg p m link risks out route offered) refl (asked-plain (role_of m.role))
+      (record {
         prev = rw far refl;
         in_fibre = refl;
         next_node = rw on refl;
@@ -176,46 +181,6 @@ module _ (p : LocalNode) (s : NodeState) (m : PathRequest) (link : LinkSpec) (ne
         back_in = refl;
         back_out = refl;
       })
-
--- A torn leg
-
-phase_closed : (f : Phase) (r : Role) (g : Leg) → IsTrue (is_some g.next) → FitsPhase (closing_phase f r) (closed g)
-phase_closed Asked r g next = (refl, next)
-phase_closed Held r g next = (refl, next)
-phase_closed Armed Work g next = (refl, next)
-phase_closed Armed Back g next = (refl, next)
-phase_closed Live Work g next = (refl, next)
-phase_closed Live Back g next = (refl, next)
-phase_closed Closing r g next = (refl, next)
-phase_closed Falling r g next = (refl, next)
-
-closed-idle : (f : Phase) (r : Role) → (is_held (closing_phase f r) || is_armed (closing_phase f r)) ≡ true → ⊥
-closed-idle Asked r e = cc e
-closed-idle Held r e = cc e
-closed-idle Armed Work e = cc e
-closed-idle Armed Back e = cc e
-closed-idle Live Work e = cc e
-closed-idle Live Back e = cc e
-closed-idle Closing r e = cc e
-closed-idle Falling r e = cc e
-
-pub closed-stands : (n next : ℕ) (legs : List Leg) (g : Leg) → IsTrue (is_some g.next) → LegFacts n next g →
-    MayStand n next legs (closed g)
-closed-stands n next legs g goes_on facts = no_label n next legs (closed g) refl (record {
-  prev = facts.prev;
-  in_fibre = facts.in_fibre;
-  next_node = facts.next_node;
-  out_fibre = facts.out_fibre;
-  one_end = facts.one_end;
-  number = facts.number;
-  role = facts.role;
-  held = λ e. absurd (closed-idle g.phase g.role e);
-  phase = phase_closed g.phase g.role g goes_on;
-  offered = tt;
-  sent = facts.sent;
-  back_in = facts.back_in;
-  back_out = refl;
-})
 
 -- A leg whose Resv came
 
@@ -287,5 +252,5 @@ connected-stands p next legs g h x y facts fibre goes_on sent looked =
 pub ingress-stands : (n next : ℕ) (legs : List Leg) (g : Leg) (x : ℕ) → LegFacts n next g → g.in_fibre ≡ None →
     is_some g.next ≡ true → has g.sent x ≡ true → MayStand n next legs (connected g None x)
 ingress-stands n next legs g x facts none goes_on sent =
-    no_label n next legs (connected g None x) refl
+    no_label n next legs (connected g None x) refl (reserved-plain g.role)
     (connected-facts n next g None x facts (sym (ap is_some none)) goes_on tt sent)

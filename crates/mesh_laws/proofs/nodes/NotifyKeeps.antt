@@ -24,7 +24,7 @@ use Rattle.mesh_rules.specs.Reports.{call_reported, fibre_into, fibres_after, re
 use Rattle.mesh_rules.specs.Retries.{retry_with}
 use Rattle.mesh_rules.specs.State.{NodeState}
 use Rattle.mesh_rules.specs.Turns.{decide, has_any, turn}
-use Rattle.mesh_nodes.proofs.Cases.{both_left, if_cases}
+use Rattle.mesh_nodes.proofs.Cases.{both_left, both_right, if_cases}
 use Rattle.mesh_nodes.proofs.CallList.{called-found, called-names, found-number}
 use Rattle.mesh_nodes.proofs.LegList.{found-lsp}
 use Rattle.mesh_laws.specs.CallLaw.{FitsLegs, phase_of}
@@ -45,7 +45,7 @@ module _ (n : ℕ) (s : NodeState) (facts : NodeFacts n s) (c : CallRec) (found 
   fit = facts.call c.call c found
 
   abbrev Decides : CallRec → Option Leg → Type 0
-  Decides d o = NodeFacts n (changed s (decide d o))
+  Decides d o = NodeFacts n (changed s (decide s.legs d o))
 
   -- beside its backup, whatever was reported
   beside : (b : Leg) → leg_of c.back s.legs ≡ Some b → (works backs : List Fibre) (ticks : ℕ) →
@@ -146,18 +146,18 @@ module _ (p : LocalNode) (s : NodeState) (facts : NodeFacts p.id.0 s) (c : CallR
       (row c.state (phase_of (leg_of c.work s.legs)) (phase_of (leg_of c.back s.legs))
       (facts.call c.call c found).state)
 
-  keeps-turn : (o : Option Leg) → leg_of c.back s.legs ≡ o → Keeps p s (turn c o)
-  keeps-turn None is =
+  keeps-turn : (o : Option Leg) → leg_of c.back s.legs ≡ o → has_any c.work_reports ≡ true → Keeps p s (turn s.legs c o)
+  keeps-turn None is hit =
       let none : phase_of (leg_of c.back s.legs) ≡ None = ap phase_of is in
       let some = (stuck-legs (phase_of (leg_of c.work s.legs)) (phase_of (leg_of c.back s.legs)) standing).1 in
       absurd (cc (none, some))
-  keeps-turn (Some b) is =
+  keeps-turn (Some b) is hit =
       let own = leg_of-own c.back s.legs b is in
       let there : phase_of (leg_of c.back s.legs) ≡ Some b.phase = ap phase_of is in
       let some = (stuck-legs (phase_of (leg_of c.work s.legs)) (phase_of (leg_of c.back s.legs)) standing).1 in
       let held : b.phase ≡ Held = cc (there, some) in
       turn-after p.id.0 s facts c found b own.1 own.0 b.phase b.in_label b.out_label s.legs
-      (same-leg b s.legs own.1) (leg_part p.id.0 s facts) held c.state c.work_reports c.back_reports c.cause c.ticks
+      (same-leg b s.legs own.1) (leg_part p.id.0 s facts) held c.state c.work_reports c.back_reports c.cause c.ticks hit
 
 pub keeps-retry : (p : LocalNode) (s : NodeState) (n : CallNo) (from : NodeId) (o : Option CallRec) →
     find_call n s.calls ≡ o → NodeFacts p.id.0 s → Keeps p s (retry_with p s from o)
@@ -168,7 +168,7 @@ keeps-retry p s n from (Some c) is facts =
     if_cases (Keeps p s) (nat_eq from.0 p.id.0) _ _
     (λ e. if_cases (Keeps p s) (is_stuck c.state && (has_any c.work_reports && not (has_any c.back_reports))) _ _
     (λ f. keeps-turn p s facts c found (stuck-is c.state (both_left (is_stuck c.state) _ f)) (leg_of c.back s.legs)
-    refl)
+    refl (both_left (has_any c.work_reports) _ (both_right (is_stuck c.state) _ f)))
     (λ f. facts))
     (λ e. facts)
 

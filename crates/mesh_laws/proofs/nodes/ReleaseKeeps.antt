@@ -22,10 +22,11 @@ use Rattle.mesh_nodes.proofs.Cases.{if_cases, neither_left, neither_right}
 use Rattle.mesh_nodes.proofs.CallList.{find-without_call, found-number, rise-without_call}
 use Rattle.mesh_nodes.proofs.LegList.{find-with_leg, found-lsp}
 use Rattle.mesh_laws.specs.CallLaw.{FitsLegs, IsNamed}
-use Rattle.mesh_laws.proofs.nodes.Facts.{LegFacts, NodeFacts}
-use Rattle.mesh_laws.proofs.nodes.CallParts.{CallPart, together-part}
+use Rattle.mesh_laws.proofs.nodes.Facts.{NodeFacts}
+use Rattle.mesh_laws.proofs.nodes.CallParts.{CallPart, lsp-is, named-lsp, together-part}
+use Rattle.mesh_laws.proofs.nodes.ClosedLegs.{closed-stands}
 use Rattle.mesh_laws.proofs.nodes.LegParts.{LegPart, part-with_leg}
-use Rattle.mesh_laws.proofs.nodes.NewLegs.{closed-stands, ingress-goes_on}
+use Rattle.mesh_laws.proofs.nodes.NewLegs.{ingress-goes_on}
 use Rattle.mesh_laws.proofs.nodes.Parts.{call_part, leg_part, node_facts}
 use Rattle.mesh_laws.proofs.nodes.PathKeeps.{Keeps}
 
@@ -46,12 +47,16 @@ closed-closing Live Back = refl
 closed-closing Closing r = refl
 closed-closing Falling r = refl
 
-part-closes : (n next : ℕ) (o : Option Leg) (legs : List Leg) →
-    IfSome o (λ g. LegFacts n next g × (g.lsp.ingress.0 ≡ n)) → LegPart n next legs → LegPart n next (closes o legs)
+-- a leg of these that begins here
+abbrev IsOwn : ℕ → List Leg → Leg → Type 0
+IsOwn n legs g = (find_leg g.lsp legs ≡ Some g) × (g.lsp.ingress.0 ≡ n)
+
+part-closes : (n next : ℕ) (o : Option Leg) (legs : List Leg) → IfSome o (IsOwn n legs) → LegPart n next legs →
+    LegPart n next (closes o legs)
 part-closes n next None legs mine part = part
 part-closes n next (Some g) legs mine part =
     part-with_leg n next next (closed g) legs (omega arith) part
-    (closed-stands n next legs g (ingress-goes_on n next g mine.0 mine.1) mine.0)
+    (closed-stands n next legs g part mine.0 (ingress-goes_on n next g (part.leg g.lsp g mine.0) mine.1))
 
 closes-other : (o : Option Leg) (m : Lsp) (legs : List Leg) → has_lsp o m ≡ false →
     find_leg m (closes o legs) ≡ find_leg m legs
@@ -92,12 +97,13 @@ module _ (n : ℕ) (s : NodeState) (c : CallRec) (found : find_call c.call s.cal
 
   -- the leg of an LSP that the call names
   mine : (r : Role) (o : Option Lsp) → IfSome o (IsNamed n s.lsp s.legs r c.egress) →
-      IfSome (leg_of o s.legs) (λ g. LegFacts n s.lsp g × (g.lsp.ingress.0 ≡ n))
+      IfSome (leg_of o s.legs) (IsOwn n s.legs)
   mine r None named = tt
   mine r (Some l) named =
       let leg = named.leg in
-      subst (λ o. IfSome o (λ g. LegFacts n s.lsp g × (g.lsp.ingress.0 ≡ n))) (sym leg.1)
-      (facts.leg l leg.0 leg.1, ap (λ k. k.ingress.0) (found-lsp l s.legs leg.0 leg.1) ∙ named.ingress)
+      let is = found-lsp l s.legs leg.0 leg.1 in
+      subst (λ o. IfSome o (IsOwn n s.legs)) (sym leg.1)
+      (subst (λ k. find_leg k s.legs ≡ Some leg.0) (sym is) leg.1, ap (λ k. k.ingress.0) is ∙ named.ingress)
 
   is-named : (r : Role) (o : Option Lsp) → IfSome o (IsNamed n s.lsp s.legs r c.egress) → (m : Lsp) →
       has_lsp (leg_of o s.legs) m ≡ is_lsp o m
@@ -111,6 +117,34 @@ module _ (n : ℕ) (s : NodeState) (c : CallRec) (found : find_call c.call s.cal
 
   abbrev b : Option Leg
   b = leg_of c.back s.legs
+
+  -- the working LSP is another one than the backup
+  work-other : (l : Lsp) → c.back ≡ Some l → is_lsp c.work l ≡ false
+  work-other l back = go (is_lsp c.work l) refl
+    where
+      go : (t : Bool) → is_lsp c.work l ≡ t → t ≡ false
+      go false e = refl
+      go true e =
+          let one = (named-lsp n s.lsp s.legs Work c.egress c.work l fit.work (lsp-is c.work l e)).leg in
+          let other = (named-lsp n s.lsp s.legs Back c.egress c.back l fit.back back).leg in
+          let same : one.0 ≡ other.0 = (let p = one.1 in let q = other.1 in cc (p, q)) in
+          let role : one.0.role ≡ Back = subst (λ (g : Leg). g.role ≡ Back) (sym same) other.2 in
+          let work : one.0.role ≡ Work = one.2 in
+          absurd (cc (role, work))
+
+  -- so the backup's leg stands after the working LSP's closed
+  still-mine : (o : Option Lsp) → c.back ≡ o → IfSome (leg_of o s.legs) (IsOwn n s.legs) →
+      IfSome (leg_of o s.legs) (IsOwn n (closes w s.legs))
+  still-mine None is own = tt
+  still-mine (Some l) is own = go (find_leg l s.legs) refl own
+    where
+      go : (g : Option Leg) → find_leg l s.legs ≡ g → IfSome g (IsOwn n s.legs) → IfSome g (IsOwn n (closes w s.legs))
+      go None there own = tt
+      go (Some g) there own =
+          let same : g.lsp ≡ l = found-lsp l s.legs g there in
+          let apart : has_lsp w g.lsp ≡ false =
+          is-named Work c.work fit.work g.lsp ∙ ap (is_lsp c.work) same ∙ work-other l is in
+          (closes-other w g.lsp s.legs apart ∙ own.0, own.1)
 
   abbrev legs' : List Leg
   legs' = closes (leg_of c.back s.legs) (closes (leg_of c.work s.legs) s.legs)
@@ -144,7 +178,7 @@ module _ (n : ℕ) (s : NodeState) (c : CallRec) (found : find_call c.call s.cal
   keeps-goes : NodeFacts n (changed s (releases s c))
   keeps-goes =
       goes-facts n s c.call w b
-      (part-closes n s.lsp b (closes w s.legs) (mine Back c.back fit.back)
+      (part-closes n s.lsp b (closes w s.legs) (still-mine c.back refl (mine Back c.back fit.back))
       (part-closes n s.lsp w s.legs (mine Work c.work fit.work) (leg_part n s facts)))
       (together-part n s.lsp s.lsp (λ x. names x c) c.call None s.legs legs' s.calls (without_call c.call s.calls)
       (omega arith) (rise-without_call c.call s.calls facts.calls_rise) (find-without_call c.call s.calls)

@@ -52,7 +52,7 @@ shareable-apart risks legs f x m h shareable found this = go (is_apart risks h) 
     go false e =
         absurd (none-found (λ g. takes f x g && not (is_apart risks g)) m legs h shareable found (rw (this, e) refl))
 
-back-of : (r : Role) → not (is_work r) ≡ true → r ≡ Back
+pub back-of : (r : Role) → not (is_work r) ≡ true → r ≡ Back
 back-of Work e = absurd (cc e)
 back-of Back e = refl
 

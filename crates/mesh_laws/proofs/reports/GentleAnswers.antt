@@ -5,8 +5,9 @@ use Rattle.ason_base.specs.Lsps.{is_lsp, same_lsp}
 use Rattle.ason_base.specs.Risks.{unknown_link}
 use Rattle.ason_base.specs.declared.calls.CallState.{CallState}
 use Rattle.ason_base.specs.declared.calls.CallState.TheVariants.{Asking, Bare, Blocked, Guarded, Pairing, Stuck, Turned, Turning}
+use Rattle.ason_base.specs.Codes.{busy_code}
 use Rattle.ason_base.specs.declared.calls.Cause.{Cause}
-use Rattle.ason_base.specs.declared.calls.Cause.TheVariants.{BackDown, Full, NoBackup, Spent}
+use Rattle.ason_base.specs.declared.calls.Cause.TheVariants.{BackDown, Code, Full, NoBackup, Spent}
 use Rattle.ason_base.specs.declared.calls.Phase.{Phase}
 use Rattle.ason_base.specs.declared.calls.Phase.TheVariants.{Armed, Asked, Closing, Falling, Held, Live}
 use Rattle.ason_base.specs.declared.ids.Lsp.{Lsp}
@@ -25,7 +26,7 @@ use Rattle.mesh_rules.specs.Calls.{find_call, guarded, pairing, stuck, turning, 
 use Rattle.mesh_rules.specs.Changes.{changes_calls}
 use Rattle.mesh_rules.specs.FirstLegs.{NewLsp, asks_for, first_link, is_full}
 use Rattle.mesh_rules.specs.KnownRows.{known_rows}
-use Rattle.mesh_rules.specs.Legs.{find_leg, following, is_closing, is_held, is_in_use, with_phase}
+use Rattle.mesh_rules.specs.Legs.{find_leg, following, is_closing, is_contended, is_held, is_in_use, with_phase}
 use Rattle.mesh_rules.specs.LocalNodes.{LocalNode}
 use Rattle.mesh_rules.specs.Pairs.{backup_lsp, backup_route, beside_lsp, over_backup, pair, pair_over, route_from}
 use Rattle.mesh_rules.specs.Paths.{is_active}
@@ -99,15 +100,18 @@ module _ (s : NodeState) (l : Lsp) (c : CallRec) (there : find_call c.call s.cal
   path-mild b None activates = tt
   path-mild b (Some h) activates = ((λ own. (refl, rw activates refl)), tt)
 
-  pub turn-gentle : (d : CallRec) (o : Option Leg) → d.call ≡ c.call → RepKeeps l c d → IfStands s o →
-      IsGentle s l (turn d o)
-  turn-gentle d None number keeps stands = put-gentle d number keeps
-  turn-gentle d (Some b) number keeps stands =
+  -- the rule read these legs
+  pub turn-gentle : (legs : List Leg) (d : CallRec) (o : Option Leg) → d.call ≡ c.call → RepKeeps l c d →
+      IfStands s o → IsGentle s l (turn legs d o)
+  turn-gentle legs d None number keeps stands = put-gentle d number keeps
+  turn-gentle legs d (Some b) number keeps stands =
       if_cases (IsGentle s l) (is_held b.phase) _ _
-      (λ held. mild-gentle s l (arms d b)
+      (λ held. if_cases (IsGentle s l) (is_contended legs b) _ _
+      (λ busy. put-gentle (stuck d (Code busy_code)) number keeps)
+      (λ free. mild-gentle s l (arms d b)
       (put-leg l s.legs b (with_phase Armed b) (stands b refl).found refl refl (λ e. held-stands b held))
       (path-mild b (following b) ((stands b refl).activates held)) refl
-      (put-call l s.calls c (turning d) there number keeps))
+      (put-call l s.calls c (turning d) there number keeps)))
       (λ other. put-gentle d number keeps)
 
   -- the leg is Held afterwards
@@ -131,26 +135,26 @@ module _ (s : NodeState) (l : Lsp) (c : CallRec) (there : find_call c.call s.cal
       (λ used. disarms-gentle d b number keeps (stands b refl).found (used-stands b.phase used))
       (λ idle. put-gentle d number keeps)
 
-  decided-gentle : (d : CallRec) (o : Option Leg) → d.call ≡ c.call → RepKeeps l c d → IfStands s o →
-      (state : CallState) (works backs : Bool) → IsGentle s l (decided d o state works backs)
-  decided-gentle d o number keeps stands Guarded true false = turn-gentle d o number keeps stands
-  decided-gentle d o number keeps stands Guarded true true = put-gentle (stuck d BackDown) number keeps
-  decided-gentle d o number keeps stands Guarded false backs = put-gentle d number keeps
-  decided-gentle d o number keeps stands Stuck false backs = put-gentle (guarded d) number keeps
-  decided-gentle d o number keeps stands Stuck true backs = put-gentle d number keeps
-  decided-gentle d o number keeps stands Asking works backs = put-gentle d number keeps
-  decided-gentle d o number keeps stands Bare works backs = put-gentle d number keeps
-  decided-gentle d o number keeps stands Blocked works backs = put-gentle d number keeps
-  decided-gentle d o number keeps stands Pairing works backs = put-gentle d number keeps
-  decided-gentle d o number keeps stands Turning works backs = put-gentle d number keeps
-  decided-gentle d o number keeps stands Turned false true = go_back-gentle d o number keeps stands
-  decided-gentle d o number keeps stands Turned false false = put-gentle d number keeps
-  decided-gentle d o number keeps stands Turned true backs = put-gentle d number keeps
+  decided-gentle : (legs : List Leg) (d : CallRec) (o : Option Leg) → d.call ≡ c.call → RepKeeps l c d →
+      IfStands s o → (state : CallState) (works backs : Bool) → IsGentle s l (decided legs d o state works backs)
+  decided-gentle legs d o number keeps stands Guarded true false = turn-gentle legs d o number keeps stands
+  decided-gentle legs d o number keeps stands Guarded true true = put-gentle (stuck d BackDown) number keeps
+  decided-gentle legs d o number keeps stands Guarded false backs = put-gentle d number keeps
+  decided-gentle legs d o number keeps stands Stuck false backs = put-gentle (guarded d) number keeps
+  decided-gentle legs d o number keeps stands Stuck true backs = put-gentle d number keeps
+  decided-gentle legs d o number keeps stands Asking works backs = put-gentle d number keeps
+  decided-gentle legs d o number keeps stands Bare works backs = put-gentle d number keeps
+  decided-gentle legs d o number keeps stands Blocked works backs = put-gentle d number keeps
+  decided-gentle legs d o number keeps stands Pairing works backs = put-gentle d number keeps
+  decided-gentle legs d o number keeps stands Turning works backs = put-gentle d number keeps
+  decided-gentle legs d o number keeps stands Turned false true = go_back-gentle d o number keeps stands
+  decided-gentle legs d o number keeps stands Turned false false = put-gentle d number keeps
+  decided-gentle legs d o number keeps stands Turned true backs = put-gentle d number keeps
 
-  pub decide-gentle : (d : CallRec) (o : Option Leg) → d.call ≡ c.call → RepKeeps l c d → IfStands s o →
-      IsGentle s l (decide d o)
-  decide-gentle d o number keeps stands =
-      decided-gentle d o number keeps stands d.state (has_any d.work_reports) (has_any d.back_reports)
+  pub decide-gentle : (legs : List Leg) (d : CallRec) (o : Option Leg) → d.call ≡ c.call → RepKeeps l c d →
+      IfStands s o → IsGentle s l (decide legs d o)
+  decide-gentle legs d o number keeps stands =
+      decided-gentle legs d o number keeps stands d.state (has_any d.work_reports) (has_any d.back_reports)
 
 -- A new LSP
 

@@ -23,10 +23,10 @@ use Rattle.ason_base.specs.declared.tables.Out.{Out}
 use Rattle.mesh_rules.specs.declared.arrivals.Arrival.{Arrival}
 use Rattle.mesh_rules.specs.declared.neighbours.Neighbour.{Neighbour}
 use Rattle.mesh_rules.specs.ActivationAnswers.{confirmed, contended, disarmed, is_confirmed}
-use Rattle.mesh_rules.specs.Activations.{armed_on, busy_to, is_contended, path_again, path_to, resv_to, taken_back}
+use Rattle.mesh_rules.specs.Activations.{armed_on, busy_to, path_again, path_to, resv_to, taken_back}
 use Rattle.mesh_rules.specs.Calls.{call_with}
 use Rattle.mesh_rules.specs.Changes.{changed, puts, removes, to_node}
-use Rattle.mesh_rules.specs.Legs.{closed, connected, find_leg, following, is_active_backup, is_armed, is_asked, is_closing, is_held, is_in_use, is_node, is_over, is_work, label_through, previous, with_leg, with_phase}
+use Rattle.mesh_rules.specs.Legs.{closed, connected, find_leg, following, is_active_backup, is_armed, is_asked, is_closing, is_contended, is_held, is_in_use, is_node, is_over, is_work, label_through, previous, with_leg, with_phase}
 use Rattle.mesh_rules.specs.LocalNodes.{LocalNode, leads, own_link}
 use Rattle.mesh_rules.specs.Notifies.{Notice, notice_passed, notice_told, notify_with}
 use Rattle.mesh_rules.specs.PathErrs.{PathFailure, err_passed, path_err_with, removed}
@@ -78,7 +78,7 @@ module _ (p : LocalNode) (s : NodeState) (facts : NodeFacts p.id.0 s) (l : Lsp) 
         (λ h. nothing-gentle s l)
     again-gentle a route (Back true work primary) =
         if_cases (IsGentle s l) (is_held g.phase && is_over (previous g) a.from a.link) _ _
-        (λ h. if_cases (IsGentle s l) (is_contended s.legs g g.in_fibre g.in_label) _ _
+        (λ h. if_cases (IsGentle s l) (is_contended s.legs g) _ _
         (λ c. sends-gentle s l (busy_to p g a.from ∷ []) ((λ own. (refl, refl)), tt))
         (λ c. armed_on-gentle route (Back true work primary) refl (both_left (is_held g.phase) _ h) (following g)))
         (λ h. nothing-gentle s l)

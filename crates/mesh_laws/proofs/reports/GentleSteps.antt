@@ -193,7 +193,7 @@ module _ (p : LocalNode) (s : NodeState) (facts : NodeFacts p.id.0 s) (l : Lsp) 
   retry-gentle n from (Some c) is =
       if_cases (IsGentle s l) (nat_eq from.0 p.id.0) _ _
       (λ e. if_cases (IsGentle s l) (is_stuck c.state && (has_any c.work_reports && not (has_any c.back_reports))) _ _
-      (λ f. turn-gentle s l c (own-call n c is) c (leg_of c.back s.legs) refl (λ named. (named, refl))
+      (λ f. turn-gentle s l c (own-call n c is) s.legs c (leg_of c.back s.legs) refl (λ named. (named, refl))
       (leg-stands p s facts l c.back))
       (λ f. nothing-gentle s l))
       (λ e. nothing-gentle s l)

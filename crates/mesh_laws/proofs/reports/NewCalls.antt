@@ -29,7 +29,7 @@ use Rattle.mesh_rules.specs.declared.changes.CallChange.{CallChange}
 use Rattle.mesh_rules.specs.declared.changes.CallChange.TheVariants as call
 use Rattle.mesh_rules.specs.declared.neighbours.Neighbour.{Neighbour}
 use Rattle.mesh_rules.specs.ActivationAnswers.{confirmed, disarmed, is_confirmed}
-use Rattle.mesh_rules.specs.Activations.{armed_on, is_contended, path_again}
+use Rattle.mesh_rules.specs.Activations.{armed_on, path_again}
 use Rattle.mesh_rules.specs.Alarms.{enters}
 use Rattle.mesh_rules.specs.Calls.{call_with, calls_changed, find_call, is_bare, is_stuck, is_turned, names}
 use Rattle.mesh_rules.specs.Changes.{Answer}
@@ -37,7 +37,7 @@ use Rattle.mesh_rules.specs.Events.{on_first, on_first_item}
 use Rattle.mesh_rules.specs.FirstLegs.{first_link, is_full}
 use Rattle.mesh_rules.specs.KnownRows.{known_rows}
 use Rattle.mesh_rules.specs.LeastRoutes.{Trip, least_trip}
-use Rattle.mesh_rules.specs.Legs.{connected, find_leg, following, is_active_backup, is_armed, is_asked, is_closing, is_held, is_node, is_over, label_through, leg_of, previous, with_phase}
+use Rattle.mesh_rules.specs.Legs.{connected, find_leg, following, is_active_backup, is_armed, is_asked, is_closing, is_contended, is_held, is_node, is_over, label_through, leg_of, previous, with_phase}
 use Rattle.mesh_rules.specs.LocalNodes.{LocalNode, own_link}
 use Rattle.mesh_rules.specs.Messages.{arrival, on_message}
 use Rattle.mesh_rules.specs.Notifies.{Notice, notice_passed, notice_told, notify_with}
@@ -126,7 +126,7 @@ module _ (p : LocalNode) (s : NodeState) (rise : CallsRise s.calls) (l : Lsp)
       (λ h. unchanged [] refl)
   again-new a route (Back true work primary) g =
       if_cases New (is_held g.phase && is_over (previous g) a.from a.link) _ _
-      (λ h. if_cases New (is_contended s.legs g g.in_fibre g.in_label) _ _ (λ c. unchanged _ refl)
+      (λ h. if_cases New (is_contended s.legs g) _ _ (λ c. unchanged _ refl)
       (λ c. on (following g)))
       (λ h. unchanged [] refl)
     where
@@ -252,7 +252,7 @@ module _ (p : LocalNode) (s : NodeState) (rise : CallsRise s.calls) (l : Lsp)
   retry-new n from (Some c) is =
       if_cases New (nat_eq from.0 p.id.0) _ _
       (λ e. if_cases New (is_stuck c.state && (has_any c.work_reports && not (has_any c.back_reports))) _ _
-      (λ f. let puts = turn-puts l c (leg_of c.back s.legs) in
+      (λ f. let puts = turn-puts l s.legs c (leg_of c.back s.legs) in
       new-from p s rise l unnamed _ c puts.put (own-call n c is) puts.calls
       (λ named. sym puts.same_names ∙ named))
       (λ f. unchanged [] refl))

@@ -70,9 +70,9 @@ module _ (p : LocalNode) (s : NodeState) (rise : CallsRise s.calls) (l : Lsp)
       (let h = keeps named in let never = unnamed c.call c there in cc (h, never)))
 
   pub new-decide : (c d : CallRec) (o : Option Leg) → find_call c.call s.calls ≡ Some c → names l d ≡ names l c →
-      IsNew (decide d o)
+      IsNew (decide s.legs d o)
   new-decide c d o there same =
-      let puts = decide-puts l d o in
+      let puts = decide-puts l s.legs d o in
       new-from _ c puts.put there puts.calls (λ named. sym same ∙ sym puts.same_names ∙ named)
 
   pub called-there : (k : Lsp) (c : CallRec) → call_with k s.calls ≡ Some c → find_call c.call s.calls ≡ Some c
@@ -134,7 +134,7 @@ module _ (p : LocalNode) (s : NodeState) (rise : CallsRise s.calls) (l : Lsp)
       (λ f. new-none [] refl))
 
   pub turned-new : (b : Leg) (o : Option CallRec) → ((c : CallRec) → o ≡ Some c → find_call c.call s.calls ≡ Some c) →
-      IsNew (call_turned b o)
+      IsNew (call_turned s b o)
   turned-new b None there = new-none [] refl
   turned-new b (Some c) there =
       if_cases IsNew (is_turning c.state) _ _ (λ f. new-decide c (turned c) (Some b) (there c refl) refl)
@@ -142,7 +142,7 @@ module _ (p : LocalNode) (s : NodeState) (rise : CallsRise s.calls) (l : Lsp)
 
   pub contended-new : (b : Leg) (o : Option CallRec) →
       ((c : CallRec) → o ≡ Some c → find_call c.call s.calls ≡ Some c) →
-      IsNew (call_contended b o)
+      IsNew (call_contended s b o)
   contended-new b None there = new-none [] refl
   contended-new b (Some c) there =
       if_cases IsNew (is_turning c.state) _ _

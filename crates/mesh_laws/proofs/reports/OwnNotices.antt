@@ -137,7 +137,8 @@ module _ (t : Network) (low : LowFirst t) (s : Mesh) (o : Routes) (d u : NodeId)
         after = with_report c l up-here.names.down (fibre_at t (plan route end) up-here.names.place)
 
         abbrev answer : Answer
-        answer = decide (with_report c l up-here.names.down (fibre_at t (plan route end) up-here.names.place))
+        answer = decide (s.nodes d.0).legs
+            (with_report c l up-here.names.down (fibre_at t (plan route end) up-here.names.place))
             (leg_of c.back (s.nodes d.0).legs)
 
         abbrev with-it : NodeState
@@ -150,7 +151,7 @@ module _ (t : Network) (low : LowFirst t) (s : Mesh) (o : Routes) (d u : NodeId)
         gentle : IsGentle with-it l answer
         gentle =
             decide-gentle with-it l after
-            (find-with_call after state.calls after.call ∙ rw (same after.call.0) refl) after
+            (find-with_call after state.calls after.call ∙ rw (same after.call.0) refl) state.legs after
             (leg_of c.back state.legs) refl (λ named. (named, refl)) stands
           where
             stands : IfStands with-it (leg_of c.back (s.nodes d.0).legs)
@@ -183,7 +184,7 @@ module _ (t : Network) (low : LowFirst t) (s : Mesh) (o : Routes) (d u : NodeId)
         )
           where
             puts : Puts l after answer
-            puts = decide-puts l after (leg_of c.back (s.nodes d.0).legs)
+            puts = decide-puts l (s.nodes d.0).legs after (leg_of c.back (s.nodes d.0).legs)
 
             here : nat_eq l.ingress.0 d.0 ≡ true
             here = rw ingress-is (same d.0)

@@ -5,7 +5,8 @@ use Rattle.ason_base.specs.Lsps.{has_fibre, is_lsp, same_fibre}
 use Rattle.ason_base.specs.Network.{Network, find_link, other_end}
 use Rattle.ason_base.specs.declared.calls.CallState.{CallState}
 use Rattle.ason_base.specs.declared.calls.CallState.TheVariants.{Asking, Bare, Blocked, Guarded, Pairing, Stuck, Turned, Turning}
-use Rattle.ason_base.specs.declared.calls.Cause.TheVariants.{BackDown}
+use Rattle.ason_base.specs.Codes.{busy_code}
+use Rattle.ason_base.specs.declared.calls.Cause.TheVariants.{BackDown, Code}
 use Rattle.ason_base.specs.declared.ids.Fibre.{Fibre}
 use Rattle.ason_base.specs.declared.ids.Lsp.{Lsp}
 use Rattle.ason_base.specs.declared.ids.NodeId.{NodeId}
@@ -16,7 +17,7 @@ use Rattle.ason_base.specs.declared.tables.Leg.{Leg}
 use Rattle.mesh_rules.specs.declared.changes.CallChange.TheVariants as call
 use Rattle.mesh_rules.specs.Calls.{guarded, names, stuck, turning}
 use Rattle.mesh_rules.specs.Changes.{Answer}
-use Rattle.mesh_rules.specs.Legs.{is_held, is_in_use}
+use Rattle.mesh_rules.specs.Legs.{is_contended, is_held, is_in_use}
 use Rattle.mesh_rules.specs.Reports.{fibre_into, fibres_after, first_node, with_report}
 use Rattle.mesh_rules.specs.Turns.{decide, decided, go_back, has_any, turn}
 use Rattle.mesh_laws.specs.ReportLaw.{reports_of}
@@ -82,13 +83,16 @@ pub record Puts (l : Lsp) (d : CallRec) (a : Answer) : Type 0 where
   pub reports : reports_of l put ≡ reports_of l d
   pub same_names : names l put ≡ names l d
 
-pub turn-puts : (l : Lsp) (d : CallRec) (o : Option Leg) → Puts l d (turn d o)
-turn-puts l d None = record { put = d; calls = refl; number = refl; reports = refl; same_names = refl }
-turn-puts l d (Some b) = go (is_held b.phase) refl
+pub turn-puts : (l : Lsp) (legs : List Leg) (d : CallRec) (o : Option Leg) → Puts l d (turn legs d o)
+turn-puts l legs d None = record { put = d; calls = refl; number = refl; reports = refl; same_names = refl }
+turn-puts l legs d (Some b) = go (is_held b.phase) (is_contended legs b) refl refl
   where
-    go : (x : Bool) → is_held b.phase ≡ x → Puts l d (turn d (Some b))
-    go true e = record { put = turning d; calls = rw e refl; number = refl; reports = refl; same_names = refl }
-    go false e = record { put = d; calls = rw e refl; number = refl; reports = refl; same_names = refl }
+    go : (x y : Bool) → is_held b.phase ≡ x → is_contended legs b ≡ y → Puts l d (turn legs d (Some b))
+    go true true e h = record
+        { put = stuck d (Code busy_code); calls = rw (e, h) refl; number = refl; reports = refl; same_names = refl }
+    go true false e h =
+        record { put = turning d; calls = rw (e, h) refl; number = refl; reports = refl; same_names = refl }
+    go false y e h = record { put = d; calls = rw e refl; number = refl; reports = refl; same_names = refl }
 
 pub go_back-puts : (l : Lsp) (d : CallRec) (o : Option Leg) → Puts l d (go_back d o)
 go_back-puts l d None = record { put = d; calls = refl; number = refl; reports = refl; same_names = refl }
@@ -98,33 +102,35 @@ go_back-puts l d (Some b) = go (is_in_use b.phase) refl
     go true e = record { put = guarded d; calls = rw e refl; number = refl; reports = refl; same_names = refl }
     go false e = record { put = d; calls = rw e refl; number = refl; reports = refl; same_names = refl }
 
-decided-puts : (l : Lsp) (d : CallRec) (o : Option Leg) (state : CallState) (works backs : Bool) →
-    Puts l d (decided d o state works backs)
-decided-puts l d o Guarded true false = turn-puts l d o
-decided-puts l d o Guarded true true = record
+decided-puts : (l : Lsp) (legs : List Leg) (d : CallRec) (o : Option Leg) (state : CallState) (works backs : Bool) →
+    Puts l d (decided legs d o state works backs)
+decided-puts l legs d o Guarded true false = turn-puts l legs d o
+decided-puts l legs d o Guarded true true = record
     { put = stuck d BackDown; calls = refl; number = refl; reports = refl; same_names = refl }
-decided-puts l d o Guarded false backs = record
+decided-puts l legs d o Guarded false backs = record
     { put = d; calls = refl; number = refl; reports = refl; same_names = refl }
-decided-puts l d o Stuck false backs = record
+decided-puts l legs d o Stuck false backs = record
     { put = guarded d; calls = refl; number = refl; reports = refl; same_names = refl }
-decided-puts l d o Stuck true backs = record { put = d; calls = refl; number = refl; reports = refl; same_names = refl }
-decided-puts l d o Asking works backs = record
+decided-puts l legs d o Stuck true backs = record
     { put = d; calls = refl; number = refl; reports = refl; same_names = refl }
-decided-puts l d o Bare works backs = record { put = d; calls = refl; number = refl; reports = refl; same_names = refl }
-decided-puts l d o Blocked works backs = record
+decided-puts l legs d o Asking works backs = record
     { put = d; calls = refl; number = refl; reports = refl; same_names = refl }
-decided-puts l d o Pairing works backs = record
+decided-puts l legs d o Bare works backs = record
     { put = d; calls = refl; number = refl; reports = refl; same_names = refl }
-decided-puts l d o Turning works backs = record
+decided-puts l legs d o Blocked works backs = record
     { put = d; calls = refl; number = refl; reports = refl; same_names = refl }
-decided-puts l d o Turned false true = go_back-puts l d o
-decided-puts l d o Turned false false = record
+decided-puts l legs d o Pairing works backs = record
     { put = d; calls = refl; number = refl; reports = refl; same_names = refl }
-decided-puts l d o Turned true backs = record
+decided-puts l legs d o Turning works backs = record
+    { put = d; calls = refl; number = refl; reports = refl; same_names = refl }
+decided-puts l legs d o Turned false true = go_back-puts l d o
+decided-puts l legs d o Turned false false = record
+    { put = d; calls = refl; number = refl; reports = refl; same_names = refl }
+decided-puts l legs d o Turned true backs = record
     { put = d; calls = refl; number = refl; reports = refl; same_names = refl }
 
-pub decide-puts : (l : Lsp) (d : CallRec) (o : Option Leg) → Puts l d (decide d o)
-decide-puts l d o = decided-puts l d o d.state (has_any d.work_reports) (has_any d.back_reports)
+pub decide-puts : (l : Lsp) (legs : List Leg) (d : CallRec) (o : Option Leg) → Puts l d (decide legs d o)
+decide-puts l legs d o = decided-puts l legs d o d.state (has_any d.work_reports) (has_any d.back_reports)
 
 -- Fibres of a route
 

@@ -125,24 +125,24 @@ module _ (p : LocalNode) (s r : NodeState) (l : Lsp) where
         (λ h. put-gentle s l c found (bare c) refl (λ named. (named, refl))))
         (λ f. nothing-gentle s l))
         (λ e. if_cases (IsGentle s l) (is_pairing c.state) _ _
-        (λ f. decide-gentle s l c found (guarded c) (Some b) refl (λ named. (named, refl)) this-stands)
+        (λ f. decide-gentle s l c found r.legs (guarded c) (Some b) refl (λ named. (named, refl)) this-stands)
         (λ f. nothing-gentle s l))
 
     pub turned-gentle : (o : Option CallRec) →
-        ((c : CallRec) → o ≡ Some c → find_call c.call s.calls ≡ Some c) → IsGentle s l (call_turned b o)
+        ((c : CallRec) → o ≡ Some c → find_call c.call s.calls ≡ Some c) → IsGentle s l (call_turned r b o)
     turned-gentle None there = nothing-gentle s l
     turned-gentle (Some c) there =
         if_cases (IsGentle s l) (is_turning c.state) _ _
-        (λ f. decide-gentle s l c (there c refl) (turned c) (Some b) refl (λ named. (named, refl)) this-stands)
+        (λ f. decide-gentle s l c (there c refl) r.legs (turned c) (Some b) refl (λ named. (named, refl)) this-stands)
         (λ f. nothing-gentle s l)
 
     pub contended-gentle : (o : Option CallRec) →
-        ((c : CallRec) → o ≡ Some c → find_call c.call s.calls ≡ Some c) → IsGentle s l (call_contended b o)
+        ((c : CallRec) → o ≡ Some c → find_call c.call s.calls ≡ Some c) → IsGentle s l (call_contended r b o)
     contended-gentle None there = nothing-gentle s l
     contended-gentle (Some c) there =
         if_cases (IsGentle s l) (is_turning c.state) _ _
-        (λ f. decide-gentle s l c (there c refl) (stuck c (Code busy_code)) (Some b) refl (λ named. (named, refl))
-        this-stands)
+        (λ f. decide-gentle s l c (there c refl) r.legs (stuck c (Code busy_code)) (Some b) refl
+        (λ named. (named, refl)) this-stands)
         (λ f. nothing-gentle s l)
 
   -- a call whose working LSP is gone; its two LSPs aren't one
@@ -206,7 +206,8 @@ module _ (p : LocalNode) (s r : NodeState) (l : Lsp) where
       IsGentle s l (call_reported s k down f o)
   reported-gentle k down f None there called stands apart = nothing-gentle s l
   reported-gentle k down f (Some c) there called stands apart =
-      decide-gentle s l c (there c refl) (with_report c k down f) (leg_of c.back s.legs) (same-call (is_lsp c.work k))
+      decide-gentle s l c (there c refl) s.legs (with_report c k down f) (leg_of c.back s.legs)
+      (same-call (is_lsp c.work k))
       (report-keeps c k down f (called c refl) apart) (stands c refl)
     where
       same-call : (b : Bool) → (with_report c k down f).call ≡ c.call

@@ -16,11 +16,11 @@ use Rattle.ason_base.specs.declared.tables.Leg.{Leg}
 use Rattle.mesh_rules.specs.declared.neighbours.Neighbour.{Neighbour}
 use Rattle.mesh_rules.specs.Changes.{Answer, nothing, sends, puts}
 use Rattle.mesh_rules.specs.LocalNodes.{local_node}
-use Rattle.mesh_rules.specs.Legs.{following, is_held, is_over, previous, with_phase}
+use Rattle.mesh_rules.specs.Legs.{following, is_contended, is_held, is_over, previous, with_phase}
 use Rattle.mesh_rules.specs.Messages.{arrival}
 use Rattle.mesh_rules.specs.Machine.{Mesh, without_first}
 use Rattle.mesh_rules.specs.Paths.{PathRequest, path_with}
-use Rattle.mesh_rules.specs.Activations.{armed_on, busy_to, is_contended, resv_to}
+use Rattle.mesh_rules.specs.Activations.{armed_on, busy_to, resv_to}
 use Rattle.mesh_laws.specs.HopLaw.{messages_of, leg_at, mail_between}
 use Rattle.mesh_nodes.proofs.Cases.{if_cases, both_left}
 use Rattle.mesh_laws.proofs.nodes.PhaseLegs.{held-is}
@@ -132,6 +132,6 @@ module _ (t : Network) (q : Purpose) (s : Mesh) (l : Lsp) (p : Plan) (i : ℕ) (
   pub activation-rests : IsPart (path_with (local_node t d) (s.nodes d.0) asks (Some g))
   activation-rests =
       if_cases IsPart (is_held g.phase && is_over (previous g) u k) _ _
-      (λ may. if_cases IsPart (is_contended (s.nodes d.0).legs g g.in_fibre g.in_label) _ _ (λ c. refuses)
+      (λ may. if_cases IsPart (is_contended (s.nodes d.0).legs g) _ _ (λ c. refuses)
       (λ c. onward (held-is g.phase (both_left (is_held g.phase) _ may)) (following g) refl))
       (λ may. unchanged)

@@ -147,7 +147,7 @@ module _ (t : Network) (s : Mesh) (o : Routes) (d u : NodeId) (m : Msg) (rest : 
     turned : (h : Option Neighbour) → previous g ≡ h → g.phase ≡ Armed →
         weight o s u.0 d.0 m ≡ phase_weight g.phase g.role (suc (hops_back o l d.0)) →
         (previous g ≡ None → leg_part (local_node t d) (s.nodes d.0) u m ≡ puts (with_phase Live g) []) →
-        Less (at_ingress h (call_turned (with_phase Live g) (call_with g.lsp state.calls)))
+        Less (at_ingress h (call_turned state (with_phase Live g) (call_with g.lsp state.calls)))
     turned (Some h) first armed weighs is = quiet
     turned None first armed weighs is =
         let zero = silent (with_phase Live g) (is first) in
@@ -155,7 +155,7 @@ module _ (t : Network) (s : Mesh) (o : Routes) (d u : NodeId) (m : Msg) (rest : 
         rw armed refl in
         record {
           more = 63;
-          expands = turned-expand t (after_leg t s d u m) d o then-follows short (with_phase Live g)
+          expands = turned-expand t (after_leg t s d u m) d o then-follows short state (with_phase Live g)
               (record {
                 begins = record {
                   there = placed (with_phase Live g) (is first);
@@ -183,10 +183,10 @@ module _ (t : Network) (s : Mesh) (o : Routes) (d u : NodeId) (m : Msg) (rest : 
             (call_with g.lsp state.calls))
 
         contends : (h : Option Neighbour) →
-            Less (at_ingress h (call_contended (with_phase Held g) (call_with g.lsp state.calls)))
+            Less (at_ingress h (call_contended state (with_phase Held g) (call_with g.lsp state.calls)))
         contends (Some h) = quiet
         contends None = less-free t s o d u m pays _ (contended-expand t (after_leg t s d u m) d o then-follows short
-            (with_phase Held g) (call_with g.lsp state.calls))
+            state (with_phase Held g) (call_with g.lsp state.calls))
 
   -- A Resv: the call is answered where its Asked leg is connected, and goes on where its Armed leg is Live.
   pub resv_call : (l : Lsp) (e : NodeId) (k : LinkId) (x : ℕ) → m ≡ Resv l e k x → (h : Option Leg) →

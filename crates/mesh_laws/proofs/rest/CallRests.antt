@@ -21,7 +21,7 @@ use Rattle.mesh_rules.specs.CallSteps.{call_answered, call_contended, call_refus
 use Rattle.mesh_rules.specs.Changes.{nothing}
 use Rattle.mesh_rules.specs.FirstLegs.{first_link, is_full}
 use Rattle.mesh_rules.specs.KnownRows.{known_rows}
-use Rattle.mesh_rules.specs.Legs.{following, is_held, is_in_use, is_work}
+use Rattle.mesh_rules.specs.Legs.{following, is_contended, is_held, is_in_use, is_work}
 use Rattle.mesh_rules.specs.LocalNodes.{LocalNode, local_node}
 use Rattle.mesh_rules.specs.Machine.{Mesh}
 use Rattle.mesh_rules.specs.Pairs.{admitted_backup, backup_lsp, backup_route, beside_lsp, leaves_bare, over_backup, pair, pair_over, route_from}
@@ -65,11 +65,14 @@ module _ (t : Network) (s : Mesh) (n : NodeId) (o : Routes) (f : EachFollows t s
   of-disarms b None = tt
   of-disarms b (Some h) = (refl, refl, tt)
 
-  known-turn : (c : CallRec) (b : Option Leg) → ((g : Leg) → b ≡ Some g → BeginsHere s n g) → IsKnown o (turn c b)
-  known-turn c None begins = known-put c
-  known-turn c (Some b) begins =
+  known-turn : (legs : List Leg) (c : CallRec) (b : Option Leg) → ((g : Leg) → b ≡ Some g → BeginsHere s n g) →
+      IsKnown o (turn legs c b)
+  known-turn legs c None begins = known-put c
+  known-turn legs c (Some b) begins =
       if_cases (IsKnown o) (is_held b.phase) _ _
-      (λ held. (let r = has-route b (begins b refl) in known-of o b.lsp r.0 (arms c b) (of-arms b (following b)) r.1))
+      (λ held. if_cases (IsKnown o) (is_contended legs b) _ _ (λ busy. known-put (stuck c (Code busy_code)))
+      (λ free. (let r = has-route b (begins b refl) in
+      known-of o b.lsp r.0 (arms c b) (of-arms b (following b)) r.1)))
       (λ held. known-put c)
 
   known-back : (c : CallRec) (b : Option Leg) → ((g : Leg) → b ≡ Some g → BeginsHere s n g) → IsKnown o (go_back c b)
@@ -80,11 +83,13 @@ module _ (t : Network) (s : Mesh) (n : NodeId) (o : Routes) (f : EachFollows t s
       known-of o b.lsp r.0 (disarms c b) (of-disarms b (following b)) r.1))
       (λ used. known-put c)
 
-  -- A turn adds at most 191: what the Path that activates the backup weighs over a route of 63 hops.
-  pub turn-expand : (c : CallRec) (b : Option Leg) → ((g : Leg) → b ≡ Some g → BeginsHere s n g) →
-      Expands s n o 191 (turn c b)
-  turn-expand c b begins =
-      expands-known s n o 191 (turn c b) (known-turn c b begins) (turn-grow t s n o f short c b begins)
+  -- A turn adds at most 191: what the Path that activates the backup weighs over a route of 63 hops. The rule read
+  -- these legs.
+  pub turn-expand : (legs : List Leg) (c : CallRec) (b : Option Leg) → ((g : Leg) → b ≡ Some g → BeginsHere s n g) →
+      Expands s n o 191 (turn legs c b)
+  turn-expand legs c b begins =
+      expands-known s n o 191 (turn legs c b) (known-turn legs c b begins)
+      (turn-grow t s n o f short legs c b begins)
 
   -- Going back adds at most 63: a Path that takes the activation back over each hop.
   pub back-expand : (c : CallRec) (b : Option Leg) (state : CallState) → state ≡ Turned → BackFits s n state b →
@@ -93,41 +98,42 @@ module _ (t : Network) (s : Mesh) (n : NodeId) (o : Routes) (f : EachFollows t s
       expands-known s n o 63 (go_back c b) (known-back c b (λ g h. (fit g h).begins))
       (go_back-grow t s n o f short c b state is fit)
 
-  decided-expand : (c : CallRec) (b : Option Leg) (state : CallState) → BackFits s n state b → (works backs : Bool) →
-      Expands s n o 191 (decided c b state works backs)
-  decided-expand c b Guarded fit true false = turn-expand c b (λ g is. (fit g is).begins)
-  decided-expand c b Guarded fit true true = put-expand 191 (stuck c BackDown)
-  decided-expand c b Guarded fit false backs = put-expand 191 c
-  decided-expand c b Turned fit false true =
+  decided-expand : (legs : List Leg) (c : CallRec) (b : Option Leg) (state : CallState) → BackFits s n state b →
+      (works backs : Bool) → Expands s n o 191 (decided legs c b state works backs)
+  decided-expand legs c b Guarded fit true false = turn-expand legs c b (λ g is. (fit g is).begins)
+  decided-expand legs c b Guarded fit true true = put-expand 191 (stuck c BackDown)
+  decided-expand legs c b Guarded fit false backs = put-expand 191 c
+  decided-expand legs c b Turned fit false true =
       expands-more s n o 63 191 (go_back c b) (omega arith) (back-expand c b Turned refl fit)
-  decided-expand c b Turned fit false false = put-expand 191 c
-  decided-expand c b Turned fit true backs = put-expand 191 c
-  decided-expand c b Stuck fit false backs = put-expand 191 (guarded c)
-  decided-expand c b Stuck fit true backs = put-expand 191 c
-  decided-expand c b Asking fit works backs = put-expand 191 c
-  decided-expand c b Bare fit works backs = put-expand 191 c
-  decided-expand c b Pairing fit works backs = put-expand 191 c
-  decided-expand c b Turning fit works backs = put-expand 191 c
-  decided-expand c b Blocked fit works backs = put-expand 191 c
+  decided-expand legs c b Turned fit false false = put-expand 191 c
+  decided-expand legs c b Turned fit true backs = put-expand 191 c
+  decided-expand legs c b Stuck fit false backs = put-expand 191 (guarded c)
+  decided-expand legs c b Stuck fit true backs = put-expand 191 c
+  decided-expand legs c b Asking fit works backs = put-expand 191 c
+  decided-expand legs c b Bare fit works backs = put-expand 191 c
+  decided-expand legs c b Pairing fit works backs = put-expand 191 c
+  decided-expand legs c b Turning fit works backs = put-expand 191 c
+  decided-expand legs c b Blocked fit works backs = put-expand 191 c
 
   -- Whether a call turns or goes back, it adds at most 191.
-  pub decide-expand : (c : CallRec) (b : Option Leg) → BackFits s n c.state b → Expands s n o 191 (decide c b)
-  decide-expand c b fit = decided-expand c b c.state fit (has_any c.work_reports) (has_any c.back_reports)
+  pub decide-expand : (legs : List Leg) (c : CallRec) (b : Option Leg) → BackFits s n c.state b →
+      Expands s n o 191 (decide legs c b)
+  decide-expand legs c b fit = decided-expand legs c b c.state fit (has_any c.work_reports) (has_any c.back_reports)
 
   -- a turned call may go back at once, and nothing else
-  turned-decides : (c : CallRec) (b : Option Leg) → BackFits s n Turned b → (works backs : Bool) →
-      Expands s n o 63 (decided c b Turned works backs)
-  turned-decides c b fit false true = back-expand c b Turned refl fit
-  turned-decides c b fit false false = put-expand 63 c
-  turned-decides c b fit true backs = put-expand 63 c
+  turned-decides : (legs : List Leg) (c : CallRec) (b : Option Leg) → BackFits s n Turned b → (works backs : Bool) →
+      Expands s n o 63 (decided legs c b Turned works backs)
+  turned-decides legs c b fit false true = back-expand c b Turned refl fit
+  turned-decides legs c b fit false false = put-expand 63 c
+  turned-decides legs c b fit true backs = put-expand 63 c
 
   -- A backup that is Live at its ingress adds at most 63, since its call may go back at once.
-  pub turned-expand : (b : Leg) → BackStands s n Turned b → (called : Option CallRec) →
-      Expands s n o 63 (call_turned b called)
-  turned-expand b stands None = none-expand 63
-  turned-expand b stands (Some c) =
+  pub turned-expand : (st : NodeState) (b : Leg) → BackStands s n Turned b → (called : Option CallRec) →
+      Expands s n o 63 (call_turned st b called)
+  turned-expand st b stands None = none-expand 63
+  turned-expand st b stands (Some c) =
       if_cases (Expands s n o 63) (is_turning c.state) _ _
-      (λ h. turned-decides (turned c) (Some b) (λ g is. subst (BackStands s n Turned) (same b g is) stands)
+      (λ h. turned-decides st.legs (turned c) (Some b) (λ g is. subst (BackStands s n Turned) (same b g is) stands)
       (has_any c.work_reports) (has_any c.back_reports))
       (λ h. none-expand 63)
     where
@@ -135,16 +141,18 @@ module _ (t : Network) (s : Mesh) (n : NodeId) (o : Routes) (f : EachFollows t s
       same b g is = cc is
 
   -- a stuck call doesn't move
-  stuck-expand : (c : CallRec) (b : Option Leg) (works backs : Bool) → Expands s n o 0 (decided c b Stuck works backs)
-  stuck-expand c b false backs = put-expand 0 (guarded c)
-  stuck-expand c b true backs = put-expand 0 c
+  stuck-expand : (legs : List Leg) (c : CallRec) (b : Option Leg) (works backs : Bool) →
+      Expands s n o 0 (decided legs c b Stuck works backs)
+  stuck-expand legs c b false backs = put-expand 0 (guarded c)
+  stuck-expand legs c b true backs = put-expand 0 c
 
   -- A contended backup adds nothing: its call is stuck until a clock or an order tries it again.
-  pub contended-expand : (b : Leg) (called : Option CallRec) → Expands s n o 0 (call_contended b called)
-  contended-expand b None = none-expand 0
-  contended-expand b (Some c) =
+  pub contended-expand : (st : NodeState) (b : Leg) (called : Option CallRec) →
+      Expands s n o 0 (call_contended st b called)
+  contended-expand st b None = none-expand 0
+  contended-expand st b (Some c) =
       if_cases (Expands s n o 0) (is_turning c.state) _ _
-      (λ h. stuck-expand (stuck c (Code busy_code)) (Some b) (has_any c.work_reports) (has_any c.back_reports))
+      (λ h. stuck-expand st.legs (stuck c (Code busy_code)) (Some b) (has_any c.work_reports) (has_any c.back_reports))
       (λ h. none-expand 0)
 
   -- A backup is asked for
@@ -196,7 +204,7 @@ module _ (t : Network) (s : Mesh) (n : NodeId) (o : Routes) (f : EachFollows t s
             (λ p. put-expand 4223 (bare c)))
             (λ h. none-expand 4223)),
         λ w. rw w (if_cases (Expands s n o 191) (is_pairing c.state) _ _
-            (λ h. decide-expand (guarded c) (Some g) fits) (λ h. none-expand 191)),
+            (λ h. decide-expand st.legs (guarded c) (Some g) fits) (λ h. none-expand 191)),
       )
         where
           fits : (b : Leg) → Some g ≡ Some b → BackStands s n Guarded b

@@ -166,7 +166,8 @@ module _ (t : Network) (s : Mesh) (n : NodeId) (o : Routes) (f : EachFollows t s
       if_cases (Expands s n o 191) (nat_eq from.0 n.0) _ _
       (λ h. if_cases (Expands s n o 191)
       (is_stuck c.state && (has_any c.work_reports && not (has_any c.back_reports))) _ _
-      (λ st. turn-expand t s n o f short c (leg_of c.back state.legs) (λ b here. (facts.backs n k c e b here).begins))
+      (λ st. turn-expand t s n o f short state.legs c (leg_of c.back state.legs)
+      (λ b here. (facts.backs n k c e b here).begins))
       (λ st. none 191)) (λ h. none 191)
 
   revert-expand : (k : CallNo) (from : NodeId) (c : Option CallRec) → find_call k state.calls ≡ c →

@@ -76,7 +76,7 @@ module _ (t : Network) (s : Mesh) (o : Routes) (d u : NodeId) (m : Msg) (rest : 
         Expands (after_leg t s d u m) d o 191 (call_reported state j down fibre called)
     reported_call j down fibre None here = none-expand t (after_leg t s d u m) d o then-follows short 191
     reported_call j down fibre (Some c) here =
-        decide-expand t (after_leg t s d u m) d o then-follows short (with_report c j down fibre)
+        decide-expand t (after_leg t s d u m) d o then-follows short state.legs (with_report c j down fibre)
         (leg_of c.back state.legs)
         (λ b back. subst (λ x. BackStands (after_leg t s d u m) d x b) (sym (reported_state c j down fibre))
         (record {

@@ -7,7 +7,8 @@ use Rattle.ason_base.specs.declared.ids.NodeId.{NodeId}
 use Rattle.ason_base.specs.declared.steps.Step.{Step}
 use Rattle.ason_base.specs.declared.calls.CallState.{CallState}
 use Rattle.ason_base.specs.declared.calls.CallState.TheVariants.{Asking, Bare, Blocked, Guarded, Pairing, Stuck, Turned, Turning}
-use Rattle.ason_base.specs.declared.calls.Cause.TheVariants.{BackDown}
+use Rattle.ason_base.specs.Codes.{busy_code}
+use Rattle.ason_base.specs.declared.calls.Cause.TheVariants.{BackDown, Code}
 use Rattle.ason_base.specs.declared.calls.Phase.TheVariants.{Armed, Held}
 use Rattle.ason_base.specs.declared.calls.Role.TheVariants as role
 use Rattle.ason_base.specs.declared.messages.PathRole.{PathRole}
@@ -18,7 +19,7 @@ use Rattle.ason_base.specs.declared.tables.CallRec.{CallRec}
 use Rattle.ason_base.specs.declared.tables.Leg.{Leg}
 use Rattle.mesh_rules.specs.Calls.{guarded, stuck}
 use Rattle.mesh_rules.specs.Changes.{Answer}
-use Rattle.mesh_rules.specs.Legs.{following, is_held, is_in_use, with_phase}
+use Rattle.mesh_rules.specs.Legs.{following, is_contended, is_held, is_in_use, with_phase}
 use Rattle.mesh_rules.specs.Machine.{Mesh, commit}
 use Rattle.mesh_rules.specs.Turns.{activating, arms, call_put, decide, decided, disarms, go_back, has_any, taking_back, turn}
 use Rattle.mesh_laws.specs.HopLaw.{leg_at, mail_between}
@@ -181,14 +182,15 @@ module _ (t : Network) (s : Mesh) (n : NodeId) (o : Routes) (f : EachFollows t s
           (moves q (plan route e) pl (subst (λ (m : NodeId). leg_at s b.lsp m ≡ Some b) at begins.there)
           (short b.lsp route is))
 
-  -- A turn adds at most 191.
-  pub turn-grow : (c : CallRec) (b : Option Leg) → ((g : Leg) → b ≡ Some g → BeginsHere s n g) →
-      GrowsBy o s n 191 (turn c b)
-  turn-grow c None begins = put c
-  turn-grow c (Some b) begins =
+  -- A turn adds at most 191, whichever legs the rule read.
+  pub turn-grow : (legs : List Leg) (c : CallRec) (b : Option Leg) → ((g : Leg) → b ≡ Some g → BeginsHere s n g) →
+      GrowsBy o s n 191 (turn legs c b)
+  turn-grow legs c None begins = put c
+  turn-grow legs c (Some b) begins =
       if_cases (GrowsBy o s n 191) (is_held b.phase) _ _
-      (λ held. chained b (begins b refl) 191 (arms c b)
-      (λ q p pl here small. arms-grow t s o c q p b pl here small (held-is b.phase held)))
+      (λ held. if_cases (GrowsBy o s n 191) (is_contended legs b) _ _ (λ busy. put (stuck c (Code busy_code)))
+      (λ free. chained b (begins b refl) 191 (arms c b)
+      (λ q p pl here small. arms-grow t s o c q p b pl here small (held-is b.phase held))))
       (λ held. put c)
 
   -- Going back adds at most 63.
@@ -202,23 +204,24 @@ module _ (t : Network) (s : Mesh) (n : NodeId) (o : Routes) (f : EachFollows t s
       (λ q p pl here small. disarms-grow t s o c q p b pl here small ((fit b refl).turned is)))
       (λ used. grows-quiet o s n (call_put c) 63 (record { legs = refl; sent = refl; numbers = refl }))
 
-  decided-grow : (c : CallRec) (b : Option Leg) (state : CallState) → BackFits s n state b → (works backs : Bool) →
-      GrowsBy o s n 191 (decided c b state works backs)
-  decided-grow c b Guarded fit true false = turn-grow c b (λ g is. (fit g is).begins)
-  decided-grow c b Guarded fit true true = put (stuck c BackDown)
-  decided-grow c b Guarded fit false backs = put c
-  decided-grow c b Turned fit false true =
+  decided-grow : (legs : List Leg) (c : CallRec) (b : Option Leg) (state : CallState) → BackFits s n state b →
+      (works backs : Bool) → GrowsBy o s n 191 (decided legs c b state works backs)
+  decided-grow legs c b Guarded fit true false = turn-grow legs c b (λ g is. (fit g is).begins)
+  decided-grow legs c b Guarded fit true true = put (stuck c BackDown)
+  decided-grow legs c b Guarded fit false backs = put c
+  decided-grow legs c b Turned fit false true =
       grows-more o s n (go_back c b) 63 191 (omega arith) (go_back-grow c b Turned refl fit)
-  decided-grow c b Turned fit false false = put c
-  decided-grow c b Turned fit true backs = put c
-  decided-grow c b Stuck fit false backs = put (guarded c)
-  decided-grow c b Stuck fit true backs = put c
-  decided-grow c b Asking fit works backs = put c
-  decided-grow c b Bare fit works backs = put c
-  decided-grow c b Pairing fit works backs = put c
-  decided-grow c b Turning fit works backs = put c
-  decided-grow c b Blocked fit works backs = put c
+  decided-grow legs c b Turned fit false false = put c
+  decided-grow legs c b Turned fit true backs = put c
+  decided-grow legs c b Stuck fit false backs = put (guarded c)
+  decided-grow legs c b Stuck fit true backs = put c
+  decided-grow legs c b Asking fit works backs = put c
+  decided-grow legs c b Bare fit works backs = put c
+  decided-grow legs c b Pairing fit works backs = put c
+  decided-grow legs c b Turning fit works backs = put c
+  decided-grow legs c b Blocked fit works backs = put c
 
   -- what a report at the ingress makes a call do
-  pub decide-grow : (c : CallRec) (b : Option Leg) → BackFits s n c.state b → GrowsBy o s n 191 (decide c b)
-  decide-grow c b fit = decided-grow c b c.state fit (has_any c.work_reports) (has_any c.back_reports)
+  pub decide-grow : (legs : List Leg) (c : CallRec) (b : Option Leg) → BackFits s n c.state b →
+      GrowsBy o s n 191 (decide legs c b)
+  decide-grow legs c b fit = decided-grow legs c b c.state fit (has_any c.work_reports) (has_any c.back_reports)

@@ -23,7 +23,7 @@ use Rattle.ason_base.specs.declared.tables.Leg.{Leg}
 use Rattle.mesh_rules.specs.declared.events.MeshEvent.{MeshEvent}
 use Rattle.mesh_rules.specs.Calls.{call_with}
 use Rattle.mesh_rules.specs.Events.{after, route_of}
-use Rattle.mesh_rules.specs.Legs.{find_leg, is_beyond_asked, is_closing, is_in_use, leg_of}
+use Rattle.mesh_rules.specs.Legs.{find_leg, is_beyond_asked, is_closing, is_marked, leg_of}
 use Rattle.mesh_rules.specs.Machine.{Mesh, start}
 use Rattle.mesh_rules.specs.Quiet.{IsQuiet}
 use Rattle.mesh_rules.specs.Turns.{has_any}
@@ -146,9 +146,9 @@ module _ (t : Network) (events : List MeshEvent) (laws : LawsOf t events) (g : G
 
     -- an activated backup is up: the group is on the route of its working LSP
     backup-up : (w b : Lsp) (leg : Leg) → c.work ≡ Some w → c.back ≡ Some b → find_leg b (s.nodes n).legs ≡ Some leg →
-        leg.role ≡ role.Back → is_in_use leg.phase ≡ true → is_hit t events (Some b) ≡ false
-    backup-up w b leg is_work is_back here back in_use =
-        let has = found-all (LegConcerns g) b (s.nodes n).legs leg here (concern.nodes n).legs back in_use in
+        leg.role ≡ role.Back → is_marked leg ≡ true → is_hit t events (Some b) ≡ false
+    backup-up w b leg is_work is_back here back mark =
+        let has = found-all (LegConcerns g) b (s.nodes n).legs leg here (concern.nodes n).legs mark in
         let records = found-all (λ x. x.role ≡ role.Back → RecordsRisks t events x x.path_role) b (s.nodes n).legs leg
         here (recursion_from_All (λ x. x.role ≡ role.Back → RecordsRisks t events x x.path_role) (s.nodes n).legs
         (laws.risks n)) back in
@@ -204,7 +204,7 @@ module _ (t : Network) (events : List MeshEvent) (laws : LawsOf t events) (g : G
         let one : named.leg.0 ≡ there.leg = (let x = named.leg.1 in let y = there.here in cc (x, y)) in
         let back : there.leg.role ≡ role.Back = rw (← one) named.leg.2 in
         let up : is_hit t events c.back ≡ false =
-        rw there.named (backup-up w.0 there.lsp there.leg w.1 there.named there.here back (rw live refl)) in
+        rw there.named (backup-up w.0 there.lsp there.leg w.1 there.named there.here back (rw (back, live) refl)) in
         record {
           turned = λ hit. is;
           joined = rw is joined;

@@ -20,7 +20,7 @@ use Rattle.mesh_rules.specs.Calls.{bare, blocked, guarded, is_asking, is_pairing
 use Rattle.mesh_rules.specs.Changes.{Answer, nothing}
 use Rattle.mesh_rules.specs.FirstLegs.{NewLsp, first_leg, first_link, is_full}
 use Rattle.mesh_rules.specs.KnownRows.{known_rows}
-use Rattle.mesh_rules.specs.Legs.{following, is_held, is_in_use, is_work}
+use Rattle.mesh_rules.specs.Legs.{following, is_contended, is_held, is_in_use, is_work}
 use Rattle.mesh_rules.specs.LocalNodes.{LocalNode}
 use Rattle.mesh_rules.specs.Pairs.{backup_lsp, backup_route, leaves_bare, over_backup, pair, pair_over, route_from}
 use Rattle.mesh_rules.specs.State.{NodeState}
@@ -59,11 +59,12 @@ module _ (p : LocalNode) (s : NodeState) (Q : Given) where
   taking-none b None may = tt
   taking-none b (Some h) may = ((refl, may.plain), tt)
 
-  pub turn-calm : (c : CallRec) (o : Option Leg) → IfSome o (May p s Q) → Calm p s Q (turn c o)
+  pub turn-calm : (c : CallRec) (o : Option Leg) → IfSome o (May p s Q) → Calm p s Q (turn s.legs c o)
   turn-calm c None may = put-calm c
   turn-calm c (Some b) may =
       if_cases IsCalm (is_held b.phase) _ _
-      (λ e. record { legs = (phased-may p s Q Armed b may, tt); sent = activating-none b (following b) may })
+      (λ e. if_cases IsCalm (is_contended s.legs b) _ _ (λ busy. put-calm (stuck c (Code busy_code)))
+      (λ free. record { legs = (phased-may p s Q Armed b may, tt); sent = activating-none b (following b) may }))
       (λ e. put-calm c)
 
   pub go_back-calm : (c : CallRec) (o : Option Leg) → IfSome o (May p s Q) → Calm p s Q (go_back c o)
@@ -74,7 +75,7 @@ module _ (p : LocalNode) (s : NodeState) (Q : Given) where
       (λ e. put-calm c)
 
   decided-calm : (c : CallRec) (o : Option Leg) (state : CallState) (works backs : Bool) → IfSome o (May p s Q) →
-      IsCalm (decided c o state works backs)
+      IsCalm (decided s.legs c o state works backs)
   decided-calm c o Asking works backs may = put-calm c
   decided-calm c o Blocked works backs may = put-calm c
   decided-calm c o Bare works backs may = put-calm c
@@ -89,7 +90,7 @@ module _ (p : LocalNode) (s : NodeState) (Q : Given) where
   decided-calm c o Stuck true backs may = put-calm c
   decided-calm c o Stuck false backs may = put-calm (guarded c)
 
-  pub decide-calm : (c : CallRec) (o : Option Leg) → IfSome o (May p s Q) → Calm p s Q (decide c o)
+  pub decide-calm : (c : CallRec) (o : Option Leg) → IfSome o (May p s Q) → Calm p s Q (decide s.legs c o)
   decide-calm c o may = decided-calm c o c.state (has_any c.work_reports) (has_any c.back_reports) may
 
   bare-calm : (c : CallRec) (cause : Cause) → IsCalm (leaves_bare c cause)
@@ -124,12 +125,12 @@ module _ (p : LocalNode) (s : NodeState) (Q : Given) where
       (λ e. if_cases IsCalm c.protected _ _ (λ e. pair-calm c g here) (λ e. put-calm (bare c))) (λ e. still))
       (λ e. if_cases IsCalm (is_pairing c.state) _ _ (λ e. decide-calm (guarded c) (Some g) may) (λ e. still))
 
-  pub turned-calm : (b : Leg) (o : Option CallRec) → May p s Q b → Calm p s Q (call_turned b o)
+  pub turned-calm : (b : Leg) (o : Option CallRec) → May p s Q b → Calm p s Q (call_turned s b o)
   turned-calm b None may = still
   turned-calm b (Some c) may =
       if_cases IsCalm (is_turning c.state) _ _ (λ e. decide-calm (turned c) (Some b) may) (λ e. still)
 
-  pub contended-calm : (b : Leg) (o : Option CallRec) → May p s Q b → Calm p s Q (call_contended b o)
+  pub contended-calm : (b : Leg) (o : Option CallRec) → May p s Q b → Calm p s Q (call_contended s b o)
   contended-calm b None may = still
   contended-calm b (Some c) may =
       if_cases IsCalm (is_turning c.state) _ _ (λ e. decide-calm (stuck c (Code busy_code)) (Some b) may)

@@ -51,7 +51,7 @@ module _ (t : Network) (o w : Routes) (s : Mesh) (now : Sound t o w s) (n : Node
       a.primary ≡ primary
   one-told l g primary told a = let same : Some a.primary ≡ Some primary = sym a.told ∙ told in cc same
 
-  may-send : (l m : Lsp) (g h : Leg) → leg_at s l n ≡ Some g → leg_at s m n ≡ Some h → Share t w l m → MaySend t g h
+  pub may-send : (l m : Lsp) (g h : Leg) → leg_at s l n ≡ Some g → leg_at s m n ≡ Some h → Share t w l m → MaySend t g h
   may-send l m g h at_l at_m share =
       let g_back = backs t o w s stands l n g share.one at_l share.one_told in
       let h_back = backs t o w s stands m n h share.other at_m share.other_told in
@@ -71,7 +71,7 @@ module _ (t : Network) (o w : Routes) (s : Mesh) (now : Sound t o w s) (n : Node
       }
 
   -- two legs that send one label of one fibre
-  sent-shared : (l m : Lsp) (g h : Leg) → leg_at s l n ≡ Some g → leg_at s m n ≡ Some h → (l ≡ m → ⊥) →
+  pub sent-shared : (l m : Lsp) (g h : Leg) → leg_at s l n ≡ Some g → leg_at s m n ≡ Some h → (l ≡ m → ⊥) →
       SendLawfully t g h
   sent-shared l m g h at_l at_m differ f x this that =
       let ends = ends-of t o w s stands f x l n g at_l this in

@@ -13,9 +13,9 @@ use Rattle.ason_base.specs.declared.messages.Msg.TheVariants.{Resv}
 use Rattle.ason_base.specs.declared.tables.Leg.{Leg}
 use Rattle.mesh_rules.specs.LocalNodes.{LocalNode}
 use Rattle.mesh_rules.specs.FirstLegs.{NewLsp, first_leg}
-use Rattle.mesh_rules.specs.Legs.{closed, connected, is_at, reverse_of, sends}
+use Rattle.mesh_rules.specs.Legs.{connected, is_at, reverse_of, sends}
 use Rattle.mesh_rules.specs.Paths.{PathRequest, egress_leg, transit_leg}
-use Rattle.mesh_nodes.proofs.LabelPlaces.{at-is, either, none-at, or-first, or-second}
+use Rattle.mesh_nodes.proofs.LabelPlaces.{at-is, either, none-at, or-second}
 use Rattle.mesh_laws.specs.HeardLaw.{brings}
 
 never-at : (o : Option Fibre) (f : Fibre) (x : ℕ) → is_at o None f x ≡ true → ⊥
@@ -66,12 +66,3 @@ connected-sends g label y f x l e k out leaves over h =
         let test : nat_eq k.0 f.link.0 ≡ true = grind arith in
         let same_label : nat_eq y x ≡ true = grind arith in inl (rw (test, same_label) refl)
     go (inr on) = inr (or-second (is_at g.out_fibre g.out_label f x) _ on)
-
--- A torn leg sends what it sent on before, and nothing back.
-pub closed-sends : (g : Leg) (f : Fibre) (x : ℕ) → sends f x (closed g) ≡ true → sends f x g ≡ true
-closed-sends g f x h = go (either (is_at g.out_fibre g.out_label f x) _ h)
-  where
-    go : (is_at g.out_fibre g.out_label f x ≡ true) ⊎ (is_at (reverse_of g.in_fibre) None f x ≡ true) →
-        sends f x g ≡ true
-    go (inl on) = or-first (is_at g.out_fibre g.out_label f x) _ on
-    go (inr on) = absurd (never-at (reverse_of g.in_fibre) f x on)

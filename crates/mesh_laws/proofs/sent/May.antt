@@ -19,7 +19,7 @@ use Rattle.mesh_rules.specs.State.{NodeState}
 use Rattle.mesh_nodes.proofs.LegList.{found-lsp}
 use Rattle.mesh_laws.specs.HeardLaw.{brings, lets_go, sends_of}
 use Rattle.mesh_laws.specs.HopLaw.{lsp_of}
-use Rattle.mesh_laws.proofs.sent.LegsHear.{closed-sends}
+use Rattle.mesh_laws.proofs.nodes.ClosedLegs.{closed-sends}
 
 -- Messages
 

@@ -115,7 +115,7 @@ module _ (p : LocalNode) (s : NodeState) (Q : Given) (facts : NodeFacts p.id.0 s
 
     confirmed-calm : (g : Leg) (o : Option Neighbour) → May p s Q g → IsCalm (confirmed s g o)
     confirmed-calm g None may =
-        both p s Q (puts (with_phase Live g) []) (call_turned (with_phase Live g) (call_with g.lsp s.calls))
+        both p s Q (puts (with_phase Live g) []) (call_turned s (with_phase Live g) (call_with g.lsp s.calls))
         (record { legs = (phased-may p s Q Live g may, tt); sent = tt })
         (turned-calm p s Q (with_phase Live g) (call_with g.lsp s.calls) (phased-may p s Q Live g may))
     confirmed-calm g (Some h) may =
@@ -174,7 +174,7 @@ module _ (p : LocalNode) (s : NodeState) (Q : Given) (facts : NodeFacts p.id.0 s
       held : (o : Option Neighbour) → IsFine (disarmed s g e.msg o)
       held None =
           fine p s Q (disarmed s g e.msg None)
-          (both p s Q (puts (with_phase Held g) []) (call_contended (with_phase Held g) (call_with g.lsp s.calls))
+          (both p s Q (puts (with_phase Held g) []) (call_contended s (with_phase Held g) (call_with g.lsp s.calls))
           (record { legs = (may, tt); sent = tt })
           (contended-calm p s Q (with_phase Held g) (call_with g.lsp s.calls) may))
       held (Some h) = record { legs = (may, tt); sent = inr (bare, tt) }

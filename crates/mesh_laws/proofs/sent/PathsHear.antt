@@ -12,9 +12,9 @@ use Rattle.ason_base.specs.declared.steps.Step.{Step}
 use Rattle.ason_base.specs.declared.tables.Leg.{Leg}
 use Rattle.mesh_rules.specs.declared.arrivals.Arrival.{Arrival}
 use Rattle.mesh_rules.specs.declared.neighbours.Neighbour.{Neighbour}
-use Rattle.mesh_rules.specs.Activations.{armed_on, is_contended, path_again, resv_to, taken_on}
+use Rattle.mesh_rules.specs.Activations.{armed_on, path_again, resv_to, taken_on}
 use Rattle.mesh_rules.specs.Changes.{Answer, nothing}
-use Rattle.mesh_rules.specs.Legs.{following, is_active_backup, is_held, is_over, previous}
+use Rattle.mesh_rules.specs.Legs.{following, is_active_backup, is_contended, is_held, is_over, previous}
 use Rattle.mesh_rules.specs.LocalNodes.{LocalNode, leads, own_link}
 use Rattle.mesh_rules.specs.Paths.{PathRequest, admitted, at_egress, checks, first_failure, first_path, in_transit, is_active, judged, offered_labels, risks_here}
 use Rattle.mesh_rules.specs.State.{NodeState}
@@ -106,7 +106,7 @@ module _ (p : LocalNode) (s : NodeState) (Q : Given) where
   again-calm a route (path.Work guard) g may = still
   again-calm a route (path.Back true work primary) g may =
       if_cases IsCalm (is_held g.phase && is_over (previous g) a.from a.link) _ _
-      (λ e. if_cases IsCalm (is_contended s.legs g g.in_fibre g.in_label) _ _
+      (λ e. if_cases IsCalm (is_contended s.legs g) _ _
       (λ e. record { legs = tt; sent = ((refl, tt), tt) })
       (λ e. armed_on-calm g route (path.Back true work primary) (following g) may))
       (λ e. still)

@@ -56,7 +56,7 @@ out-of q Falling i n enter leave fits e = absurd (cc e)
 -- Fibres
 
 -- a fibre out is that of the place's hop
-out-place : (t : Network) (p : Plan) (i : ℕ) (f : Fibre) → out_fibre_at t p i ≡ Some f →
+pub out-place : (t : Network) (p : Plan) (i : ℕ) (f : Fibre) → out_fibre_at t p i ≡ Some f →
     (i < hops p) × (fibre_at t p i ≡ f)
 out-place t p i f e = go (below_or_not i (hops p)) e
   where

@@ -222,9 +222,9 @@ const CONVERTING: &[Case] = &[
             1,
             1,
             &[
-                Said::BackupOn(false),
+                Said::BackupOn(1, false),
                 Said::Resv(C, 2, 1),
-                Said::BackupOn(true),
+                Said::BackupOn(1, true),
             ],
         )],
         &[(C, Told::BackupPath(2, 1, [true, true, false]))],
@@ -236,10 +236,10 @@ const CONVERTING: &[Case] = &[
             1,
             1,
             &[
-                Said::BackupOn(false),
+                Said::BackupOn(1, false),
                 Said::Resv(C, 2, 1),
-                Said::BackupOn(true),
-                Said::BackupOn(false),
+                Said::BackupOn(1, true),
+                Said::BackupOn(1, false),
             ],
         )],
         &[(C, Told::BackupPath(2, 1, [true, true, false]))],
@@ -250,9 +250,9 @@ const CONVERTING: &[Case] = &[
     (
         B,
         &[
-            (1, 1, &[Said::BackupOn(false), Said::Resv(C, 2, 1)]),
+            (1, 1, &[Said::BackupOn(1, false), Said::Resv(C, 2, 1)]),
             (2, 2, &[Said::BackupPath(&[(2, 2)], 1, false)]),
-            (1, 1, &[Said::BackupOn(true)]),
+            (1, 1, &[Said::BackupOn(1, true)]),
             (2, 2, &[Said::BackupPath(&[(2, 2)], 1, true)]),
         ],
         &[(A, Told::Error(BUSY))],

@@ -36,9 +36,9 @@ pub(super) enum Said {
     /// A Path of a backup from a over link 1 to b: the route of its primary, how many labels it has,
     /// and whether it activates.
     BackupPath(&'static [(u32, u32)], u8, bool),
-    /// A Path of a backup from a over b to c, with one label, whose primary goes over link 1; and
-    /// whether it activates.
-    BackupOn(bool),
+    /// A Path of a backup from a over b to c, whose primary goes over link 1: how many labels it has,
+    /// and whether it activates.
+    BackupOn(u8, bool),
     /// A Resv from this node over this link with this label.
     Resv(NodeId, u32, u8),
     /// The same for the backup in the tunnel of the first call.
@@ -215,7 +215,9 @@ pub(super) fn input(alloc: Global, number: u16, said: Said) -> Result<Input, Fai
         Said::BackupPath(primary, count, active) => {
             backup_path(alloc, number, &[], primary, count, active)
         }
-        Said::BackupOn(active) => backup_path(alloc, number, ON, &[(1, 1)], 1, active),
+        Said::BackupOn(count, active) => {
+            backup_path(alloc, number, ON, &[(1, 1)], count, active)
+        }
         Said::Resv(from, link, label) => resv(own, from, link, label),
         Said::BackupResv(from, link, label) => resv(backup, from, link, label),
         Said::PathErr(from, code) => Ok(path_err(own, from, true, code)),

@@ -4,7 +4,7 @@ use crate::nodes::driver::{ASKED_LEG, Case, HELD_LEG, LIVE_LEG, NOTHING, TORN_LE
 use crate::nodes::inputs::{A, B, C, ON, Said};
 use crate::nodes::outs::Told;
 use ason_base::Phase;
-use ason_base::codes::{LABEL, SET, TORN};
+use ason_base::codes::{BUSY, LABEL, SET, TORN};
 
 /// Of nodes that convert: link 1 has two labels, link 2 three.
 pub(super) const TWO_LABELS: &[Case] = &[
@@ -17,7 +17,7 @@ pub(super) const TWO_LABELS: &[Case] = &[
     ),
     (
         B,
-        &[(1, 1, &[Said::BackupOn(false)])],
+        &[(1, 1, &[Said::BackupOn(1, false)])],
         &[(C, Told::BackupPath(2, 1, [true, true, true]))],
         ASKED_LEG,
     ),
@@ -116,6 +116,29 @@ pub(super) const TWO_LABELS: &[Case] = &[
         ],
         &[(A, Told::Error(SET))],
         HELD_LEG,
+    ),
+    // two backups take different labels and send the same: while the one is activated the other is
+    // refused, and stays reserved
+    (
+        B,
+        &[
+            (1, 2, &[Said::BackupOn(2, false), Said::Resv(C, 2, 1)]),
+            (1, 1, &[Said::BackupOn(2, true)]),
+            (2, 2, &[Said::BackupOn(2, true)]),
+        ],
+        &[(A, Told::Error(BUSY))],
+        (2, Some(Phase::Held), None),
+    ),
+    // it is activated once the activation of the other one is taken back
+    (
+        B,
+        &[
+            (1, 2, &[Said::BackupOn(2, false), Said::Resv(C, 2, 1)]),
+            (1, 1, &[Said::BackupOn(2, true), Said::BackupOn(2, false)]),
+            (2, 2, &[Said::BackupOn(2, true)]),
+        ],
+        &[(C, Told::BackupPath(2, 1, [true, true, true]))],
+        (2, Some(Phase::Armed), None),
     ),
     // the least label that is left goes back
     (

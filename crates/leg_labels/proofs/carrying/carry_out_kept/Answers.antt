@@ -1,10 +1,21 @@
 use Rattle.std.proofs.Common.{◌≡◌, ap, subst, sym, ◌∙◌}
 use Rattle.mesh_rules.specs.Legs.{legs_changed}
-use Rattle.leg_table.specs.LegClaims.{ClaimsFit, SharesStay}
+use Rattle.link_owner.specs.Marks.{has_fibre}
+use Rattle.leg_table.specs.LegClaims.{ClaimsFit, MayAllMark, SharesStay, is_own_fibre}
 use Rattle.leg_table.specs.States.{local_of}
 use Rattle.leg_table.specs.Tables.{LegTable}
+use Rattle.leg_table.proofs.OwnFibres.{marks-over}
 use Rattle.leg_labels.proofs.KeptTables.{fibres-stay, shares-stay}
 use Rattle.leg_labels.proofs.carrying.carry_out_kept.Goals as goal
+
+pub keep_legs-requires-clause-marks : goal.keep_legs-requires-clause-marks
+keep_legs-requires-clause-marks c =
+    let t = c.args.tables.now in
+    let o = c.args.owner.now in
+    let legs : c.tables.inside.legs.items ≡ t.legs = ap (λ (u : LegTable). u.legs) c.tables.view_is in
+    subst (λ gs. MayAllMark (has_fibre o.marks) gs c.args.changes.items) (sym (c.reserve.ensures.items ∙ legs))
+    (marks-over (is_own_fibre (local_of t)) (has_fibre o.marks) t.legs c.args.changes.items
+    (λ f own. c.requires.fibres.marked f ∙ own) c.requires.marks)
 
 pub returns-clause-shares : goal.returns-clause-shares
 returns-clause-shares c =

@@ -1,8 +1,9 @@
 use Rattle.std.proofs.Common.{◌≡◌, ◌≤◌, ◌+◌, vec_len, vec_capacity}
 use Rattle.std.specs.List.{AllByRecursion}
 use Rattle.std.specs.Vec.Iter.{into_iter_items, into_iter_len}
+use Rattle.link_owner.specs.Marks.{has_fibre}
 use Rattle.mesh_rules.specs.Legs.{legs_changed}
-use Rattle.leg_table.specs.LegClaims.{LabelsFit, SameFibres, TakesNone}
+use Rattle.leg_table.specs.LegClaims.{LabelsFit, MayAllMark, SameFibres, TakesNone}
 use Rattle.leg_table.specs.Tables.{LegsRise}
 use Rattle.leg_labels.proofs.carrying.change_later.Given as goal
 
@@ -14,5 +15,6 @@ invariant-loop-change l = record {
   rising : LegsRise l.legs.items;
   fit : LabelsFit l.legs.items l.owner l.shares;
   none : AllByRecursion TakesNone (into_iter_items l.change-iterator);
+  marks : MayAllMark (has_fibre l.initial.owner.marks) l.legs.items (into_iter_items l.change-iterator);
   fibres : SameFibres l.initial.owner l.owner;
 }

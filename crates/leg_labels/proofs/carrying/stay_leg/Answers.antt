@@ -1,21 +1,21 @@
-use Rattle.std.proofs.Common.{◌≡◌, None, ap, length, subst, sym, ◌∙◌}
-use Rattle.leg_table.specs.LegClaims.{StaysAs, taken}
-use Rattle.leg_labels.proofs.KeptClaims.{bare-fit, bare-length}
+use Rattle.std.proofs.Common.{Some, ◌∙◌, ap, length, subst}
+use Rattle.ason_base.specs.declared.tables.Leg.{Leg}
+use Rattle.leg_table.specs.LegClaims.{MarksJust}
 use Rattle.leg_table.proofs.LegOrder.{legs-to}
+use Rattle.leg_labels.proofs.ChangedLabels.{stays-labels}
+use Rattle.leg_labels.proofs.KeptClaims.{stays-length}
 use Rattle.leg_labels.proofs.carrying.stay_leg.Goals as goal
 
-pub returns-in-None-clause-len : goal.returns-in-None-clause-len
-returns-in-None-clause-len c =
-    let g = c.args.leg in
+pub returns-clause-len : goal.returns-clause-len
+returns-clause-len c =
     let legs = c.args.legs.now.items in
-    let none : taken g ≡ None = sym (c.taken.ensures ∙ ap taken c.leg.ensures) ∙ c.in-None.is in
-    let may = subst (StaysAs legs g) none c.requires.may in
-    ap length c.set_leg.ensures.items ∙ bare-length g legs (legs-to legs c.requires.rising) may.0
+    ap length c.set_leg.ensures.items
+    ∙ stays-length c.args.leg legs (legs-to legs c.requires.rising) c.requires.may
 
-pub returns-in-None-clause-fit : goal.returns-in-None-clause-fit
-returns-in-None-clause-fit c =
-    let g = c.args.leg in
-    let legs = c.args.legs.now.items in
-    let none : taken g ≡ None = sym (c.taken.ensures ∙ ap taken c.leg.ensures) ∙ c.in-None.is in
-    let may = subst (StaysAs legs g) none c.requires.may in
-    rw c.set_leg.ensures.items (bare-fit g legs c.args.owner.now c.requires.fit none may.1)
+pub returns-clause-fit : goal.returns-clause-fit
+returns-clause-fit c =
+    let o = c.args.owner.now in
+    let after = c.remark.new.owner in
+    let just = subst (λ (h : Leg). MarksJust h.lsp (Some h) o after) c.leg.ensures c.remark.ensures in
+    rw c.set_leg.ensures.items
+    (stays-labels c.args.leg c.args.legs.now.items o after c.requires.fit c.requires.may just)

@@ -10,8 +10,8 @@ free-requires-clause-comes_in c =
     let o = c.args.owner.now in
     let l = c.args.leg.now.lsp in
     let t = c.in-Some.label in
-    claimed-comes o t.fibre t.label l
-    (subst (λ s. IfSome s (λ t. has_label o t.fibre t.label l ≡ true)) (sym c.in-Some.ensures) c.requires.claimed)
+    claimed-comes o.claims t.fibre t.label l
+    (subst (λ s. IfSome s (λ t. has_label o.claims t.fibre t.label l ≡ true)) (sym c.in-Some.ensures) c.requires.claimed)
 
 pub unguard-requires : goal.unguard-requires
 unguard-requires c =

@@ -14,8 +14,8 @@ free-requires-clause-claimed c =
     let legs = c.args.legs.now in
     let g = c.in-Some.leg.now in
     let found = sym c.in-Some.ensures in
-    subst (λ k. IfSome (taken g) (λ t. has_label o t.fibre t.label k ≡ true)) (sym (found-lsp l legs g found))
-    (subst (λ k. IfSome (taken_of k) (λ t. has_label o t.fibre t.label l ≡ true)) found
+    subst (λ k. IfSome (taken g) (λ t. has_label o.claims t.fibre t.label k ≡ true)) (sym (found-lsp l legs g found))
+    (subst (λ k. IfSome (taken_of k) (λ t. has_label o.claims t.fibre t.label l ≡ true)) found
     (claimed-here l legs o c.requires.fit.claims))
 
 pub free-requires-clause-guarded : goal.free-requires-clause-guarded

@@ -1,5 +1,5 @@
 use Rattle.std.proofs.Common.{◌∙◌, ap}
-use Rattle.link_owner.specs.Owners.{label_freed}
+use Rattle.link_owner.specs.Owners.{OwnerState, label_freed}
 use Rattle.leg_labels.proofs.Restored.{claimed-comes, claimed-freed, claimed-has}
 use Rattle.leg_labels.proofs.reserving.reserve.Goals as goal
 
@@ -17,6 +17,7 @@ pub returns-in-Err-clause-err : goal.returns-in-Err-clause-err
 returns-in-Err-clause-err c =
     let g = c.args.leg.now in
     let t = c.args.label.now in
+    let o = c.args.owner.now in
     c.free.ensures
-    ∙ ap (label_freed t.fibre t.label g.lsp) c.in_ok-claim.ensures.ok
-    ∙ claimed-freed g t c.args.owner.now c.requires.comes_in c.requires.new
+    ∙ ap (λ (s : OwnerState). record s { claims = label_freed t.fibre t.label g.lsp s.claims }) c.in_ok-claim.ensures.ok
+    ∙ ap (λ claims. record o { claims = claims }) (claimed-freed g t o c.requires.comes_in c.requires.new)

@@ -33,7 +33,7 @@ returns-in-Back c =
     subst (λ r. c.meet.result ≡ usable (local_of t) t.legs r risks f) (sym c.in-Back.is)
     (c.meet.ensures
     ∙ ap (λ labels. meet labels c.fitting.result) shared
-    ∙ ap (meet (shareable (labels_of f o) (claims_of f o))) c.fitting.ensures
+    ∙ ap (meet (shareable (labels_of f o.claims) (claims_of f o.claims))) c.fitting.ensures
     ∙ shared-usable (local_of t) t.legs risks o s f (legs-to t.legs c.rises.ensures.rising)
     (own-one-way t c.requires.legs) c.requires.node.labels c.requires.node.fibres
     (c.requires.node.fibres.fibres f ∙ c.requires.comes_in) within)

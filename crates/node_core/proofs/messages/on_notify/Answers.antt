@@ -7,7 +7,13 @@ use Rattle.node_core.proofs.messages.on_notify.Goals as goal
 
 pub returns-then-reports : goal.returns-then-reports
 returns-then-reports c =
-    let told = reported_here c.args.parts.now.tables.now c.args.parts.now.calls.now c.args.msg.now in
-    c.in_ok-answer_report.ensures ∙ ap (λ a. followed_by a told) c.nothing-change.ensures ∙ after-nothing told
-    ∙ ap (λ b. cond b told (pass_answer c.args.parts.now.tables.now c.args.from c.args.msg.now))
-    (sym (sym c.reports.ensures ∙ c.if-reports.true))
+    let t = c.args.parts.now.tables.now in
+    let m = c.args.msg.now in
+    let read = c.ingress_of in
+    let told = reported_here t c.args.parts.now.calls.now m in
+    c.in_ok-answer_report.ensures
+    ∙ ap (λ calls. followed_by c.nothing-change.result (reported_here read.result.tables.now calls m)) read.ensures.calls
+    ∙ ap (λ tables. followed_by c.nothing-change.result (reported_here tables c.args.parts.now.calls.now m))
+    read.ensures.tables
+    ∙ ap (λ a. followed_by a told) c.nothing-change.ensures ∙ after-nothing told
+    ∙ ap (λ b. cond b told (pass_answer t c.args.from m)) (sym (sym c.reports.ensures ∙ c.if-reports.true))

@@ -1,5 +1,5 @@
 use Rattle.std.proofs.Common.{◌∙◌}
-use Rattle.link_owner.specs.Claims.{is_armed, is_backup, is_working}
+use Rattle.link_owner.specs.Claims.{is_backup, is_working}
 use Rattle.link_owner.proofs.FreedLabels.{none-claimed}
 use Rattle.link_owner.proofs.free_labels.FreeLabels.all.Goals as goal
 
@@ -7,5 +7,4 @@ pub returns : goal.returns
 returns c = record {
   of_working = c.upto.ensures ∙ none-claimed is_working;
   of_backups = c.upto-2.ensures ∙ none-claimed is_backup;
-  of_armed = c.upto-3.ensures ∙ none-claimed is_armed;
 }

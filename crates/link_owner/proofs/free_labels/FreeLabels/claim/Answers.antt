@@ -1,6 +1,6 @@
 use Rattle.std.proofs.Common.{◌∙◌, ap, refl}
 use Rattle.ason_base.specs.Labels.{without}
-use Rattle.link_owner.specs.Claims.{is_armed, is_backup, is_working, working_claim}
+use Rattle.link_owner.specs.Claims.{is_backup, is_working, working_claim}
 use Rattle.link_owner.proofs.FreedLabels.{more-other, more-so}
 use Rattle.link_owner.proofs.free_labels.FreeLabels.claim.Goals as goal
 
@@ -13,5 +13,4 @@ returns c claims lsp free =
           c.without-self.ensures ∙ ap (λ labels. without labels x) free.of_working
           ∙ more-so is_working claims new refl;
       of_backups = free.of_backups ∙ more-other is_backup claims new refl;
-      of_armed = free.of_armed ∙ more-other is_armed claims new refl;
     }

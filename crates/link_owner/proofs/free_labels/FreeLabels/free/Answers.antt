@@ -1,8 +1,8 @@
 use Rattle.std.proofs.Common.{◌∙◌, ap, inl, inr, not, sym}
-use Rattle.link_owner.specs.Claims.{is_armed, is_backup, is_working}
+use Rattle.link_owner.specs.Claims.{is_backup, is_working}
 use Rattle.link_owner.proofs.FreedLabels.{freed-free}
 use Rattle.link_owner.proofs.free_labels.FreeLabels.free.Goals as goal
-use Rattle.link_owner.proofs.free_labels.FreeLabels.free.Goals.{then-has, else-has, then-has-2, else-has-2, then-has-3, else-has-3}
+use Rattle.link_owner.proofs.free_labels.FreeLabels.free.Goals.{then-has, else-has, then-has-2, else-has-2}
 
 pub returns : goal.returns
 returns c before lsp free is =
@@ -22,12 +22,5 @@ returns c before lsp free is =
           (elim c.if-has-2.branch [
             | then-has-2 w ↦ inl (sym c.has-2.ensures ∙ w.if-has-2.true, w.backups-is ∙ w.if-has-2.true)
             | else-has-2 w ↦ inr (w.backups-is ∙ ap not w.has_backup.ensures)
-          ]);
-      of_armed =
-          c.with_free-self-3.ensures
-          ∙ freed-free is_armed before after x lsp c.args.self.now.of_armed c.if-has-3.armed free.of_armed is
-          (elim c.if-has-3.branch [
-            | then-has-3 w ↦ inl (sym c.has-3.ensures ∙ w.if-has-3.true, w.armed-is ∙ w.if-has-3.true)
-            | else-has-3 w ↦ inr (w.armed-is ∙ ap not w.has_armed.ensures)
           ]);
     }

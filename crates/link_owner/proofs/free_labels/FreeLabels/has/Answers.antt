@@ -1,7 +1,7 @@
 use Rattle.std.proofs.Common.{◌∙◌, ap, refl, sym}
 use Rattle.ason_base.specs.Labels.{has as is_in}
-use Rattle.link_owner.specs.Claims.{is_armed, is_backup, is_working}
-use Rattle.link_owner.proofs.FreeLabelReads.{any-has, none-busy}
+use Rattle.link_owner.specs.Claims.{is_backup, is_working}
+use Rattle.link_owner.proofs.FreeLabelReads.{any-has}
 use Rattle.link_owner.proofs.FreedLabels.{none-has}
 use Rattle.link_owner.proofs.free_labels.FreeLabels.has.Goals as goal
 
@@ -20,12 +20,3 @@ returns-in-AnyWorking c claims free told =
     let works = none-has is_working claims x
     (ap (λ labels. is_in labels x) (sym free.of_working) ∙ sym c.has.ensures ∙ c.if-has.true) in
     rw (c.in-AnyWorking.is, works) refl
-
-pub returns-in-AnyInUseBeside : goal.returns-in-AnyInUseBeside
-returns-in-AnyInUseBeside c claims free told =
-    let x = c.args.label in
-    let works = none-has is_working claims x
-    (ap (λ labels. is_in labels x) (sym free.of_working) ∙ sym c.has.ensures ∙ c.if-has.true) in
-    let arms = none-has is_armed claims x
-    (ap (λ labels. is_in labels x) (sym free.of_armed) ∙ sym c.has-in-AnyInUseBeside.ensures ∙ told) in
-    rw (c.in-AnyInUseBeside.is, none-busy claims x c.in-AnyInUseBeside.field-0 works arms) refl

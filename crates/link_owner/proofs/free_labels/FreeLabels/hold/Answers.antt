@@ -1,6 +1,6 @@
 use Rattle.std.proofs.Common.{◌∙◌, ap, refl}
 use Rattle.ason_base.specs.Labels.{without}
-use Rattle.link_owner.specs.Claims.{backup_claim, is_armed, is_backup, is_working}
+use Rattle.link_owner.specs.Claims.{backup_claim, is_backup, is_working}
 use Rattle.link_owner.proofs.FreedLabels.{more-other, more-so}
 use Rattle.link_owner.proofs.free_labels.FreeLabels.hold.Goals as goal
 
@@ -13,5 +13,4 @@ returns c claims lsp free =
       of_backups =
           c.without-self.ensures ∙ ap (λ labels. without labels x) free.of_backups
           ∙ more-so is_backup claims new refl;
-      of_armed = free.of_armed ∙ more-other is_armed claims new refl;
     }

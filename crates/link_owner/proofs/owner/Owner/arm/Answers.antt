@@ -1,51 +1,42 @@
 use Rattle.std.proofs.Common.{subst}
 use Rattle.std.proofs.lemmas.Result.{on_ok_weaker}
-use Rattle.std.specs.Prelude.{IfErr, IfOk, map}
-use Rattle.link_owner.specs.Claims.{IsLeast, NoClaim, armed, is_busy}
-use Rattle.link_owner.proofs.FibrePlaces.{IsRead, put-back, read-claims}
+use Rattle.std.specs.Prelude.{IfErr, IfOk, IsTrue, Some, ◌≡◌}
+use Rattle.link_owner.specs.Marks.{is_open_to}
+use Rattle.link_owner.proofs.LitFibres.{IsLitAt, lights, read-lit}
 use Rattle.link_owner.proofs.owner.Owner.arm.Goals as goal
 
 pub returns-clause-ok : goal.returns-clause-ok
 returns-clause-ok c =
     let o = c.args.self.now in
     let r = c.index_mut.result.now in
-    let read : IsRead c.args.f o c.self.inside.fibres.items c.place-place.result r =
+    let read : IsLitAt c.args.f o c.self.inside.fibres.items c.self.inside.lit.items c.lit_place-place.result r =
     record {
-      there = c.requires.comes_in;
-      first = c.place-place.ensures.first;
-      read =
-          c.index_mut.ensures.value;
-      same = c.self.view_is;
+      first = c.lit_place-place.ensures.first;
+      read = c.index_mut.ensures.value;
+      view = c.self.view_is;
     } in
-    on_ok_weaker c.arm.result (λ e. put-back c.args.f o c.self.inside.fibres.items c.place-place.result r
-    c.arm.new.self (map (armed c.args.l c.args.lsp)) read e) c.arm.ensures.ok
+    on_ok_weaker c.arm.result (λ put. lights read c.args.l c.args.lsp c.arm.new.self put) c.arm.ensures.ok
 
-pub returns-clause-idle : goal.returns-clause-idle
-returns-clause-idle c =
+pub returns-clause-free : goal.returns-clause-free
+returns-clause-free c =
     let o = c.args.self.now in
     let r = c.index_mut.result.now in
-    let read : IsRead c.args.f o c.self.inside.fibres.items c.place-place.result r =
+    let read : IsLitAt c.args.f o c.self.inside.fibres.items c.self.inside.lit.items c.lit_place-place.result r =
     record {
-      there = c.requires.comes_in;
-      first = c.place-place.ensures.first;
-      read =
-          c.index_mut.ensures.value;
-      same = c.self.view_is;
+      first = c.lit_place-place.ensures.first;
+      read = c.index_mut.ensures.value;
+      view = c.self.view_is;
     } in
-    subst (λ claims. IfOk c.arm.result (λ _. NoClaim (is_busy c.args.l c.args.lsp) claims))
-    (read-claims c.args.f o c.self.inside.fibres.items c.place-place.result r read) c.arm.ensures.fitting
+    subst (λ k. IfOk c.arm.result (λ _. IsTrue (is_open_to c.args.lsp k))) (read-lit read c.args.l) c.arm.ensures.free
 
 pub returns-clause-busy : goal.returns-clause-busy
 returns-clause-busy c =
     let o = c.args.self.now in
     let r = c.index_mut.result.now in
-    let read : IsRead c.args.f o c.self.inside.fibres.items c.place-place.result r =
+    let read : IsLitAt c.args.f o c.self.inside.fibres.items c.self.inside.lit.items c.lit_place-place.result r =
     record {
-      there = c.requires.comes_in;
-      first = c.place-place.ensures.first;
-      read =
-          c.index_mut.ensures.value;
-      same = c.self.view_is;
+      first = c.lit_place-place.ensures.first;
+      read = c.index_mut.ensures.value;
+      view = c.self.view_is;
     } in
-    subst (λ claims. IfErr c.arm.result (λ b. IsLeast (is_busy c.args.l c.args.lsp) claims b.0))
-    (read-claims c.args.f o c.self.inside.fibres.items c.place-place.result r read) c.arm.ensures.busy
+    subst (λ k. IfErr c.arm.result (λ b. k ≡ Some b.0)) (read-lit read c.args.l) c.arm.ensures.busy

@@ -9,43 +9,40 @@ pub returns-clause-ok : goal.returns-clause-ok
 returns-clause-ok c =
     let o = c.args.self.now in
     let r = c.index_mut.result.now in
-    let read : IsRead c.args.f o c.self.inside.fibres.items c.place-place.result r =
+    let read : IsRead c.args.f o c.self.inside.fibres.items c.self.inside.lit.items c.place-place.result r =
     record {
       there = c.requires.comes_in;
       first = c.place-place.ensures.first;
-      read =
-          c.index_mut.ensures.value;
-      same = c.self.view_is;
+      read = c.index_mut.ensures.value;
+      view = c.self.view_is;
     } in
-    on_ok_weaker c.claim.result (λ e. put-back c.args.f o c.self.inside.fibres.items c.place-place.result r
-    c.claim.new.self (λ claims. claims ++ working_claim c.args.l c.args.lsp ∷ []) read e) c.claim.ensures.ok
+    on_ok_weaker c.claim.result
+    (λ e. put-back read c.claim.new.self (λ claims. claims ++ working_claim c.args.l c.args.lsp ∷ []) e) c.claim.ensures.ok
 
 pub returns-clause-free : goal.returns-clause-free
 returns-clause-free c =
     let o = c.args.self.now in
     let r = c.index_mut.result.now in
-    let read : IsRead c.args.f o c.self.inside.fibres.items c.place-place.result r =
+    let read : IsRead c.args.f o c.self.inside.fibres.items c.self.inside.lit.items c.place-place.result r =
     record {
       there = c.requires.comes_in;
       first = c.place-place.ensures.first;
-      read =
-          c.index_mut.ensures.value;
-      same = c.self.view_is;
+      read = c.index_mut.ensures.value;
+      view = c.self.view_is;
     } in
     subst (λ claims. IfOk c.claim.result (λ _. NoClaim (has c.args.l) claims))
-    (read-claims c.args.f o c.self.inside.fibres.items c.place-place.result r read) c.claim.ensures.fitting
+    (read-claims read) c.claim.ensures.fitting
 
 pub returns-clause-fault : goal.returns-clause-fault
 returns-clause-fault c =
     let o = c.args.self.now in
     let r = c.index_mut.result.now in
-    let read : IsRead c.args.f o c.self.inside.fibres.items c.place-place.result r =
+    let read : IsRead c.args.f o c.self.inside.fibres.items c.self.inside.lit.items c.place-place.result r =
     record {
       there = c.requires.comes_in;
       first = c.place-place.ensures.first;
-      read =
-          c.index_mut.ensures.value;
-      same = c.self.view_is;
+      read = c.index_mut.ensures.value;
+      view = c.self.view_is;
     } in
     subst (λ claims. IfErr c.claim.result (RefusedFor (has c.args.l) claims))
-    (read-claims c.args.f o c.self.inside.fibres.items c.place-place.result r read) c.claim.ensures.fault
+    (read-claims read) c.claim.ensures.fault

@@ -6,13 +6,12 @@ pub returns : goal.returns
 returns c =
     let o = c.args.self.now in
     let r = c.index_mut.result.now in
-    let read : IsRead c.args.f o c.self.inside.fibres.items c.place-place.result r =
+    let read : IsRead c.args.f o c.self.inside.fibres.items c.self.inside.lit.items c.place-place.result r =
     record {
       there = c.requires.comes_in;
       first = c.place-place.ensures.first;
-      read =
-          c.index_mut.ensures.value;
-      same = c.self.view_is;
+      read = c.index_mut.ensures.value;
+      view = c.self.view_is;
     } in
-    put-back c.args.f o c.self.inside.fibres.items c.place-place.result r c.free.new.self
-    (freed c.args.l c.args.lsp) read c.free.ensures
+    put-back read c.free.new.self
+    (freed c.args.l c.args.lsp) c.free.ensures

@@ -6,9 +6,11 @@ use Rattle.link_owner.proofs.owner.Owner.place.Goals as goal
 
 pub unreachable-requires : goal.unreachable-requires
 unreachable-requires c =
-    place-found c.args.f c.args.self.now c.requires
-    (sym (c.in-None.ensures ∙ ap (position (is_fibre c.args.f)) (c.deref.ensures.value ∙ c.self.view_is)))
+    place-found (is_fibre c.args.f) c.args.self.now.claims c.requires
+    (sym (c.in-None.ensures ∙ ap (position (is_fibre c.args.f)) c.deref.ensures.value
+    ∙ ap (λ o. position (is_fibre c.args.f) o.claims) c.self.view_is))
 
 pub returns-clause-first : goal.returns-clause-first
-returns-clause-first c = sym (c.in-Some.ensures ∙
-    ap (position (is_fibre c.args.f)) (c.deref.ensures.value ∙ c.self.view_is))
+returns-clause-first c =
+    sym (c.in-Some.ensures ∙ ap (position (is_fibre c.args.f)) c.deref.ensures.value
+    ∙ ap (λ o. position (is_fibre c.args.f) o.claims) c.self.view_is)

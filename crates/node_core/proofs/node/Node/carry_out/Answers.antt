@@ -7,8 +7,14 @@ use Rattle.node_core.proofs.node.Node.carry_out.Goals as goal
 pub carry_out-requires-clause-may : goal.carry_out-requires-clause-may
 carry_out-requires-clause-may c =
     let n = node_of c.self.inside.tables c.self.inside.calls in
-    answered-may n c.args.change c.self.invariant.0 c.self.invariant.1.labels.claims.live
-    (subst (λ m. IsAnswerOf m c.args.change) (sym c.self.view_is) c.requires)
+    (answered-may n c.args.change c.self.invariant.0
+    (subst (λ m. IsAnswerOf m c.args.change) (sym c.self.view_is) c.requires)).0
+
+pub carry_out-requires-clause-marks : goal.carry_out-requires-clause-marks
+carry_out-requires-clause-marks c =
+    let n = node_of c.self.inside.tables c.self.inside.calls in
+    (answered-may n c.args.change c.self.invariant.0
+    (subst (λ m. IsAnswerOf m c.args.change) (sym c.self.view_is) c.requires)).1
 
 pub carry_out-requires-clause-few : goal.carry_out-requires-clause-few
 carry_out-requires-clause-few c =

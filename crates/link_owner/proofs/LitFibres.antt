@@ -1,0 +1,216 @@
+-- The marks of a node's fibres: which there are, and one of them changed.
+use Rattle.std.proofs.Common.{◌≡◌, ◌+◌, ◌<◌, ℕ, zero, suc, Bool, true, false, cond, nat_eq, not, List, [], ◌∷◌, length, get_or, set, refl, sym, ap, subst, ◌∙◌, arith}
+use Rattle.std.specs.Prelude.{◌&&◌, ◌||◌, Option, Some, None, position}
+use Rattle.std.specs.List.{list_any, position_or_len}
+use Rattle.std.proofs.lemmas.List.Quantifiers.{position-Some}
+use Rattle.ason_base.specs.declared.ids.Fibre.{Fibre}
+use Rattle.ason_base.specs.declared.ids.Lsp.{Lsp}
+use Rattle.ason_base.specs.Lsps.{is_lsp, same_bool, same_fibre}
+use Rattle.link_owner.specs.Claims.{FibreClaims}
+use Rattle.link_owner.specs.Marks.{DarkensLabel, FibreMarks, LightsLabel, has_fibre, is_lit, is_marked_fibre, lit, lit_on}
+use Rattle.link_owner.specs.Owners.{DarkensJust, LightsJust, OwnerState}
+use Rattle.link_owner.proofs.FibrePlaces.{one_more, place-found, place_is}
+
+numbers : (a b : ℕ) → nat_eq a b ≡ true → a ≡ b
+numbers a b e = grind arith
+
+bools : (a b : Bool) → same_bool a b ≡ true → a ≡ b
+bools true true e = refl
+bools true false e = absurd (cc e)
+bools false true e = absurd (cc e)
+bools false false e = refl
+
+both : (a b : Bool) → (a && b) ≡ true → (a ≡ true) × (b ≡ true)
+both true b h = (refl, h)
+both false b h = absurd (cc h)
+
+same-fibre : (f g : Fibre) → same_fibre f g ≡ true → f ≡ g
+same-fibre f g e =
+    let h = both (nat_eq f.link.0 g.link.0) (same_bool f.forward g.forward) e in
+    let a : f.link.0 ≡ g.link.0 = numbers f.link.0 g.link.0 h.0 in
+    let b : f.forward ≡ g.forward = bools f.forward g.forward h.1 in
+    λ i. record { link = record { 0 = a i }; forward = b i }
+
+-- where one passes, some one does
+any-at : {X : Type 0} (p : X → Bool) (xs : List X) (i : ℕ) (d : X) → i < length xs → p (get_or xs i d) ≡ true →
+    list_any p xs ≡ true
+any-at p [] i d below passes = absurd (omega (arith, below))
+any-at p (x ∷ xs) zero d below passes = rw passes refl
+any-at p (x ∷ xs) (suc i) d below passes = or_last (p x) (any-at p xs i d (omega (arith, below)) passes)
+  where
+    or_last : (b : Bool) → list_any p xs ≡ true → (b || list_any p xs) ≡ true
+    or_last true later = refl
+    or_last false later = later
+
+-- a fibre that has a mark is the node's
+pub lit-there : (marks : List FibreMarks) (f : Fibre) (x : ℕ) (l : Lsp) → lit marks f x ≡ Some l →
+    has_fibre marks f ≡ true
+lit-there [] f x l e = absurd (cc e)
+lit-there (m ∷ marks) f x l e = go (is_marked_fibre f m) e (lit-there marks f x l)
+  where
+    go : (b : Bool) → cond b (lit_on x m) (lit marks f x) ≡ Some l →
+        (lit marks f x ≡ Some l → has_fibre marks f ≡ true) → (b || has_fibre marks f) ≡ true
+    go true e later = refl
+    go false e later = later e
+
+-- no mark is on a fibre that isn't there
+none-lit : (marks : List FibreMarks) (f : Fibre) (x : ℕ) → has_fibre marks f ≡ false → lit marks f x ≡ None
+none-lit [] f x e = refl
+none-lit (m ∷ marks) f x e = go (is_marked_fibre f m) e (none-lit marks f x)
+  where
+    go : (b : Bool) → (b || has_fibre marks f) ≡ false → (has_fibre marks f ≡ false → lit marks f x ≡ None) →
+        cond b (lit_on x m) (lit marks f x) ≡ None
+    go true e later = absurd (cc e)
+    go false e later = later e
+
+pub nowhere-lit : (marks : List FibreMarks) (f : Fibre) (x : ℕ) → position (is_marked_fibre f) marks ≡ None →
+    lit marks f x ≡ None
+nowhere-lit marks f x e = go (has_fibre marks f) refl
+  where
+    go : (b : Bool) → has_fibre marks f ≡ b → lit marks f x ≡ None
+    go true there = absurd (place-found (is_marked_fibre f) marks there e)
+    go false there = none-lit marks f x there
+
+-- the marks of a fibre, read at its place
+first-lit : (marks : List FibreMarks) (f : Fibre) (x : ℕ) (d : FibreMarks) → has_fibre marks f ≡ true →
+    lit_on x (get_or marks (position_or_len (is_marked_fibre f) marks) d) ≡ lit marks f x
+first-lit [] f x d h = absurd (cc h)
+first-lit (m ∷ marks) f x d h = go (is_marked_fibre f m) h (first-lit marks f x d)
+  where
+    n : ℕ
+    n = position_or_len (is_marked_fibre f) marks
+
+    go : (b : Bool) → (b || has_fibre marks f) ≡ true →
+        (has_fibre marks f ≡ true → lit_on x (get_or marks n d) ≡ lit marks f x) →
+        lit_on x (get_or (m ∷ marks) (cond (not b) (1 + n) 0) d) ≡ cond b (lit_on x m) (lit marks f x)
+    go true h later = refl
+    go false h later = rw (one_more n) (later h)
+
+-- other marks of the same fibre put there
+put-lit : (marks : List FibreMarks) (f g : Fibre) (y : ℕ) (s : FibreMarks) → has_fibre marks f ≡ true → s.fibre ≡ f →
+    lit (set marks (position_or_len (is_marked_fibre f) marks) s) g y
+    ≡ cond (same_fibre f g) (lit_on y s) (lit marks g y)
+put-lit [] f g y s h is = absurd (cc h)
+put-lit (m ∷ marks) f g y s h is = go (is_marked_fibre f m) refl h (put-lit marks f g y s)
+  where
+    n : ℕ
+    n = position_or_len (is_marked_fibre f) marks
+
+    here : (a : Bool) → cond a (lit_on y s) (lit marks g y)
+        ≡ cond a (lit_on y s) (cond a (lit_on y m) (lit marks g y))
+    here true = refl
+    here false = refl
+
+    later-put : is_marked_fibre f m ≡ false → (a b : Bool) → same_fibre m.fibre g ≡ a → same_fibre f g ≡ b →
+        cond a (lit_on y m) (cond b (lit_on y s) (lit marks g y))
+        ≡ cond b (lit_on y s) (cond a (lit_on y m) (lit marks g y))
+    later-put apart true true e k =
+        let there : m.fibre ≡ f = same-fibre m.fibre g e ∙ sym (same-fibre f g k) in
+        let both_there : same_fibre f g ≡ same_fibre m.fibre f = ap (same_fibre f) (sym (same-fibre f g k))
+        ∙ ap (λ h. same_fibre h f) (sym there) in
+        absurd (cc (k, both_there, apart))
+    later-put apart true false e k = refl
+    later-put apart false true e k = refl
+    later-put apart false false e k = refl
+
+    go : (b : Bool) → is_marked_fibre f m ≡ b → (b || has_fibre marks f) ≡ true →
+        (has_fibre marks f ≡ true → s.fibre ≡ f →
+        lit (set marks n s) g y ≡ cond (same_fibre f g) (lit_on y s) (lit marks g y)) →
+        lit (set (m ∷ marks) (cond (not b) (1 + n) 0) s) g y
+        ≡ cond (same_fibre f g) (lit_on y s) (cond (same_fibre m.fibre g) (lit_on y m) (lit marks g y))
+    go true first h later =
+        rw (is, same-fibre m.fibre f first) (here (same_fibre f g))
+    go false apart h later =
+        rw (one_more n, later h is)
+        (later-put apart (same_fibre m.fibre g) (same_fibre f g) refl refl)
+
+put-fibre : (marks : List FibreMarks) (f g : Fibre) (s : FibreMarks) → has_fibre marks f ≡ true → s.fibre ≡ f →
+    has_fibre (set marks (position_or_len (is_marked_fibre f) marks) s) g ≡ has_fibre marks g
+put-fibre [] f g s h is = absurd (cc h)
+put-fibre (m ∷ marks) f g s h is = go (is_marked_fibre f m) refl h (put-fibre marks f g s)
+  where
+    n : ℕ
+    n = position_or_len (is_marked_fibre f) marks
+
+    go : (b : Bool) → is_marked_fibre f m ≡ b → (b || has_fibre marks f) ≡ true →
+        (has_fibre marks f ≡ true → s.fibre ≡ f → has_fibre (set marks n s) g ≡ has_fibre marks g) →
+        has_fibre (set (m ∷ marks) (cond (not b) (1 + n) 0) s) g ≡ (same_fibre m.fibre g || has_fibre marks g)
+    go true first h later = ap (λ k. same_fibre k g || has_fibre marks g) (is ∙ sym (same-fibre m.fibre f first))
+    go false apart h later = rw (one_more n) (ap (λ b. same_fibre m.fibre g || b) (later h is))
+
+-- a fibre that was found, as it was read at its place; the owner has these claims and items
+pub record IsLitAt (f : Fibre) (o : OwnerState) (claims : List FibreClaims) (items : List FibreMarks) (i : ℕ)
+    (r : FibreMarks) : Type 0 where
+  pub first : position (is_marked_fibre f) o.marks ≡ Some i
+  pub read : r ≡ get_or items i r
+  pub view : record { claims = claims; marks = items } ≡ o
+
+module _ {f : Fibre} {o : OwnerState} {claims : List FibreClaims} {items : List FibreMarks} {i : ℕ} {r : FibreMarks}
+    (h : IsLitAt f o claims items i r) where
+  same : items ≡ o.marks
+  same = ap (λ p. p.marks) h.view
+
+  here : r ≡ get_or o.marks i r
+  here = h.read ∙ ap (λ xs. get_or xs i r) same
+
+  place : position_or_len (is_marked_fibre f) o.marks ≡ i
+  place = place_is (is_marked_fibre f) o.marks i h.first
+
+  found : (i < length o.marks) × (is_marked_fibre f (get_or o.marks i r) ≡ true)
+  found = let at = position-Some (is_marked_fibre f) o.marks i r h.first in (at.0, at.1)
+
+  there : has_fibre o.marks f ≡ true
+  there = any-at (is_marked_fibre f) o.marks i r found.0 found.1
+
+  its-fibre : r.fibre ≡ f
+  its-fibre = same-fibre r.fibre f (ap (is_marked_fibre f) here ∙ found.1)
+
+  pub read-lit : (x : ℕ) → lit_on x r ≡ lit o.marks f x
+  read-lit x =
+      ap (lit_on x) here
+      ∙ subst (λ j. lit_on x (get_or o.marks j r) ≡ lit o.marks f x) place (first-lit o.marks f x r there)
+
+  put-fibres : (s : FibreMarks) → s.fibre ≡ r.fibre → (g : Fibre) → has_fibre (set items i s) g ≡ has_fibre o.marks g
+  put-fibres s is g =
+      ap (λ xs. has_fibre (set xs i s) g) same
+      ∙ subst (λ j. has_fibre (set o.marks j s) g ≡ has_fibre o.marks g) place
+      (put-fibre o.marks f g s there (is ∙ its-fibre))
+
+  put-all : (s : FibreMarks) → s.fibre ≡ r.fibre → (g : Fibre) (y : ℕ) →
+      lit (set items i s) g y ≡ cond (same_fibre f g) (lit_on y s) (lit o.marks g y)
+  put-all s is g y =
+      ap (λ xs. lit (set xs i s) g y) same
+      ∙ subst (λ j. lit (set o.marks j s) g y ≡ cond (same_fibre f g) (lit_on y s) (lit o.marks g y)) place
+      (put-lit o.marks f g y s there (is ∙ its-fibre))
+
+  -- where a label passes, its mark on the fibre becomes this one; all else is as it was
+  put-just : (s : FibreMarks) (test : ℕ → Bool) (k : Option Lsp) → s.fibre ≡ r.fibre →
+      ((y : ℕ) → lit_on y s ≡ cond (test y) k (lit_on y r)) → (g : Fibre) (y : ℕ) →
+      lit (set items i s) g y ≡ cond (same_fibre f g && test y) k (lit o.marks g y)
+  put-just s test k is each g y = put-all s is g y ∙ go (same_fibre f g) refl
+    where
+      go : (b : Bool) → same_fibre f g ≡ b →
+          cond b (lit_on y s) (lit o.marks g y) ≡ cond (b && test y) k (lit o.marks g y)
+      go true e =
+          each y ∙ ap (λ m. cond (test y) k m) (read-lit y ∙ ap (λ j. lit o.marks j y) (same-fibre f g e))
+      go false e = refl
+
+  -- a mark that is set, and put back
+  pub lights : (x : ℕ) (l : Lsp) (s : FibreMarks) → LightsLabel x l r s →
+      LightsJust f x l o (record { claims = claims; marks = set items i s })
+  lights x l s put = record {
+    claims = ap (λ p. p.claims) h.view;
+    fibres = put-fibres s put.fibre;
+    lit = put-just s (λ y. nat_eq x y) (Some l) put.fibre put.lit;
+  }
+
+  -- one that is cleared
+  pub darkens : (x : ℕ) (l : Lsp) (s : FibreMarks) → DarkensLabel x l r s →
+      DarkensJust f x l o (record { claims = claims; marks = set items i s })
+  darkens x l s put = record {
+    claims = ap (λ p. p.claims) h.view;
+    fibres = put-fibres s put.fibre;
+    lit =
+        put-just s (λ y. nat_eq x y && is_lit o.marks f x l) None put.fibre
+        (λ y. put.lit y ∙ ap (λ k. cond (nat_eq x y && is_lsp k l) None (lit_on y r)) (read-lit x));
+  }

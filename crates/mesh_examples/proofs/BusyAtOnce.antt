@@ -1,0 +1,73 @@
+-- A run after which a call is stuck as soon as its working route is hit. Two calls from node 1 to node 2 have their
+-- working LSPs over links 1 and 2, and share the one label of link 3 for their backups. Link 1 fails, and the first
+-- backup is activated. Node 1 sends the label for it, so when link 2 fails too the second call is stuck without sending
+-- anything.
+use Rattle.std.proofs.Common.{◌≡◌, true, false, List, [], ◌∷◌, refl}
+use Rattle.std.specs.Prelude.{Some, None}
+use Rattle.ason_base.specs.Codes.{busy_code}
+use Rattle.ason_base.specs.Labels as labels
+use Rattle.ason_base.specs.Network.{Network}
+use Rattle.ason_base.specs.declared.calls.CallState.TheVariants.{Stuck, Turning}
+use Rattle.ason_base.specs.declared.calls.Cause.TheVariants.{Code, Unset}
+use Rattle.ason_base.specs.declared.calls.Phase.TheVariants.{Armed, Held, Live}
+use Rattle.mesh_rules.specs.declared.events.MeshEvent.{MeshEvent}
+use Rattle.mesh_rules.specs.Events.{after}
+use Rattle.mesh_rules.specs.Machine.{start}
+use Rattle.mesh_examples.proofs.Scene.{all_enabled, desk, fails_link, joins, leg, over, reported, Seen, seen, sets_up, spec, takes}
+
+abbrev network : Network
+network = record {
+  wait = 0;
+  nodes = spec 1 false ∷ spec 2 false ∷ [];
+  links = joins 1 1 2 1 [] ∷ joins 2 1 2 1 [] ∷ joins 3 1 2 1 [] ∷ [];
+}
+
+-- node 2 tells node 1 of each link that fails
+abbrev events : List MeshEvent
+events =
+    sets_up 1 1 2 (over 1 1 ∷ []) (over 1 3 ∷ [])
+    ∷ desk 1
+    ∷ takes 2 1
+    ∷ takes 1 2
+    ∷ takes 2 1
+    ∷ takes 1 2
+    ∷ sets_up 2 1 2 (over 1 2 ∷ []) (over 1 3 ∷ [])
+    ∷ desk 1
+    ∷ takes 2 1
+    ∷ takes 1 2
+    ∷ takes 2 1
+    ∷ takes 1 2
+    ∷ fails_link 1
+    ∷ desk 2
+    ∷ takes 1 2
+    ∷ fails_link 2
+    ∷ desk 2
+    ∷ takes 1 2
+    ∷ []
+
+-- the Path that activates the first backup is the only message from node 1 to node 2, whichever link it is over
+abbrev as_reached : Seen
+as_reached = record {
+  legs =
+      (leg 1 1 Live None (Some 1) 0 1 0
+      ∷ leg 1 2 Armed None (Some 1) 0 1 0
+      ∷ leg 1 3 Live None (Some 1) 0 1 0
+      ∷ leg 1 4 Held None (Some 1) 0 1 0 ∷ [])
+      ∷ (leg 1 1 Live (Some 1) None 1 0 0
+      ∷ leg 1 2 Held (Some 1) None 1 0 0
+      ∷ leg 1 3 Live (Some 1) None 1 0 0
+      ∷ leg 1 4 Held (Some 1) None 1 0 0 ∷ [])
+      ∷ [];
+  calls = (reported 1 Turning Unset 1 0 ∷ reported 2 Stuck (Code busy_code) 1 0 ∷ []) ∷ [] ∷ [];
+  known = 3 ∷ 3 ∷ [];
+  down = 0 ∷ 2 ∷ [];
+  mail = (1, 0) ∷ (1, 0) ∷ (1, 0) ∷ [];
+}
+
+enabled : all_enabled network start events ≡ true
+unfolding labels.numbers_from
+enabled = refl
+
+reached : seen network (after network start events) ≡ as_reached
+unfolding labels.numbers_from
+reached = refl

@@ -1,0 +1,223 @@
+-- Legs that use one label at a node share it, and so does a leg with a label that a Resv is about to give it: no fibre
+-- comes in for one leg and goes out for another.
+use Rattle.std.proofs.Common.{◌≡◌, ◌≢◌, ◌≤◌, ℕ, zero, suc, true, false, nat_eq, List, [], ◌∷◌, refl, sym, ap, subst, ◌∙◌, arith, inl, inr}
+use Rattle.std.specs.Prelude.{◌⊎◌, Option, Some, None}
+use Rattle.ason_base.specs.Lsps.{same_lsp}
+use Rattle.ason_base.specs.Network.{IsTopology, Network, receiver_of, sender_of}
+use Rattle.ason_base.specs.declared.ids.Fibre.{Fibre}
+use Rattle.ason_base.specs.declared.ids.LinkId.{LinkId}
+use Rattle.ason_base.specs.declared.ids.Lsp.{Lsp}
+use Rattle.ason_base.specs.declared.ids.NodeId.{NodeId}
+use Rattle.ason_base.specs.declared.messages.Msg.{Msg}
+use Rattle.ason_base.specs.declared.messages.Msg.TheVariants.{Resv}
+use Rattle.ason_base.specs.declared.steps.Step.{Step}
+use Rattle.ason_base.specs.declared.tables.Leg.{Leg}
+use Rattle.mesh_rules.specs.Legs.{connected, following, is_at, is_over, reverse_of, sends, takes, uses}
+use Rattle.mesh_rules.specs.Machine.{Mesh}
+use Rattle.mesh_nodes.proofs.Cases.{both_left, both_right}
+use Rattle.mesh_nodes.proofs.LabelPlaces.{at-is, either, none-at}
+use Rattle.mesh_nodes.proofs.LegList.{same_lsp-refl}
+use Rattle.mesh_laws.specs.HeardLaw.{heard, sends_of}
+use Rattle.mesh_laws.specs.HopLaw.{leg_at}
+use Rattle.mesh_laws.specs.LabelLaw.{MayShare, MaySend}
+use Rattle.mesh_laws.proofs.hops.Chain.{LegFits}
+use Rattle.mesh_laws.proofs.hops.LegChanges.{following_is}
+use Rattle.mesh_laws.proofs.hops.Planned.{Follows, Planned, Routes}
+use Rattle.mesh_laws.proofs.hops.Plans.{Plan, distinct, fibre_at, hops, node_at, plan, same_node}
+use Rattle.mesh_laws.proofs.hops.Purposes.{Purpose}
+use Rattle.mesh_laws.proofs.nodes.Facts.{LegFacts, SharesAll}
+use Rattle.mesh_laws.proofs.nodes.LegParts.{taken}
+use Rattle.mesh_laws.proofs.nodes.Marks.{other, used-at}
+use Rattle.mesh_laws.proofs.sent.Ends.{receiver-at, sender-at}
+use Rattle.mesh_laws.proofs.sent.Law.{may-send, sent-shared}
+use Rattle.mesh_laws.proofs.sent.Sound.{Sound, standing}
+use Rattle.mesh_laws.proofs.sent.Standing.{Standing, ends-of}
+use Rattle.mesh_laws.proofs.sent.Takes.{out-place}
+
+some-is : {X : Type 0} (x y : X) → Some x ≡ Some y → x ≡ y
+some-is x y e = cc e
+
+same_number : (a b : ℕ) → nat_eq a b ≡ true → a ≡ b
+same_number a b e = grind arith
+
+number-same : (a b : ℕ) → a ≡ b → nat_eq a b ≡ true
+number-same a b e = grind arith
+
+-- the fibre leads from n to u, over this link
+record Onward (t : Network) (f : Fibre) (n u : NodeId) (k : LinkId) : Type 0 where
+  apart : n.0 ≢ u.0
+  sender : sender_of t f ≡ Some n
+  receiver : receiver_of t f ≡ Some u
+  link : f.link.0 ≡ k.0
+
+module _ (t : Network) (o w : Routes) (s : Mesh) (now : Standing t o w s) where
+  facts-of : (l : Lsp) (n : NodeId) (g : Leg) → leg_at s l n ≡ Some g → LegFacts n.0 (s.nodes n.0).lsp g
+  facts-of l n g here = (now.facts.node n.0).leg l g here
+
+  -- where a leg stands along its LSP's route
+  record Place (l : Lsp) (n : NodeId) (g : Leg) : Type 0 where
+    purpose : Purpose
+    way : Plan
+    planned : Planned t s o l purpose way
+    place : ℕ
+    small : place ≤ hops way
+    here : n ≡ node_at way place
+    fits : LegFits t purpose l way place g
+
+  place-of : (l : Lsp) (n : NodeId) (g : Leg) → leg_at s l n ≡ Some g → Place l n g
+  place-of l n g here = go (o l) (now.follows l)
+    where
+      go : (c : Option (List Step)) → Follows t s o l c → Place l n g
+      go None f = absurd (let none = f.legs n in cc (none, here))
+      go (Some route) (e, q, pl) = elim (pl.chain.legs n) [
+        | inl none ↦ absurd (cc (none, here))
+        | inr (i, small, at_n) ↦ (let is : n ≡ node_at (plan route e) i = same_node n (node_at (plan route e) i) at_n in
+            let there : leg_at s l (node_at (plan route e) i) ≡ Some g = subst (λ m. leg_at s l m ≡ Some g) is here in
+            record {
+              purpose = q;
+              way = plan route e;
+              planned = pl;
+              place = i;
+              small = small;
+              here = is;
+              fits = rw there at (pl.chain.fits i small);
+            })
+      ]
+
+  -- a leg that takes a label is at the end of the fibre
+  pub takes-to : (f : Fibre) (x : ℕ) (l : Lsp) (n : NodeId) (g : Leg) → leg_at s l n ≡ Some g → takes f x g ≡ true →
+      receiver_of t f ≡ Some n
+  takes-to f x l n g here this = go at.place at.small at.here at.fits
+    where
+      at : Place l n g
+      at = place-of l n g here
+
+      enters : g.in_fibre ≡ Some f
+      enters = (taken n.0 (s.nodes n.0).lsp f x g (facts-of l n g here) this).fibre
+
+      go : (i : ℕ) → i ≤ hops at.way → n ≡ node_at at.way i → LegFits t at.purpose l at.way i g →
+          receiver_of t f ≡ Some n
+      go zero small is fits = absurd (let none = fits.in_fibre in cc (none, enters))
+      go (suc i) small is fits =
+          let route = at.planned.route in
+          let fibre : fibre_at t at.way i ≡ f = some-is _ _ (sym fits.in_fibre ∙ enters) in
+          let near = distinct t l.ingress at.way route i (suc i) (omega arith) (omega arith) (omega arith) in
+          subst (λ h. receiver_of t h ≡ Some n) fibre
+          (receiver-at t at.way i near (route.links i (omega arith)) ∙ ap Some (sym is))
+
+  -- a leg with a fibre out is at its beginning, and a message from over it is from its end
+  onward : (f : Fibre) (l : Lsp) (n u : NodeId) (k : LinkId) (g : Leg) → leg_at s l n ≡ Some g →
+      g.out_fibre ≡ Some f → is_over (following g) u k ≡ true → Onward t f n u k
+  onward f l n u k g here leaves over =
+      let at = place-of l n g here in
+      let p = at.way in
+      let i = at.place in
+      let route = at.planned.route in
+      let out = out-place t p i f (sym at.fits.out_fibre ∙ leaves) in
+      let small = out.0 in
+      let near = distinct t l.ingress p route i (suc i) (omega arith) (omega arith) (omega arith) in
+      let next : following g ≡ Some (record { node = node_at p (suc i); fibre = fibre_at t p i }) =
+      following_is t at.purpose l p i g at.fits out.0 in
+      let test : is_over (Some (record { node = node_at p (suc i); fibre = fibre_at t p i })) u k ≡ true =
+      subst (λ h. is_over h u k ≡ true) next over in
+      let node : nat_eq (node_at p (suc i)).0 u.0 ≡ true = both_left _ (nat_eq (fibre_at t p i).link.0 k.0) test in
+      let number : nat_eq (fibre_at t p i).link.0 k.0 ≡ true = both_right (nat_eq (node_at p (suc i)).0 u.0) _ test in
+      let to : (node_at p (suc i)).0 ≡ u.0 = same_number (node_at p (suc i)).0 u.0 node in
+      let link : (fibre_at t p i).link.0 ≡ k.0 = same_number (fibre_at t p i).link.0 k.0 number in
+      record {
+        apart = λ same. near (sym (ap (λ m. m.0) at.here) ∙ same ∙ sym to);
+        sender = subst (λ h. sender_of t h ≡ Some n) out.1
+            (sender-at t p i near (route.links i out.0) ∙ ap Some (sym at.here));
+        receiver = subst (λ h. receiver_of t h ≡ Some u) out.1
+            (receiver-at t p i near (route.links i out.0) ∙ ap Some (same_node (node_at p (suc i)) u to));
+        link = subst (λ (h : Fibre). h.link.0 ≡ k.0) out.1 link;
+      }
+
+  -- no fibre comes in for one leg and goes out for another
+  one-side : (f : Fibre) (x : ℕ) (n : NodeId) (l m : Lsp) (g h : Leg) → leg_at s l n ≡ Some g →
+      leg_at s m n ≡ Some h → takes f x g ≡ true → sends f x h ≡ true → ⊥
+  one-side f x n l m g h at_l at_m this that =
+      let ends = ends-of t o w s now f x m n h at_m that in
+      ends.apart (ap (λ k. k.0) (some-is n ends.to (sym (takes-to f x l n g at_l this) ∙ ends.receiver)))
+
+  -- so of two legs that use a label both take it, or both send it
+  pub uses-alike : (f : Fibre) (x : ℕ) (n : NodeId) (l m : Lsp) (g h : Leg) → leg_at s l n ≡ Some g →
+      leg_at s m n ≡ Some h → uses f x g ≡ true → uses f x h ≡ true →
+      ((takes f x g ≡ true) × (takes f x h ≡ true)) ⊎ ((sends f x g ≡ true) × (sends f x h ≡ true))
+  uses-alike f x n l m g h at_l at_m this that =
+      go (either (takes f x g) (sends f x g) this) (either (takes f x h) (sends f x h) that)
+    where
+      go : (takes f x g ≡ true) ⊎ (sends f x g ≡ true) → (takes f x h ≡ true) ⊎ (sends f x h ≡ true) →
+          ((takes f x g ≡ true) × (takes f x h ≡ true)) ⊎ ((sends f x g ≡ true) × (sends f x h ≡ true))
+      go (inl a) (inl b) = inl (a, b)
+      go (inr a) (inr b) = inr (a, b)
+      go (inl a) (inr b) = absurd (one-side f x n l m g h at_l at_m a b)
+      go (inr a) (inl b) = absurd (one-side f x n m l h g at_m at_l b a)
+
+-- Sharing
+
+module _ (t : Network) (o w : Routes) (s : Mesh) (now : Sound t o w s) (valid : IsTopology t) (n : NodeId) where
+  abbrev stands : Standing t o w s
+  stands = standing t o w s now
+
+  shared-by : (g h : Leg) → MaySend t g h → MayShare g h
+  shared-by g h may = record { backups = may.backups; apart = may.apart valid }
+
+  -- a leg that stands shares each label that it uses
+  pub leg-shares : (l : Lsp) (g : Leg) → leg_at s l n ≡ Some g → g.lsp ≡ l → SharesAll (s.nodes n.0).legs g
+  leg-shares l g at_l own f x m h apart at_m this that =
+      elim (uses-alike t o w s stands f x n l m g h at_l at_m this that) [
+        | inl (a, b) ↦ elim ((now.facts.node n.0).labels f x l m g h at_l at_m a b) [
+          | inl same ↦ other g.lsp m (MayShare g h) apart (own ∙ same)
+          | inr shares ↦ shares
+        ]
+        | inr (a, b) ↦ shared-by g h (sent-shared t o w s now n l m g h at_l at_m
+            (λ same. other g.lsp m ⊥ apart (own ∙ same)) f x a b)
+      ]
+
+  -- and so does one with the label of the Resv that is the next message from over its link
+  module _ (l : Lsp) (e u : NodeId) (k : LinkId) (y : ℕ) (rest : List Msg)
+      (was : s.mail u.0 n.0 ≡ Resv l e k y ∷ rest) (g : Leg) (at_l : leg_at s l n ≡ Some g) (own : g.lsp ≡ l)
+      (over : is_over (following g) u k ≡ true) where
+    gift-shared : (f : Fibre) (m : Lsp) (h : Leg) → same_lsp g.lsp m ≡ false → leg_at s m n ≡ Some h →
+        g.out_fibre ≡ Some f → uses f y h ≡ true → MayShare (connected g None y) h
+    gift-shared f m h apart at_m leaves that = elim (either (takes f y h) (sends f y h) that) [
+      | inl taking ↦ (let here = takes-to t o w s stands f y m n h at_m taking in
+          let to : n ≡ u = some-is n u (sym here ∙ on.receiver) in
+          absurd (on.apart (ap (λ v. v.0) to)))
+      | inr sending ↦ elim (now.lawful f y n u on.apart on.sender on.receiver (Resv l e k y ∷ []) rest (sym was) l m
+          given (still sending)) [
+            | inl same ↦ other g.lsp m (MayShare (connected g None y) h) apart (own ∙ same)
+            | inr share ↦ (let may = shared-by g h (may-send t o w s now n l m g h at_l at_m share) in
+                record { backups = may.backups; apart = may.apart })
+          ]
+    ]
+      where
+        on : Onward t f n u k
+        on = onward t o w s stands f l n u k g at_l leaves over
+
+        given : heard f y l (Resv l e k y ∷ []) (sends_of f y (leg_at s l n)) ≡ true
+        given =
+            let number = number-same k.0 f.link.0 (sym on.link) in
+            let label = number-same y y refl in rw (same_lsp-refl l, number, label) refl
+
+        still : sends f y h ≡ true → heard f y m (Resv l e k y ∷ []) (sends_of f y (leg_at s m n)) ≡ true
+        still sending =
+            let apart' : same_lsp l m ≡ false = subst (λ v. same_lsp v m ≡ false) own apart in
+            rw (apart', at_m, sending) refl
+
+    pub gift-shares : SharesAll (s.nodes n.0).legs (connected g None y)
+    gift-shares f x m h apart at_m this that =
+        used-at (MayShare (connected g None y) h) (connected g None y) f x this
+        (λ on. absurd (let none = none-at g.in_fibre f x in cc (none, on)))
+        (λ on. absurd (never (reverse_of g.out_fibre) g.back_in facts.back_in on))
+        (λ on. let is = at-is g.out_fibre (Some y) f x on in
+        let label : y ≡ x = some-is y x is.1 in
+        gift-shared f m h apart at_m is.0 (subst (λ z. uses f z h ≡ true) (sym label) that))
+        (λ on. absurd (never (reverse_of g.in_fibre) g.back_out facts.back_out on))
+      where
+        facts : LegFacts n.0 (s.nodes n.0).lsp g
+        facts = facts-of t o w s stands l n g at_l
+
+        never : (at : Option Fibre) (label : Option ℕ) → label ≡ None → is_at at label f x ≡ true → ⊥
+        never at label none on = let is = (at-is at label f x on).1 in cc (none, is)
