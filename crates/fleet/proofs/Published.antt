@@ -27,7 +27,7 @@ use Rattle.fleet.proofs.Places.{zip-self}
 
 -- Nothing differs but what is published
 
-abbrev SameBut : StationState → StationState → Type 0
+abbrev pub SameBut : StationState → StationState → Type 0
 SameBut x y = y ≡ with_publisher x y.publisher
 
 same-but : (x y : StationState) → MayPublish x y → SameBut x y
@@ -60,7 +60,7 @@ told_at t lines r w n x y is same =
     })
 
 -- and stand for the same records
-published-stands : (t : Network) (lines : List Disturb) (f : FleetState) (r : Record) (ys : List StationState) →
+pub published-stands : (t : Network) (lines : List Disturb) (f : FleetState) (r : Record) (ys : List StationState) →
     AllZip SameBut f.stations ys → StandsFor t lines f r → StandsFor t lines (record f { stations = ys }) r
 published-stands t lines f r ys all s = record {
   seats = s.seats;

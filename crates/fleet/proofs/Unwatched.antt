@@ -1,4 +1,5 @@
--- What is published stays where stations are joined, looked at or told of posts; new stations publish nothing.
+-- What is published stays where stations are joined or looked at, and so does what is shown where they are told of posts;
+-- new stations publish nothing.
 use Rattle.std.proofs.Common.{◌≡◌, ◌<◌, ℕ, List, [], ◌∷◌, ◌++◌, length, map, refl, sym, ap, subst, ◌∙◌}
 use Rattle.std.specs.Prelude.{None, Option, slice_set}
 use Rattle.std.specs.List.{AllZip}
@@ -15,7 +16,8 @@ use Rattle.fleet.specs.Commands.{but_room}
 use Rattle.fleet.specs.Joining.{HasMore}
 use Rattle.fleet.specs.Looks.{HaveMet}
 use Rattle.fleet.specs.Posting.{TakeItems, TakesOrder, with_clock}
-use Rattle.fleet.specs.Views.{AreUnwatched, publishers_of}
+use Rattle.station.specs.Watched.{shown_of}
+use Rattle.fleet.specs.Views.{AreUnwatched, publishers_of, shown_by}
 use Rattle.fleet.proofs.Places.{get-map, map-back, map-set, set-back}
 use Rattle.fleet.proofs.Taking.{same-places, there-at, within-at}
 
@@ -49,30 +51,30 @@ map_map : {X Y Z : Type 0} (f : X → Y) (g : Y → Z) (xs : List X) → map g (
 map_map f g [] = refl
 map_map f g (x ∷ xs) = ap (λ zs. g (f x) ∷ zs) (map_map f g xs)
 
-abbrev publisher : StationState → Option PublisherState
-publisher s = s.publisher
-
 -- stations with more room
-pub room-publishers : (xs ys : List StationState) → map but_room ys ≡ map but_room xs →
-    publishers_of ys ≡ publishers_of xs
-room-publishers xs ys same =
-    sym (map_map but_room publisher ys) ∙ ap (map publisher) same ∙ map_map but_room publisher xs
+pub room-shown : (xs ys : List StationState) → map but_room ys ≡ map but_room xs →
+    shown_by ys ≡ shown_by xs
+room-shown xs ys same =
+    sym (map_map but_room shown_of ys) ∙ ap (map shown_of) same ∙ map_map but_room shown_of xs
 
 -- with items on their desks
-pub items-publishers : (items : NodeId → List DeskItem) (stamp : ℕ) (seats : List Seat) (xs ys : List StationState) →
-    length xs ≡ length seats → TakeItems items stamp seats xs ys → publishers_of ys ≡ publishers_of xs
-items-publishers items stamp seats xs ys count take =
-    same-places publisher xs ys take.count (λ place x y was is.
+pub items-shown : (items : NodeId → List DeskItem) (stamp : ℕ) (seats : List Seat) (xs ys : List StationState) →
+    length xs ≡ length seats → TakeItems items stamp seats xs ys → shown_by ys ≡ shown_by xs
+items-shown items stamp seats xs ys count take =
+    same-places shown_of xs ys take.count (λ place x y was is.
     (let n = there-at seats place (subst (λ k. place < k) count (within-at xs place x was)) in
-    ap publisher (take.each place n.0 x y n.1 was is).station))
+    ap shown_of (take.each place n.0 x y n.1 was is).station))
 
-pub order-publishers : (place : ℕ) (item : DeskItem) (stamp : ℕ) (xs ys : List StationState) →
-    TakesOrder place item stamp xs ys → publishers_of ys ≡ publishers_of xs
-order-publishers place item stamp xs ys take =
-    ap (map publisher) take.clocks ∙ map_map (with_clock stamp) publisher take.put
-    ∙ ap (map publisher) take.is_put.stations
-    ∙ map-back publisher xs place take.is_put.before take.is_put.after take.is_put.there
-    (ap publisher take.is_put.told.station)
+pub order-shown : (place : ℕ) (item : DeskItem) (stamp : ℕ) (xs ys : List StationState) →
+    TakesOrder place item stamp xs ys → shown_by ys ≡ shown_by xs
+order-shown place item stamp xs ys take =
+    ap (map shown_of) take.clocks ∙ map_map (with_clock stamp) shown_of take.put
+    ∙ ap (map shown_of) take.is_put.stations
+    ∙ map-back shown_of xs place take.is_put.before take.is_put.after take.is_put.there
+    (ap shown_of take.is_put.told.station)
+
+abbrev publisher : StationState → Option PublisherState
+publisher s = s.publisher
 
 -- Stations that aren't watched
 

@@ -6,7 +6,7 @@ use Rattle.ason_base.specs.declared.ids.NodeId.{NodeId}
 use Rattle.mgmt_view.specs.Publishing.{PublisherState}
 use Rattle.mgmt_view.specs.Viewing.{ViewerState}
 use Rattle.station_doings.specs.States.{StationState}
-use Rattle.station.specs.Watched.{IsUnpublished, MayWaitBy, Watches, published_by, publishing, table_of}
+use Rattle.station.specs.Watched.{IsUnpublished, MayWaitBy, ShowsNoiseMore, Shown, Watches, published_by, publishing, shown_of, table_of}
 use Rattle.station.specs.declared.watching.WatchFault.{WatchFault}
 use Rattle.fleet.specs.declared.fleet.RoundFault.{RoundFault}
 use Rattle.fleet.specs.declared.fleet.RoundFault.TheVariants as fault
@@ -16,6 +16,14 @@ use Rattle.fleet.specs.Standing.{FleetState}
 -- what each station has published, where it is watched
 abbrev pub publishers_of : List StationState → List (Option PublisherState)
 publishers_of stations = map (λ (s : StationState). s.publisher) stations
+
+-- what a table of each station is of, and what it has published
+abbrev pub shown_by : List StationState → List Shown
+shown_by stations = map shown_of stations
+
+-- each node is as it was, and at most noise was written
+abbrev pub ShowNoiseMore : List StationState → List StationState → Type 0
+ShowNoiseMore old new = AllZip ShowsNoiseMore old new
 
 -- no node is watched
 abbrev pub AreUnwatched : List StationState → Type 0

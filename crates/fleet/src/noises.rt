@@ -5,7 +5,8 @@ ghost use Rattle.flood.specs.Frames.{SpellsNothing};
 ghost use Rattle.world_rules.specs.Runs.{is_channel};
 ghost use Rattle.fleet.specs.Commands.{Disturbs, Noises, is_full};
 ghost use Rattle.fleet.specs.Noises.{HasLine, Hears, sent_on};
-ghost use Rattle.fleet.specs.Views.{publishers_of};
+ghost use Rattle.station.specs.Watched.{ShowsNoiseMore};
+ghost use Rattle.fleet.specs.Views.{ShowNoiseMore, shown_by};
 
 use crate::fleet::Fleet;
 use crate::posts::place_of;
@@ -33,7 +34,7 @@ fn put_line(stations: &mut [Station], place: usize, line: Disturb) -> Result<(),
     requires { place < length stations.old }
     ensures ok { OnOk result (HasLine line place stations.old stations.new) }
     ensures err { OnErr result (stations.new ≡ stations.old) }
-    ensures publishers { publishers_of stations.new ≡ publishers_of stations.old }
+    ensures shown { shown_by stations.new ≡ shown_by stations.old }
 {
     stations[place].disturb(line)
 }
@@ -45,7 +46,7 @@ fn hear(station: &mut Station, from: NodeId, bytes: &[u8]) -> Result<(), OutOfMe
     ensures ok { OnOk result (Hears from bytes.now station.old station.new) }
     ensures err { OnErr result (station.new ≡ station.old) }
     ensures links { station.new.links ≡ station.old.links }
-    ensures publisher { station.new.publisher ≡ station.old.publisher }
+    ensures shown { ShowsNoiseMore station.old station.new }
 {
     if station.made() == MOST_LINES || station.clock() == u64::MAX {
         return Err(OutOfMemory);
@@ -63,7 +64,7 @@ impl Fleet {
         requires few { line.now.k ≤ 65535 }
         ensures on { OnOk result (Disturbs line.now self.old self.new) }
         ensures err { OnErr result (self.new ≡ self.old) }
-        ensures publishers { publishers_of self.new.stations ≡ publishers_of self.old.stations }
+        ensures shown { shown_by self.new.stations ≡ shown_by self.old.stations }
     {
         let sent = sent_on(&self.seats, &self.stations, line.from, line.to);
         match (sent, place_of(&self.seats, line.to)) {
@@ -95,7 +96,7 @@ impl Fleet {
         requires room { is_full to self.old ≡ false }
         ensures on { OnOk result (Noises from to bytes.now self.old self.new) }
         ensures err { OnErr result (self.new ≡ self.old) }
-        ensures publishers { publishers_of self.new.stations ≡ publishers_of self.old.stations }
+        ensures shown { ShowNoiseMore self.old.stations self.new.stations }
     {
         match place_of(&self.seats, to) {
             None => Ok(()),

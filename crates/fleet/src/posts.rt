@@ -6,7 +6,7 @@ ghost use Rattle.world_core.specs.Replays.{ingress_of};
 ghost use Rattle.fleet.specs.Commands.{IsAsBefore, Posts, StandsOn, but_room, is_seat};
 ghost use Rattle.fleet.specs.Posting.{Changes, HaveRoom, IsPut, Orders, TakeItems, TakesOrder};
 ghost use Rattle.fleet.specs.Posting.{greatest_of, news_for, post_of, with_clock};
-ghost use Rattle.fleet.specs.Views.{publishers_of};
+ghost use Rattle.fleet.specs.Views.{shown_by};
 
 use crate::fleet::Fleet;
 use crate::seats::Seat;
@@ -138,7 +138,7 @@ impl Fleet {
         requires stamp { stamp ≡ greatest_of self.old.stations + 1 }
         ensures on { OnOk result (Orders ingress command.now stamp self.old self.new) }
         ensures err { OnErr result (IsAsBefore self.old self.new) }
-        ensures publishers { publishers_of self.new.stations ≡ publishers_of self.old.stations }
+        ensures shown { shown_by self.new.stations ≡ shown_by self.old.stations }
     {
         match place_of(&self.seats, ingress) {
             None => Ok(()),
@@ -158,7 +158,7 @@ impl Fleet {
         requires { stamp ≡ greatest_of self.old.stations + 1 }
         ensures on { OnOk result (Changes command.now stamp self.old self.new) }
         ensures err { OnErr result (IsAsBefore self.old self.new) }
-        ensures publishers { publishers_of self.new.stations ≡ publishers_of self.old.stations }
+        ensures shown { shown_by self.new.stations ≡ shown_by self.old.stations }
     {
         let failed = failed_after(self.alloc, &self.failed, command)?;
         let line = line_of(self.alloc, stamp, command)?;
@@ -183,7 +183,7 @@ impl Fleet {
         ensures on { OnOk result (Posts command.now self.old self.new) }
         ensures same { OnErr result (IsAsBefore self.old self.new) }
         ensures err { OnErr result (StandsOn self.old self.new) }
-        ensures publishers { publishers_of self.new.stations ≡ publishers_of self.old.stations }
+        ensures shown { shown_by self.new.stations ≡ shown_by self.old.stations }
     {
         let greatest = greatest_clock(&self.stations);
         if self.posts.len() >= MOST_POSTS || greatest == u64::MAX {

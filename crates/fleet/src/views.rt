@@ -1,8 +1,9 @@
 //! Views of nodes that are watched, beside the rounds.
 
-ghost use Rattle.std.specs.Prelude.{◌≡◌, IfOk, OnOk, map};
+ghost use Rattle.std.specs.Prelude.{◌≡◌, IfOk, OnOk, is_some, map, position};
 ghost use Rattle.std.specs.List.{AllZip};
 ghost use Rattle.station.specs.Watched.{publishing, tables_by};
+ghost use Rattle.fleet.specs.Commands.{is_seat};
 ghost use Rattle.fleet.specs.Views.{IsNode, MayPublish, WatchesAt, publisher_of};
 
 use crate::fleet::Fleet;
@@ -24,6 +25,13 @@ pub(crate) fn publish_all<R: Wait>(rt: &R, stations: &mut [Station]) -> Result<(
 }
 
 impl Fleet {
+    /// Whether the node has a station.
+    pub fn has(&self, node: NodeId) -> bool
+        ensures { result ≡ is_some (position (is_seat node) self.now.seats) }
+    {
+        place_of(&self.seats, node).is_some()
+    }
+
     /// From now on the node is watched: its table is published, and the viewer keeps it. It may wait for the viewer.
     /// It is refused exactly where the node is watched, or memory is wanting.
     pub fn watch<R: Wait>(&mut self, rt: &R, node: NodeId) -> Result<Viewer, WatchFault>

@@ -139,4 +139,15 @@ impl Viewer {
         }
         self.is_new = is_new;
     }
+
+    /// Learns the token and reads: the last table of which the token tells. After want of memory the token is learnt all
+    /// the same.
+    pub fn read_told(&mut self, alloc: Global, token: Told) -> Result<NodeTable, OutOfMemory>
+        ensures last { IfOk result (EndsWith token) }
+        ensures learnt { HasLearnt self.old token self.new }
+    {
+        let copy = token.table.copy(alloc);
+        self.learn(token);
+        copy
+    }
 }

@@ -14,7 +14,7 @@ use Rattle.mesh_nodes.specs.LocalNodes.{is_neighbour}
 use Rattle.mesh_rules.specs.LocalNodes.{LocalNode}
 use Rattle.control_channels.specs.declared.frames.Frame.{Frame}
 use Rattle.control_channels.specs.declared.inputs.CoreInput.TheVariants as input
-use Rattle.control_channels.specs.Controllers.{ControllerState, IsStep}
+use Rattle.control_channels.specs.Controllers.{Becomes, ControllerState, IsStep, meaning}
 use Rattle.station_rings.specs.LinkStates.{LinkState}
 use Rattle.station_doings.specs.Entered.{HasEntered, me_of}
 use Rattle.station_doings.specs.Moves.{IsSentOver}
@@ -104,7 +104,13 @@ heard u bytes old new nothing some links r = record {
   links = links;
   lines = r.lines;
   grows = ap length r.log ∙ length-append old.log _;
+  node = λ i. record { place = (idle.place i); state = (idle.state i) };
+  log = (record { stamp = old.clock + 1; node = Some (me_of old); event = Noise (me_of old) u bytes }, refl, r.log);
 }
   where
+    idle : Becomes old.controller.node new.controller.node old.controller.adjacencies new.controller.adjacencies
+        (meaning old.controller.node old.controller.adjacencies)
+    idle = (r.step.reaction.1 nothing).made.becomes
+
     l : LeadsTo u old.links
     l = leads-to u old.links some

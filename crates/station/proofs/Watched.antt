@@ -96,4 +96,6 @@ module _ (p : Option PublisherState) where
     links = is.links;
     lines = is.lines;
     grows = is.grows;
+    node = is.node;
+    log = is.log;
   }

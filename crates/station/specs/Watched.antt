@@ -1,11 +1,15 @@
 -- What a station publishes of its node.
-use Rattle.std.specs.Prelude.{◌≡◌, ◌≤◌, ℕ, List, ◌++◌, Option, Some, None, Result, Ok, Err, IsSome, length}
+use Rattle.std.specs.Prelude.{◌≡◌, ◌≤◌, ℕ, List, ◌++◌, Option, Some, None, Result, Ok, Err, IsSome, IsTrue, length}
+use Rattle.std.specs.List.{AllByRecursion}
+use Rattle.ason_base.specs.declared.commands.Entry.{Entry}
 use Rattle.mesh_rules.specs.Rows.{leg_rows}
 use Rattle.mgmt_view.specs.Tables.{EndsWith}
 use Rattle.mgmt_view.specs.Publishing.{MayWait, PublisherState, published_first, with_published}
 use Rattle.mgmt_view.specs.Viewing.{ViewerState}
 use Rattle.mgmt_view.specs.declared.node_table.NodeTable.{NodeTable}
+use Rattle.control_channels.specs.Controllers.{ControllerState}
 use Rattle.station_doings.specs.States.{StationState}
+use Rattle.station.specs.Noise.{is_noise}
 use Rattle.station.specs.declared.watching.WatchFault.{WatchFault}
 use Rattle.station.specs.declared.watching.WatchFault.TheVariants as fault
 
@@ -18,6 +22,23 @@ table_of s = record {
   entries = length s.log;
   legs = leg_rows s.controller.node.place.id s.controller.node.state;
 }
+
+-- what a table of a station is of, and what was published
+pub record Shown : Type 0 where
+  pub controller : ControllerState
+  pub log : List Entry
+  pub publisher : Option PublisherState
+
+abbrev pub shown_of : StationState → Shown
+shown_of s = record { controller = s.controller; log = s.log; publisher = s.publisher }
+
+-- the node is as it was, nothing was published, and at most lines of bytes that spell nothing were written
+pub record ShowsNoiseMore (old new : StationState) : Type 0 where
+  pub node : new.controller.node ≡ old.controller.node
+  pub publisher : new.publisher ≡ old.publisher
+  pub heard : List Entry
+  pub noise : AllByRecursion (λ e. IsTrue (is_noise e)) heard
+  pub log : new.log ≡ old.log ++ heard
 
 -- no table that was published or waits is of a longer log
 abbrev pub TellsUpTo : Option PublisherState → ℕ → Type 0

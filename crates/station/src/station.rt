@@ -13,7 +13,7 @@ ghost use Rattle.station.specs.Joined.{AreConnected, AreLooked, IsApartFrom, IsN
 ghost use Rattle.station_doings.specs.Turned.{HasMadeTurn, HaveMadeTurns};
 ghost use Rattle.station.specs.Noise.{HasHeard};
 ghost use Rattle.station.specs.Sending.{is_to};
-ghost use Rattle.station.specs.Watched.{IsUnpublished, TellsUpTo, Watches, publishing, tables_by};
+ghost use Rattle.station.specs.Watched.{IsUnpublished, TellsUpTo, Watches, publishing, shown_of, tables_by};
 ghost use Rattle.flood.specs.Frames.{SpellsNothing};
 
 use crate::desks::Desk;
@@ -189,7 +189,7 @@ impl Station {
         ensures ok { OnOk result
             (self.new ≡ record self.old { lines = self.old.lines ++ line ∷ [] }) }
         ensures err { OnErr result (self.new ≡ self.old) }
-        ensures publisher { self.new.publisher ≡ self.old.publisher }
+        ensures shown { shown_of self.new ≡ shown_of self.old }
     {
         self.parts.lines.push(line)?;
         Ok(())

@@ -4,3 +4,4 @@ pub mod FaultText
 pub mod RouteText
 pub mod SurveyText
 pub mod TableText
+pub mod ViewText

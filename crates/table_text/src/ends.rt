@@ -22,15 +22,16 @@ pub(crate) enum EndsFault {
 pub(crate) fn ends_of(plan: &Plan, from: &str, to: &str) -> Result<(NodeId, NodeId), EndsFault>
     ensures { result ≡ ends_of plan.now from.now to.now }
 {
-    let start = named(plan, from).ok_or(EndsFault::NoFrom)?;
-    let end = named(plan, to).ok_or(EndsFault::NoTo)?;
+    let start = node_of_name(plan, from).ok_or(EndsFault::NoFrom)?;
+    let end = node_of_name(plan, to).ok_or(EndsFault::NoTo)?;
     if start == end {
         return Err(EndsFault::Same);
     }
     Ok((start, end))
 }
 
-fn named(plan: &Plan, name: &str) -> Option<NodeId>
+/// The node of this name, if the plan has one.
+pub fn node_of_name(plan: &Plan, name: &str) -> Option<NodeId>
     ensures { result ≡ plan_node plan.now name.now }
 {
     node_named(&plan.node_names, plan.topology.nodes(), name.as_bytes())
@@ -55,7 +56,8 @@ pub(crate) fn ends_fault_text(
     }
 }
 
-fn no_node_text(alloc: Global, name: &str) -> Result<String, OutOfMemory>
+/// What is told of a name that no node has.
+pub(crate) fn no_node_text(alloc: Global, name: &str) -> Result<String, OutOfMemory>
     ensures { IfOk result (λ text. string_bytes text ≡ no_node_text name.now) }
 {
     let text = format!(in alloc; "no node {name}\n")?;

@@ -105,7 +105,7 @@ fn push_calls(text: &mut String, plan: &Plan, calls: &[CallRow]) -> Result<(), O
     Ok(())
 }
 
-fn push_legs(text: &mut String, plan: &Plan, legs: &[LegRow]) -> Result<(), OutOfMemory>
+pub(crate) fn push_legs(text: &mut String, plan: &Plan, legs: &[LegRow]) -> Result<(), OutOfMemory>
     ensures { OnOk result (Appends text.old text.new (flat_map (leg_text plan.now) legs.now)) }
 {
     for leg in legs {

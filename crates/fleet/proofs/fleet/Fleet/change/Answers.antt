@@ -7,10 +7,10 @@ use Rattle.station_doings.specs.States.{StationState}
 use Rattle.fleet.specs.Commands.{but_room}
 use Rattle.fleet.specs.Posting.{HaveRoom, news_for}
 use Rattle.fleet.specs.Standing.{FleetState}
-use Rattle.fleet.specs.Views.{publishers_of}
+use Rattle.fleet.specs.Views.{shown_by}
 use Rattle.fleet.proofs.Kept.{items-links, seats-back, seats-count, seats-roomed}
 use Rattle.fleet.proofs.Taking.{room-clocks, stamp-above, take-roomed, take-same}
-use Rattle.fleet.proofs.Unwatched.{items-publishers, room-publishers}
+use Rattle.fleet.proofs.Unwatched.{items-shown, room-shown}
 use Rattle.fleet.proofs.fleet.Fleet.change.Goals as goal
 
 pub invariant_of-self : goal.invariant_of-self
@@ -114,32 +114,32 @@ returns-clause-on c =
       failed = groups;
     }
 
-pub returns-in_err-make_room-clause-publishers : goal.returns-in_err-make_room-clause-publishers
-returns-in_err-make_room-clause-publishers c =
+pub returns-in_err-make_room-clause-shown : goal.returns-in_err-make_room-clause-shown
+returns-in_err-make_room-clause-shown c =
     let mid = c.make_room.new.stations in
-    ap publishers_of (with_items_is c.self.inside.stations mid (omega
+    ap shown_by (with_items_is c.self.inside.stations mid (omega
     (arith, c.make_room.auto.stations, c.deref_mut.ensures.len)))
-    ∙ room-publishers c.deref_mut.result.now mid c.make_room.ensures.same ∙ ap publishers_of c.deref_mut.ensures.value
-    ∙ ap (λ (x : FleetState). publishers_of x.stations) c.self.view_is
+    ∙ room-shown c.deref_mut.result.now mid c.make_room.ensures.same ∙ ap shown_by c.deref_mut.ensures.value
+    ∙ ap (λ (x : FleetState). shown_by x.stations) c.self.view_is
 
-pub returns-in_err-push-clause-publishers : goal.returns-in_err-push-clause-publishers
-returns-in_err-push-clause-publishers c =
+pub returns-in_err-push-clause-shown : goal.returns-in_err-push-clause-shown
+returns-in_err-push-clause-shown c =
     let mid = c.make_room.new.stations in
-    ap publishers_of (with_items_is c.self.inside.stations mid (omega
+    ap shown_by (with_items_is c.self.inside.stations mid (omega
     (arith, c.make_room.auto.stations, c.deref_mut.ensures.len)))
-    ∙ room-publishers c.deref_mut.result.now mid c.make_room.ensures.same ∙ ap publishers_of c.deref_mut.ensures.value
-    ∙ ap (λ (x : FleetState). publishers_of x.stations) c.self.view_is
+    ∙ room-shown c.deref_mut.result.now mid c.make_room.ensures.same ∙ ap shown_by c.deref_mut.ensures.value
+    ∙ ap (λ (x : FleetState). shown_by x.stations) c.self.view_is
 
-pub returns-clause-publishers : goal.returns-clause-publishers
-returns-clause-publishers c =
+pub returns-clause-shown : goal.returns-clause-shown
+returns-clause-shown c =
     let mid = c.make_room.new.stations in
     let vec = with_items c.self.inside.stations mid in
     let new = c.take_news.new.stations in
     let is : vec.items ≡ mid =
     with_items_is c.self.inside.stations mid (omega (arith, c.make_room.auto.stations, c.deref_mut.ensures.len)) in
     let lent : c.deref_mut-2.result.now ≡ mid = c.deref_mut-2.ensures.value ∙ is in
-    ap publishers_of (with_items_is vec new (omega (arith, c.take_news.auto.stations, c.deref_mut-2.ensures.len)))
-    ∙ items-publishers (news_for c.self.inside.network c.deref-3.result.now c.deref-4.result.now) c.args.stamp
+    ap shown_by (with_items_is vec new (omega (arith, c.take_news.auto.stations, c.deref_mut-2.ensures.len)))
+    ∙ items-shown (news_for c.self.inside.network c.deref-3.result.now c.deref-4.result.now) c.args.stamp
     c.deref-2.result.now c.deref_mut-2.result.now new (omega (
       arith,
       ap length lent,
@@ -149,5 +149,5 @@ returns-clause-publishers c =
       seats-count c.self.inside.seats.items c.self.inside.stations.items c.self.invariant,
       ap length c.deref-2.ensures.value,
     )) c.take_news.ensures
-    ∙ ap publishers_of lent ∙ room-publishers c.deref_mut.result.now mid c.make_room.ensures.same
-    ∙ ap publishers_of c.deref_mut.ensures.value ∙ ap (λ (x : FleetState). publishers_of x.stations) c.self.view_is
+    ∙ ap shown_by lent ∙ room-shown c.deref_mut.result.now mid c.make_room.ensures.same
+    ∙ ap shown_by c.deref_mut.ensures.value ∙ ap (λ (x : FleetState). shown_by x.stations) c.self.view_is

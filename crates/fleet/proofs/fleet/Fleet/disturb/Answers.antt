@@ -10,7 +10,7 @@ use Rattle.fleet_rounds.proofs.Nodes.{joins-nodes}
 use Rattle.fleet.specs.Commands.{is_seat}
 use Rattle.fleet.specs.Noises.{HasLine, sent_on}
 use Rattle.fleet.specs.Standing.{FleetState}
-use Rattle.fleet.specs.Views.{publishers_of}
+use Rattle.fleet.specs.Views.{shown_by}
 use Rattle.fleet.proofs.Channels.{sent-is-count}
 use Rattle.fleet.proofs.Finding.{IsFirst, first-at, seat-lost}
 use Rattle.fleet.proofs.Kept.{line-links, links_of, seats-back, seats-count}
@@ -113,10 +113,10 @@ returns-in_default-2-clause-on c t lines r s =
           (ap (λ (k : Network). is_channel k line.from line.to) (sym s.network) ∙ c.requires.near),
     ))
 
-pub returns-in-Some-Some-clause-publishers : goal.returns-in-Some-Some-clause-publishers
-returns-in-Some-Some-clause-publishers c =
+pub returns-in-Some-Some-clause-shown : goal.returns-in-Some-Some-clause-shown
+returns-in-Some-Some-clause-shown c =
     let new = c.put_line.new.stations in
-    ap publishers_of (with_items_is c.self.inside.stations new (omega
+    ap shown_by (with_items_is c.self.inside.stations new (omega
     (arith, c.put_line.auto.stations, c.deref_mut.ensures.len)))
-    ∙ c.put_line.ensures.publishers ∙ ap publishers_of c.deref_mut.ensures.value
-    ∙ ap (λ (x : FleetState). publishers_of x.stations) c.self.view_is
+    ∙ c.put_line.ensures.shown ∙ ap shown_by c.deref_mut.ensures.value
+    ∙ ap (λ (x : FleetState). shown_by x.stations) c.self.view_is

@@ -1,4 +1,4 @@
-use Rattle.std.proofs.Common.{◌≡◌, ◌<◌, nat_eq, length, refl, sym, ap, ◌∙◌, arith}
+use Rattle.std.proofs.Common.{◌≡◌, ◌<◌, nat_eq, length, refl, sym, ap, ◌∙◌, subst, arith}
 use Rattle.std.specs.Prelude.{List, Some, position, slice_get, slice_set}
 use Rattle.std.proofs.lemmas.Option.{slice_get_read}
 use Rattle.ason_base.specs.Network.{Network}
@@ -8,11 +8,13 @@ use Rattle.station_doings.specs.States.{StationState}
 use Rattle.fleet_rounds.proofs.Nodes.{joins-nodes}
 use Rattle.fleet.specs.Commands.{is_seat, lines_in, station_in}
 use Rattle.fleet.specs.Standing.{FleetState}
-use Rattle.fleet.specs.Views.{publishers_of}
+use Rattle.station.specs.Watched.{ShowsNoiseMore}
+use Rattle.fleet.specs.Views.{ShowNoiseMore}
 use Rattle.fleet.proofs.Finding.{place-within, seat-lost}
 use Rattle.fleet.proofs.Kept.{seats-count, seats-kept, set-links, set-same}
 use Rattle.fleet.proofs.Lines.{noise-stands}
-use Rattle.fleet.proofs.Places.{map-back}
+use Rattle.fleet.proofs.Heard.{shows-self}
+use Rattle.fleet.proofs.Places.{zip-self, zip-set}
 use Rattle.fleet.proofs.fleet.Fleet.noise.Goals as goal
 
 pub index_mut-requires : goal.index_mut-requires
@@ -118,8 +120,11 @@ returns-in-Some-clause-err c =
     (slice_get_read stations (length stations) place c.index_mut.result.now refl below c.index_mut.ensures.value) same)
     ∙ c.self.view_is) c.hear.ensures.err
 
-pub returns-in-Some-clause-publishers : goal.returns-in-Some-clause-publishers
-returns-in-Some-clause-publishers c =
+pub returns-in-None-clause-shown : goal.returns-in-None-clause-shown
+returns-in-None-clause-shown c = zip-self ShowsNoiseMore shows-self c.args.self.now.stations
+
+pub returns-in-Some-clause-shown : goal.returns-in-Some-clause-shown
+returns-in-Some-clause-shown c =
     let stations = c.self.inside.stations.items in
     let place = c.in-Some.place in
     let below : place < length stations =
@@ -129,6 +134,7 @@ returns-in-Some-clause-publishers c =
       ap length c.deref.ensures.value,
       seats-count c.self.inside.seats.items stations c.self.invariant,
     ) in
-    map-back (λ (s : StationState). s.publisher) stations place c.index_mut.result.now c.hear.new.station
+    subst (λ (x : FleetState). ShowNoiseMore x.stations (slice_set stations place c.hear.new.station)) c.self.view_is
+    (zip-set ShowsNoiseMore shows-self stations place c.index_mut.result.now c.hear.new.station
     (slice_get_read stations (length stations) place c.index_mut.result.now refl below c.index_mut.ensures.value)
-    c.hear.ensures.publisher ∙ ap (λ (x : FleetState). publishers_of x.stations) c.self.view_is
+    c.hear.ensures.shown)

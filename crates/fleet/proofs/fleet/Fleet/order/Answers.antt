@@ -9,12 +9,12 @@ use Rattle.station_doings.specs.States.{StationState}
 use Rattle.fleet.specs.Commands.{but_room, is_seat}
 use Rattle.fleet.specs.Posting.{HaveRoom, TakesOrder, order_for}
 use Rattle.fleet.specs.Standing.{FleetState}
-use Rattle.fleet.specs.Views.{publishers_of}
+use Rattle.fleet.specs.Views.{shown_by}
 use Rattle.fleet.proofs.Finding.{IsFirst, first-at, seat-lost}
 use Rattle.fleet.proofs.Kept.{order-links, seats-back, seats-count, seats-roomed}
 use Rattle.fleet.proofs.Posted.{groups-left}
 use Rattle.fleet.proofs.Taking.{order-takes, room-clocks, stamp-above, take-roomed, within-at}
-use Rattle.fleet.proofs.Unwatched.{order-publishers, room-publishers}
+use Rattle.fleet.proofs.Unwatched.{order-shown, room-shown}
 use Rattle.fleet.proofs.fleet.Fleet.order.Goals as goal
 
 pub invariant_of-self : goal.invariant_of-self
@@ -115,33 +115,33 @@ returns-in_ok-push-in-Some-clause-on c t valid are known =
       failed = ap (λ (x : FleetState). x.failed) c.self.view_is ∙ sym (groups-left command n f.failed c.requires.call);
     }
 
-pub returns-in_err-make_room-in-Some-clause-publishers : goal.returns-in_err-make_room-in-Some-clause-publishers
-returns-in_err-make_room-in-Some-clause-publishers c =
+pub returns-in_err-make_room-in-Some-clause-shown : goal.returns-in_err-make_room-in-Some-clause-shown
+returns-in_err-make_room-in-Some-clause-shown c =
     let mid = c.make_room.new.stations in
-    ap publishers_of (with_items_is c.self.inside.stations mid (omega
+    ap shown_by (with_items_is c.self.inside.stations mid (omega
     (arith, c.make_room.auto.stations, c.deref_mut.ensures.len)))
-    ∙ room-publishers c.deref_mut.result.now mid c.make_room.ensures.same ∙ ap publishers_of c.deref_mut.ensures.value
-    ∙ ap (λ (x : FleetState). publishers_of x.stations) c.self.view_is
+    ∙ room-shown c.deref_mut.result.now mid c.make_room.ensures.same ∙ ap shown_by c.deref_mut.ensures.value
+    ∙ ap (λ (x : FleetState). shown_by x.stations) c.self.view_is
 
-pub returns-in_err-push-in-Some-clause-publishers : goal.returns-in_err-push-in-Some-clause-publishers
-returns-in_err-push-in-Some-clause-publishers c =
+pub returns-in_err-push-in-Some-clause-shown : goal.returns-in_err-push-in-Some-clause-shown
+returns-in_err-push-in-Some-clause-shown c =
     let mid = c.make_room.new.stations in
-    ap publishers_of (with_items_is c.self.inside.stations mid (omega
+    ap shown_by (with_items_is c.self.inside.stations mid (omega
     (arith, c.make_room.auto.stations, c.deref_mut.ensures.len)))
-    ∙ room-publishers c.deref_mut.result.now mid c.make_room.ensures.same ∙ ap publishers_of c.deref_mut.ensures.value
-    ∙ ap (λ (x : FleetState). publishers_of x.stations) c.self.view_is
+    ∙ room-shown c.deref_mut.result.now mid c.make_room.ensures.same ∙ ap shown_by c.deref_mut.ensures.value
+    ∙ ap (λ (x : FleetState). shown_by x.stations) c.self.view_is
 
-pub returns-in_ok-push-in-Some-clause-publishers : goal.returns-in_ok-push-in-Some-clause-publishers
-returns-in_ok-push-in-Some-clause-publishers c =
+pub returns-in_ok-push-in-Some-clause-shown : goal.returns-in_ok-push-in-Some-clause-shown
+returns-in_ok-push-in-Some-clause-shown c =
     let mid = c.make_room.new.stations in
     let vec = with_items c.self.inside.stations mid in
     let new = c.take_order.new.stations in
     let is : vec.items ≡ mid =
     with_items_is c.self.inside.stations mid (omega (arith, c.make_room.auto.stations, c.deref_mut.ensures.len)) in
-    ap publishers_of (with_items_is vec new (omega
+    ap shown_by (with_items_is vec new (omega
     (arith, c.take_order.auto.stations, c.deref_mut-in-Some.ensures.len)))
-    ∙ order-publishers c.in-Some.place (Order c.in_ok-copy-in-Some.field-0) c.args.stamp c.deref_mut-in-Some.result.now
+    ∙ order-shown c.in-Some.place (Order c.in_ok-copy-in-Some.field-0) c.args.stamp c.deref_mut-in-Some.result.now
     new c.take_order.ensures
-    ∙ ap publishers_of (c.deref_mut-in-Some.ensures.value ∙ is)
-    ∙ room-publishers c.deref_mut.result.now mid c.make_room.ensures.same
-    ∙ ap publishers_of c.deref_mut.ensures.value ∙ ap (λ (x : FleetState). publishers_of x.stations) c.self.view_is
+    ∙ ap shown_by (c.deref_mut-in-Some.ensures.value ∙ is)
+    ∙ room-shown c.deref_mut.result.now mid c.make_room.ensures.same
+    ∙ ap shown_by c.deref_mut.ensures.value ∙ ap (λ (x : FleetState). shown_by x.stations) c.self.view_is
