@@ -23,7 +23,7 @@ from ason_tools.program import (
 )
 
 USAGE_LINE = (
-    "usage: ason run [--workers N] [--stride T] [--trace] | check | decode | route FROM TO "
+    "usage: ason run [--workers N] [--stride T] [--trace | --watch NODE] | check | decode | route FROM TO "
     "| load SEED NODES CALLS | best FROM TO | survey\n"
 )
 LONGEST = 4_194_304

@@ -46,6 +46,11 @@ NO_OPTIONS = (
     ["--workers", "--trace"],
     ["--trace", "1"],
     ["--trace=1"],
+    ["--watch"],
+    ["--watch", "a", "--trace"],
+    ["--trace", "--watch", "a"],
+    ["--watch", "a", "--watch", "a"],
+    ["--watch=a"],
 )
 
 

@@ -1,6 +1,6 @@
 -- How what is asked for ends on bytes that were judged.
 use Rattle.std.proofs.Common.{◌≡◌, ◌∙◌, ℕ, List, [], inl, inr, sym, ap, subst}
-use Rattle.std.specs.Prelude.{◌⊎◌, Option, Some, None, Result, Ok, Err}
+use Rattle.std.specs.Prelude.{◌⊎◌, IsSome, Option, Some, None, Result, Ok, Err}
 use Rattle.ason_base.specs.declared.ids.NodeId.{NodeId}
 use Rattle.command_words.specs.declared.tasks.Question.{Question}
 use Rattle.fleet.specs.Standing.{FleetState}
@@ -9,6 +9,7 @@ use Rattle.plan_reader.specs.declared.faults.PlanFault.{PlanFault}
 use Rattle.plan_reader.specs.declared.plan.Plan.{Plan}
 use Rattle.plan_reader.proofs.Agree.{no_plan, one_plan}
 use Rattle.script_rules.specs.Outputs.{How, Prints, script_of}
+use Rattle.table_text.specs.EndsText.{plan_node}
 use Rattle.script_rules.specs.Stages.{Stage, new_stage}
 use Rattle.script_rules.proofs.Alone.{function_end}
 use Rattle.trace_text.specs.Checks.{IsChecked, IsNotRun}
@@ -17,9 +18,9 @@ use Rattle.trace_text.specs.TraceRead.{IsRefused as IsRefusedTrace}
 use Rattle.trace_text.specs.declared.checking.Checked.{Checked}
 use Rattle.trace_text.specs.declared.read.TraceFault.{TraceFault}
 use Rattle.ason_main.specs.declared.answers.Status.{Status}
-use Rattle.ason_main.specs.Answers.{Ask, Check, Decode, Request, Run, Survey, Trace}
+use Rattle.ason_main.specs.Answers.{Ask, Check, Decode, Request, Run, Survey, Trace, Watch}
 use Rattle.ason_main.specs.Answers.{Done, EventLimit, NotRun, PlanRefused, ReadFault, Reply, TooLong, Unfinished, Usage}
-use Rattle.ason_main.specs.Answers.{ComesTo, EndsCheck, EndsWell, IsAskReply, IsCheckReply, IsDecodeReply, IsDoneOrOutOfMemory, IsEnd, IsJudged, IsRunReply, IsSurveyReply, IsTraceReply, printing, status_of}
+use Rattle.ason_main.specs.Answers.{ComesTo, EndsCheck, EndsWatch, EndsWell, IsAskReply, IsCheckReply, IsDecodeReply, IsDoneOrOutOfMemory, IsEnd, IsJudged, IsRunReply, IsSurveyReply, IsTraceReply, IsWatchOf, IsWatchReply, printing, status_of}
 use Rattle.ason_main.specs.Outputs.{end_of, silent_on}
 use Rattle.ason_main.specs.Surveys.{silent}
 
@@ -176,11 +177,56 @@ asked_end question from to bs p Usage s plan holds is = absurd holds
 asked_end question from to bs p ReadFault s plan holds is = absurd holds
 asked_end question from to bs p TooLong s plan holds is = absurd holds
 
+-- the reply to a run beside which a node is watched
+watched_end : (workers : ℕ) (name bs : List ℕ) (p : Plan) (r : Reply) (kept : Option FleetState) (s : Status) →
+    PlanOf bs (Ok p) → IsWatchReply workers name bs r kept → s ≡ status_of r →
+    EndsWatch p (printing workers) (plan_node p name) s
+watched_end workers name bs p (Done text) kept s plan holds is =
+    subst (λ (q : Plan). EndsWatch q (printing workers) (plan_node q name) s) (one_plan bs holds.0 p holds.1 plan)
+    (by_node (plan_node holds.0 name) holds.2)
+  where
+    by_node : (o : Option NodeId) → IsWatchOf holds.0 workers name o text kept →
+        EndsWatch holds.0 (printing workers) o s
+    by_node None of = inl is
+    by_node (Some n) of =
+        let out = of.1.output.output in
+        inl (is, comes_to holds.0 (printing workers) None of.0 of.1.told out.printed out.ended)
+watched_end workers name bs p (PlanRefused text) kept s plan holds is = absurd (no_plan bs holds.0.0 p holds.0.1 plan)
+watched_end workers name bs p (EventLimit text) kept s plan holds is =
+    subst (λ (q : Plan). EndsWatch q (printing workers) (plan_node q name) s) (one_plan bs holds.0 p holds.1 plan)
+    (by_node (plan_node holds.0 name) holds.2.0)
+  where
+    by_node : (o : Option NodeId) → IsSome o → EndsWatch holds.0 (printing workers) o s
+    by_node None some = absurd (cc (some))
+    by_node (Some n) some =
+        let at = holds.2.1 in
+        let out = at.2.cut.output in
+        inr (inl (
+          is,
+          (at.0, comes_to holds.0 (printing workers) (Some at.0) at.1 at.2.told out.printed out.stopped),
+        ))
+watched_end workers name bs p (Unfinished text) kept s plan holds is = by_node (plan_node p name)
+  where
+    by_node : (o : Option NodeId) → EndsWatch p (printing workers) o s
+    by_node None = inr is
+    by_node (Some n) = inr (inr is)
+watched_end workers name bs p (NotRun text) kept s plan holds is = absurd holds
+watched_end workers name bs p Usage kept s plan holds is = absurd holds
+watched_end workers name bs p ReadFault kept s plan holds is = absurd holds
+watched_end workers name bs p TooLong kept s plan holds is = absurd holds
+
+no_memory_watched : (p : Plan) (how : How) (o : Option NodeId) (s : Status) → s ≡ Status.OutOfMemory →
+    EndsWatch p how o s
+no_memory_watched p how None s is = inr is
+no_memory_watched p how (Some n) s is = inr (inr is)
+
 -- how what is asked for ends on bytes that were judged
 pub well_ended : EveryCheckIsOne → (k : Request) (bs : List ℕ) (r : Reply) (kept : Option FleetState) (s : Status) →
     IsJudged k bs r kept → s ≡ status_of r → EndsWell k bs s
 well_ended law (Run pace) bs r kept s holds is = λ p plan. judged_end pace.workers bs p r kept s plan holds is
 well_ended law (Trace pace) bs r kept s holds is = λ p plan. traced_end pace.workers bs p r kept s plan holds is
+well_ended law (Watch pace name) bs r kept s holds is =
+    λ p plan. watched_end pace.workers name bs p r kept s plan holds is
 well_ended law Check bs r kept s holds is = checked_end law bs r s holds.0 is
 well_ended law Decode bs r kept s holds is = decoded_end bs r s holds.0 is
 well_ended law Survey bs r kept s holds is = λ p plan. surveyed_end bs p r kept s plan holds is
@@ -190,6 +236,7 @@ well_ended law (Ask question from to) bs r kept s holds is =
 pub out_of_memory : (k : Request) (bs : List ℕ) (s : Status) → s ≡ Status.OutOfMemory → EndsWell k bs s
 out_of_memory (Run pace) bs s is = λ p plan. inr (inr is)
 out_of_memory (Trace pace) bs s is = λ p plan. inr (inr is)
+out_of_memory (Watch pace name) bs s is = λ p plan. no_memory_watched p (printing pace.workers) (plan_node p name) s is
 out_of_memory Check bs s is = record { done = λ c of. inr is; not_run = λ i not. inr is }
 out_of_memory Decode bs s is = inr is
 out_of_memory Survey bs s is = λ p plan. inr (inr is)

@@ -1,5 +1,6 @@
 pub mod Complete
 pub mod Ends
+pub mod InView
 pub mod Lines
 pub mod LoadReplies
 pub mod LoadedParts
@@ -16,4 +17,6 @@ pub mod Settling
 pub mod SurveyRuns
 pub mod TraceReplies
 pub mod Tracing
+pub mod Viewed
 pub mod Waiting
+pub mod WatchReplies

@@ -12,7 +12,7 @@ use Rattle.table_text.specs.FaultText.{refused_text}
 use Rattle.trace_text.specs.TraceRead.{IsRefused as IsRefusedTrace}
 use Rattle.table_text.specs.TableText.{stopped_text}
 use Rattle.ason_main.specs.declared.answers.Status.{Status}
-use Rattle.ason_main.specs.Answers.{Ask, Check, Decode, Done, EventLimit, PlanRefused, Reply, Request, Run, Survey, Trace, Unfinished}
+use Rattle.ason_main.specs.Answers.{Ask, Check, Decode, Done, EventLimit, PlanRefused, Reply, Request, Run, Survey, Trace, Unfinished, Watch}
 use Rattle.ason_main.specs.Answers.{HasKept, IsAnswered, IsJudged, IsReply, IsReplyTo, MayKeep, TellsItsRun, TellsRun, TellsRunFor, WasTold, WasToldOrNothing, printing}
 use Rattle.ason_main.specs.declared.runner.stops.Stop.{Stop}
 use Rattle.fleet.specs.Standing.{FleetState}
@@ -67,7 +67,7 @@ unfinished written faults bs p pace f kept old new plan keeps is yet =
     (Unfinished is.0, inr (p, plan, is.1, may_keep p f kept keeps yet), inl (refl, is.2), tt)
 
 -- what was told before the stop is begun
-cut_begun : (p : Plan) (how : How) (n : NodeId) (more : List Stage) (text : List ℕ) → IsTheCut p how n more text →
+pub cut_begun : (p : Plan) (how : How) (n : NodeId) (more : List Stage) (text : List ℕ) → IsTheCut p how n more text →
     IsBegun p how text
 cut_begun p how n more text cut = record {
   more = more;
@@ -196,6 +196,7 @@ pub other_status : (k : Request) (r : Reply) (s status : Status) → s ≡ statu
     TellsRun k r s
 other_status (Run pace) r s status is other = tt
 other_status (Trace pace) r s status is other = λ done. absurd (other (sym is ∙ done))
+other_status (Watch pace name) r s status is other = tt
 other_status Check r s status is other = tt
 other_status Decode r s status is other = tt
 other_status Survey r s status is other = tt
@@ -213,6 +214,7 @@ nothing_judged : (k : Request) (bs : List ℕ) (kept : Option FleetState) → ke
     IsJudged k bs (Unfinished []) kept
 nothing_judged (Run pace) bs kept none = inl (refl, none)
 nothing_judged (Trace pace) bs kept none = inl (refl, inl none)
+nothing_judged (Watch pace name) bs kept none = inl (refl, none)
 nothing_judged Check bs kept none = (refl, none)
 nothing_judged Decode bs kept none = (refl, none)
 nothing_judged Survey bs kept none = (refl, inl none)
@@ -231,6 +233,7 @@ no_memory written faults k bs out kept none = (
 abbrev pub TakesPlan : Request → Type 0
 TakesPlan (Run pace) = Unit {0}
 TakesPlan (Trace pace) = Unit {0}
+TakesPlan (Watch pace name) = Unit {0}
 TakesPlan Check = ⊥
 TakesPlan Decode = ⊥
 TakesPlan Survey = Unit {0}
@@ -240,6 +243,7 @@ fault_judged : (k : Request) (bs : List ℕ) (f : PlanFault) (kept : Option Flee
     PlanOf bs (Err f) → kept ≡ None → IsJudged k bs (PlanRefused (refused_text f)) kept
 fault_judged (Run pace) bs f kept takes fault none = ((f, fault, refl), none)
 fault_judged (Trace pace) bs f kept takes fault none = ((f, fault, refl), none)
+fault_judged (Watch pace name) bs f kept takes fault none = ((f, fault, refl), none)
 fault_judged Check bs f kept takes fault none = absurd takes
 fault_judged Decode bs f kept takes fault none = absurd takes
 fault_judged Survey bs f kept takes fault none = ((f, fault, refl), none)

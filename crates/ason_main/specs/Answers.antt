@@ -1,5 +1,5 @@
 -- What the program answers to its words and to its input.
-use Rattle.std.specs.Prelude.{◌≡◌, ◌<◌, ◌≤◌, ◌+◌, ◌⊎◌, ℕ, true, List, [], ◌++◌, Option, Some, None, Ok, Err, codes, length, take}
+use Rattle.std.specs.Prelude.{◌≡◌, ◌<◌, ◌≤◌, ◌+◌, ◌-◌, ◌⊎◌, ℕ, true, List, [], ◌++◌, Option, Some, None, Ok, Err, IsSome, codes, length, take}
 use Rattle.std.specs.Io.KnownBytes.{Appends}
 use Rattle.ason_io.specs.Faults.{Rose}
 use Rattle.ason_io.specs.Reading.{HasRead, WasReadToEnd}
@@ -10,6 +10,7 @@ use Rattle.plan_reader.specs.declared.faults.PlanFault.{PlanFault}
 use Rattle.message_text.specs.DecodeText.{IsDecodeText}
 use Rattle.message_text.specs.OneText.{IsOne}
 use Rattle.table_text.specs.BestText.{IsBestText}
+use Rattle.table_text.specs.EndsText.{no_node_text, plan_node}
 use Rattle.table_text.specs.FaultText.{refused_text}
 use Rattle.table_text.specs.RouteText.{route_text}
 use Rattle.fleet.specs.Standing.{FleetState}
@@ -26,6 +27,7 @@ use Rattle.command_words.specs.declared.tasks.Task.{Task}
 use Rattle.ason_main.specs.Running.{HasWritten, StandsYet}
 use Rattle.ason_main.specs.Loads.{IsTheLoad, IsTheStoppedLoad, load_end}
 use Rattle.ason_main.specs.Surveys.{IsTheSurvey, silent}
+use Rattle.ason_main.specs.Views.{IsViewOf}
 use Rattle.ason_main.specs.Traces.{IsPartOfTrace, IsTheTrace, IsTraceOfRun, checked_text, not_run_text}
 use Rattle.trace_text.specs.Checks.{IsChecked, IsNotRun}
 use Rattle.trace_text.specs.TraceRead.{IsRefused as IsRefusedTrace}
@@ -39,15 +41,21 @@ use Rattle.plan_reader.specs.Plans.{PlanOf}
 pub data Request : Type 0 where
   Run : (pace : PaceView) → Request  -- to run a plan so, and to tell its tables
   Trace : (pace : PaceView) → Request  -- to run a plan so, and to tell the trace of its run
+  Watch : (pace : PaceView) (name : List ℕ) → Request  -- to run it so, and to tell its tables and the view of a node
   Check : Request  -- to tell whether it is the trace of a run
   Decode : Request  -- to tell what messages say
   Survey : Request  -- to tell the survey of a plan's last table
   Ask : (question : Question) (from to : List ℕ) → Request  -- to tell this of the nodes of these names
 
+-- the word behind which so many stand
+abbrev pub name_before : List (List ℕ) → ℕ → List ℕ
+name_before words behind = word_at words (length words - behind - 1)
+
 -- an inquiry with its words
 abbrev pub request_for : List (List ℕ) → Inquiry → Request
 request_for words (Inquiry.Run pace) = Run pace
 request_for words (Inquiry.Trace pace) = Trace pace
+request_for words (Inquiry.Watch pace behind) = Watch pace (name_before words behind)
 request_for words Inquiry.Check = Check
 request_for words Inquiry.Decode = Decode
 request_for words Inquiry.Survey = Survey
@@ -98,8 +106,8 @@ abbrev pub text_of_reply : Reply → List ℕ
 text_of_reply (Done text) = text
 text_of_reply (NotRun text) = text
 text_of_reply Usage =
-    codes "usage: ason run [--workers N] [--stride T] [--trace] | check | decode | route FROM TO "
-    ++ codes "| load SEED NODES CALLS | best FROM TO | survey\n"
+    codes "usage: ason run [--workers N] [--stride T] [--trace | --watch NODE] | check | decode "
+    ++ codes "| route FROM TO | load SEED NODES CALLS | best FROM TO | survey\n"
 text_of_reply (PlanRefused text) = text
 text_of_reply ReadFault = []
 text_of_reply (EventLimit text) = text
@@ -170,6 +178,42 @@ IsTraceReply workers bs Usage kept = ⊥
 IsTraceReply workers bs ReadFault kept = ⊥
 IsTraceReply workers bs TooLong kept = ⊥
 
+-- the view of this node of the fleet that is kept
+abbrev pub HasView : Plan → NodeId → Option FleetState → List ℕ → Type 0
+HasView p n None text = ⊥
+HasView p n (Some f) text = IsViewOf p n f text
+
+-- the plan's output and then the view of this node, of the fleet that made the run
+pub record IsWatched (p : Plan) (workers : ℕ) (n : NodeId) (more : List Stage) (text : List ℕ)
+    (kept : Option FleetState) : Type 0 where
+  pub told : List ℕ
+  pub output : IsTheOutput p (printing workers) more told
+  pub view : List ℕ
+  pub is_view : HasView p n kept view
+  pub all : text ≡ told ++ view
+
+-- of a plan that has no node of this name nothing is run
+abbrev pub IsWatchOf : Plan → ℕ → List ℕ → Option NodeId → List ℕ → Option FleetState → Type 0
+IsWatchOf p workers name None text kept = (text ≡ no_node_text name) × (kept ≡ None)
+IsWatchOf p workers name (Some n) text kept =
+    (more : List Stage) × IsWatched p workers n more text kept × HasKept p kept (end_of more)
+
+-- what the reply to `run --watch` with this name says of them
+abbrev pub IsWatchReply : ℕ → List ℕ → List ℕ → Reply → Option FleetState → Type 0
+IsWatchReply workers name bs (Done text) kept =
+    (p : Plan) × PlanOf bs (Ok p) × IsWatchOf p workers name (plan_node p name) text kept
+IsWatchReply workers name bs (PlanRefused text) kept = IsRefused bs text kept
+IsWatchReply workers name bs (EventLimit text) kept =
+    (p : Plan) × PlanOf bs (Ok p)
+    × (IsSome (plan_node p name)
+    × ((n : NodeId) × (more : List Stage) × IsTheStoppedOutput p (printing workers) n more text
+    × HasKept p kept (end_of more)))
+IsWatchReply workers name bs (Unfinished text) kept = IsFirstPart workers bs text kept
+IsWatchReply workers name bs (NotRun text) kept = ⊥
+IsWatchReply workers name bs Usage kept = ⊥
+IsWatchReply workers name bs ReadFault kept = ⊥
+IsWatchReply workers name bs TooLong kept = ⊥
+
 -- what the reply to `survey` says of them
 abbrev pub IsSurveyReply : List ℕ → Reply → Option FleetState → Type 0
 IsSurveyReply bs (Done text) kept =
@@ -227,6 +271,7 @@ IsAskReply question from to bs TooLong = ⊥
 abbrev pub IsJudged : Request → List ℕ → Reply → Option FleetState → Type 0
 IsJudged (Run pace) bs r kept = IsRunReply pace.workers bs r kept
 IsJudged (Trace pace) bs r kept = IsTraceReply pace.workers bs r kept
+IsJudged (Watch pace name) bs r kept = IsWatchReply pace.workers name bs r kept
 IsJudged Check bs r kept = IsCheckReply bs r × (kept ≡ None)
 IsJudged Decode bs r kept = IsDecodeReply bs r × (kept ≡ None)
 IsJudged Survey bs r kept = IsSurveyReply bs r kept
@@ -319,6 +364,7 @@ WasGiven written faults old new r s = WasTold written faults old new (text_of_re
 abbrev pub TellsRun : Request → Reply → Status → Type 0
 TellsRun (Run pace) r s = Unit {0}
 TellsRun (Trace pace) r s = s ≡ Status.Done → IsTraceOfRun (text_of_reply r)
+TellsRun (Watch pace name) r s = Unit {0}
 TellsRun Check r s = Unit {0}
 TellsRun Decode r s = Unit {0}
 TellsRun Survey r s = Unit {0}
@@ -373,10 +419,17 @@ pub record EndsCheck (bs : List ℕ) (s : Status) : Type 0 where
   pub done : (c : Checked) → IsChecked bs c → IsDoneOrOutOfMemory s
   pub not_run : (i : ℕ) → IsNotRun bs i → (s ≡ Status.NotRun) ⊎ (s ≡ Status.OutOfMemory)
 
+-- a run beside which the node of a name is watched ends as without it; where the plan has no such node nothing is run
+abbrev pub EndsWatch : Plan → How → Option NodeId → Status → Type 0
+EndsWatch p how None s = IsDoneOrOutOfMemory s
+EndsWatch p how (Some n) s = IsEnd p how s
+
 -- how what is asked for ends on these bytes: `check` and `decode` always, the others for a plan without fault
 abbrev pub EndsWell : Request → List ℕ → Status → Type 0
 EndsWell (Run pace) bs s = (p : Plan) → PlanOf bs (Ok p) → IsEnd p (printing pace.workers) s
 EndsWell (Trace pace) bs s = (p : Plan) → PlanOf bs (Ok p) → IsEnd p (silent_on pace.workers) s
+EndsWell (Watch pace name) bs s =
+    (p : Plan) → PlanOf bs (Ok p) → EndsWatch p (printing pace.workers) (plan_node p name) s
 EndsWell Check bs s = EndsCheck bs s
 EndsWell Decode bs s = IsDoneOrOutOfMemory s
 EndsWell Survey bs s = (p : Plan) → PlanOf bs (Ok p) → IsEnd p silent s

@@ -5,3 +5,4 @@ pub mod Outputs
 pub mod Running
 pub mod Surveys
 pub mod Traces
+pub mod Views

@@ -1,5 +1,5 @@
 -- What the runner does for the lines of a script.
-use Rattle.std.specs.Prelude.{◌≡◌, ◌<◌, ◌≤◌, ℕ, List, [], ◌∷◌, ◌++◌, Option, None, Some, length, take}
+use Rattle.std.specs.Prelude.{◌≡◌, ◌<◌, ◌≤◌, ℕ, List, [], ◌∷◌, ◌++◌, Option, None, Some, Result, length, take}
 use Rattle.std.specs.List.{AllByRecursion}
 use Rattle.std.specs.Io.KnownBytes.{Appends}
 use Rattle.ason_io.specs.Faults.{Rose}
@@ -9,7 +9,9 @@ use Rattle.ason_base.specs.Network.{Network}
 use Rattle.round_rules.specs.Records.{Record, world_of}
 use Rattle.fleet.specs.declared.fleet.RoundFault.{RoundFault}
 use Rattle.fleet.specs.declared.fleet.RoundFault.TheVariants as round
+use Rattle.fleet.specs.Rounds.{Rounds}
 use Rattle.fleet.specs.Standing.{FleetState, StandsFor}
+use Rattle.fleet.specs.Views.{Publishes}
 use Rattle.plan_reader.specs.declared.lines.Line.{Line}
 use Rattle.plan_reader.specs.declared.plan.Plan.{Plan}
 use Rattle.plan_reader.specs.Plans.{ArePostable, IsPostable}
@@ -17,6 +19,13 @@ use Rattle.script_rules.specs.Outputs.{How, Prints, PrintsFirst, Shows}
 use Rattle.script_rules.specs.Stages.{LineMakes, Stage, last_of, world_at}
 use Rattle.script_rules.specs.Tables.{IsUnsettledLine}
 use Rattle.ason_main.specs.declared.runner.stops.Stop.{Stop}
+
+-- Rounds
+
+-- what a round makes of the fleet, and what is published of it
+pub record MakesRound (workers : ℕ) (answer : Result ℕ RoundFault) (old new : FleetState) : Type 0 where
+  pub rounds : Rounds workers old new answer
+  pub publishes : Publishes answer old new
 
 -- Standing
 

@@ -5,7 +5,7 @@ ghost use Rattle.std.specs.Prelude.{◌≡◌, ℕ, List, [], None, Some, Ok, If
 ghost use Rattle.ason_base.specs.Network.{IsTopology};
 ghost use Rattle.ason_main.specs.Answers.{Ask, Decode, IsAnswered, IsCheckedTrace, IsComplete, IsCompleteLoad, IsReply};
 ghost use Rattle.ason_main.specs.Answers.{IsReplyFor, IsTold, Reply, Run, Survey, TellsItsRun, TellsRun, Trace};
-ghost use Rattle.ason_main.specs.Answers.{WasGiven, exit_status, request_for};
+ghost use Rattle.ason_main.specs.Answers.{WasGiven, exit_status, name_before, request_for};
 ghost use Rattle.plan_reader.specs.PlanTexts.{word_at};
 ghost use Rattle.plan_reader.specs.Plans.{ArePostable, PlanOf};
 ghost use Rattle.round_rules.specs.Records.{new_record};
@@ -20,6 +20,7 @@ use crate::runner::stops::Stop;
 use crate::surveying::survey_of;
 use crate::telling::{refuse, tell, tell_stop};
 use crate::traces::trace;
+use crate::watching::watch_input;
 use ason_base::OutOfMemory;
 use ason_io::{Gate, ReadAllFault, Sink, Source, read_all};
 use command_words::{Inquiry, Pace, Question, Task, task_of};
@@ -37,8 +38,8 @@ const LIMIT: usize = 4_194_304;
 
 /// What is told of words that have no meaning.
 const USAGE: &[u8] =
-    b"usage: ason run [--workers N] [--stride T] [--trace] | check | decode | route FROM TO \
-    | load SEED NODES CALLS | best FROM TO | survey\n";
+    b"usage: ason run [--workers N] [--stride T] [--trace | --watch NODE] | check | decode \
+    | route FROM TO | load SEED NODES CALLS | best FROM TO | survey\n";
 
 /// How a command ended, with the process's exit status as its number.
 #[derive(Clone, Copy, Debug, PartialEq, Eq, Drop)]
@@ -93,6 +94,13 @@ fn word_at(words: &[String], place: usize) -> &str
     }
 }
 
+// The word behind which so many stand; empty where there is none.
+fn name_before(words: &[String], behind: usize) -> &str
+    ensures { result.now ≡ name_before (map string_bytes words.now) behind }
+{
+    word_at(words, words.len().saturating_sub(behind).saturating_sub(1))
+}
+
 // Runs the plan on this fleet.
 fn run_fleet<R: Threads + Wait + Sync, K: Sink, G: Gate>(
     host: &Host<R, G>,
@@ -108,7 +116,7 @@ fn run_fleet<R: Threads + Wait + Sync, K: Sink, G: Gate>(
 {
     let (workers, stride) = (pace.workers(), pace.stride());
     match run_plan(
-        host.rt, host.alloc, fleet, plan, workers, stride, true, out, host.gate,
+        host.rt, host.alloc, fleet, plan, workers, stride, true, out, host.gate, None,
     ) {
         Ran::Ended => Status::Done,
         Ran::AtLimit(node) => tell_stop(host.alloc, plan, node, out),
@@ -317,6 +325,9 @@ fn judge<R: Threads + Wait + Sync, K: Sink, G: Gate>(
     match inquiry {
         Inquiry::Run(pace) => run_input(host, pace, bytes, out, kept),
         Inquiry::Trace(pace) => trace_input(host, pace, bytes, out, kept),
+        Inquiry::Watch(pace, behind) => {
+            watch_input(host, pace, name_before(words, behind), bytes, out, kept)
+        }
         Inquiry::Check => check_input(host.alloc, bytes, out),
         Inquiry::Decode => decode_input(host.alloc, bytes, out),
         Inquiry::Survey => survey_input(host, bytes, out, kept),
@@ -376,17 +387,19 @@ fn answer<R: Threads + Wait + Sync, S: Source, K: Sink, G: Gate>(
 
 /// Answers the words, those after the program's name. `run` reads a plan, runs its script and writes what each line
 /// prints as it is done, or tells the plan's first fault; with `--trace` it prints nothing of that, and writes the
-/// trace of the run in its place, one that `check` accepts. `load` with a seed and how many nodes and calls reads
-/// nothing, runs the plan that is drawn from the seed, and writes after each part of its script how many calls are in
-/// each state. `check` reads a trace, and writes that it is one of a run, of how many events, and the run's last table;
-/// or that it is none, and the first index that is wrong; or the first fault of its plan. `survey` reads a plan and
-/// runs it so, prints nothing of that, and writes the survey of its last table, or the first fault. `route` and two
-/// names read a plan and write the least route between these nodes, its backup and the potentials, or the first fault.
-/// `best` and two names read one and write the pair of disjoint routes with the least total, or that there is none, and
-/// that its certificate was accepted, or the first fault. `decode` reads lines of RSVP messages in hexadecimal and
-/// writes what each says. If the sink fails the status is `WriteFault`; after that and after `OutOfMemory` a first part
-/// is written. After `Done` and `EventLimit` of `run`, `load` and `survey` the fleet that made the run is kept, with
-/// its logs and posts; after `WriteFault` and `OutOfMemory` it is that fleet or none, and after all else none.
+/// trace of the run in its place, one that `check` accepts; with `--watch` and a node's name it writes behind the
+/// tables what a viewer of that node reads then, or alone that the plan has no such node. `load` with a seed and how
+/// many nodes and calls reads nothing, runs the plan that is drawn from the seed, and writes after each part of its
+/// script how many calls are in each state. `check` reads a trace, and writes that it is one of a run, of how many
+/// events, and the run's last table; or that it is none, and the first index that is wrong; or the first fault of its
+/// plan. `survey` reads a plan and runs it so, prints nothing of that, and writes the survey of its last table, or the
+/// first fault. `route` and two names read a plan and write the least route between these nodes, its backup and the
+/// potentials, or the first fault. `best` and two names read one and write the pair of disjoint routes with the least
+/// total, or that there is none, and that its certificate was accepted, or the first fault. `decode` reads lines of
+/// RSVP messages in hexadecimal and writes what each says. If the sink fails the status is `WriteFault`; after that and
+/// after `OutOfMemory` a first part is written. After `Done` and `EventLimit` of `run`, `load` and `survey` the fleet
+/// that made the run is kept, with its logs and posts; after `WriteFault` and `OutOfMemory` it is that fleet or none,
+/// and after all else none.
 pub fn ason<R: Threads + Wait + Sync, S: Source, K: Sink, G: Gate>(
     rt: &R,
     alloc: Global,

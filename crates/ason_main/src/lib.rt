@@ -13,6 +13,7 @@ mod runner;
 mod surveying;
 mod telling;
 mod traces;
+mod watching;
 
 pub use answers::{Status, ason};
 pub use runner::run::{Ran, run_plan};

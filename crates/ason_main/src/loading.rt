@@ -38,7 +38,7 @@ fn do_lines<R: Threads + Wait + Sync, G: Gate>(
     ensures stops { IfErr result (StopsAll plan.now (silent_on 1) lines.now
         (at fleet.old None 0) (at fleet.new None 0)) }
 {
-    let crew = Crew::new(host.rt, host.gate, 1, 1, false);
+    let crew = Crew::new(host.rt, host.alloc, host.gate, 1, 1, false);
     let mut out = SureSink::new();
     run_lines(host.alloc, plan, &crew, fleet, &mut out, lines)
 }

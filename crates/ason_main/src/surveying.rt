@@ -91,7 +91,7 @@ pub fn survey_of<R: Threads + Wait + Sync, K: Sink, G: Gate>(
     every_law();
     no_contend();
     match run_plan(
-        host.rt, host.alloc, fleet, plan, 1, 1, false, out, host.gate,
+        host.rt, host.alloc, fleet, plan, 1, 1, false, out, host.gate, None,
     ) {
         Ran::Ended => {
             let text = told(host.alloc, plan, fleet)?;

@@ -64,7 +64,7 @@ fn trace_fleet<R: Threads + Wait + Sync, K: Sink, G: Gate>(
     every_checked();
     let (workers, stride) = (pace.workers(), pace.stride());
     match run_plan(
-        host.rt, host.alloc, fleet, plan, workers, stride, false, out, host.gate,
+        host.rt, host.alloc, fleet, plan, workers, stride, false, out, host.gate, None,
     ) {
         Ran::Ended => match tell_trace(host.alloc, plan, bytes, fleet, out) {
             Ok(()) => Status::Done,

@@ -1,5 +1,5 @@
 -- What was given of the options of `run` so far.
-use Rattle.std.specs.Prelude.{ℕ, true, List, [], ◌∷◌, Option, Some, None, IfSome, bytes_eq, codes, is_some, map, string_bytes, unwrap_or}
+use Rattle.std.specs.Prelude.{ℕ, List, [], ◌∷◌, Option, Some, None, IfSome, bytes_eq, codes, is_some, length, map, string_bytes, unwrap_or}
 use Rattle.std.specs.Prelude.{if◌then◌else◌}
 use Rattle.std.specs.Borrow.{Bor}
 use Rattle.std.specs.Global.{Global}
@@ -8,6 +8,8 @@ use Rattle.command_words.specs.Numbers.{Between, number_in}
 use Rattle.command_words.specs.Options.{is_trace}
 use Rattle.command_words.specs.declared.options.Given.{Given}
 use Rattle.command_words.specs.declared.options.RunOptions.{RunOptions}
+use Rattle.command_words.specs.declared.options.Telling.{Telling}
+use Rattle.command_words.specs.declared.options.Telling.TheVariants as told
 
 -- what was given is within its limits
 pub record AreGiven (g : Given) : Type 0 where
@@ -17,7 +19,7 @@ pub record AreGiven (g : Given) : Type 0 where
 abbrev pub run_given : Given → RunOptions
 run_given g = record {
   pace = record { workers = unwrap_or g.workers 1; stride = unwrap_or g.stride 1 };
-  trace = g.trace;
+  telling = unwrap_or g.telling told.Tables;
 }
 
 abbrev pub with_workers : Given → Option ℕ → Option Given
@@ -28,14 +30,15 @@ abbrev pub with_stride : Given → Option ℕ → Option Given
 with_stride g None = None
 with_stride g (Some n) = Some (record g { stride = Some n })
 
-abbrev pub with_trace : Given → Option Given
-with_trace g = if g.trace then None else Some (record g { trace = true })
+abbrev pub with_telling : Given → Telling → Option Given
+with_telling g telling = if is_some g.telling then None else Some (record g { telling = Some telling })
 
--- with an option that has a value
-abbrev pub after_value : Given → List ℕ → List ℕ → Option Given
-after_value g w v =
+-- with an option that has a value, behind which so many words stand
+abbrev pub after_value : Given → List ℕ → List ℕ → ℕ → Option Given
+after_value g w v behind =
     if bytes_eq w (codes "--workers") then (if is_some g.workers then None else with_workers g (number_in 1 16 v))
     else if bytes_eq w (codes "--stride") then (if is_some g.stride then None else with_stride g (number_in 1 64 v))
+    else if bytes_eq w (codes "--watch") then with_telling g (told.Watch behind)
     else None
 
 -- what is given then, and the words that are left
@@ -49,9 +52,10 @@ before_words ws (Some g) = Some (g, ws)
 -- with the first option of these words
 abbrev pub next_given : Given → List (List ℕ) → Option Next
 next_given g [] = None
-next_given g (w ∷ []) = if is_trace w then before_words [] (with_trace g) else None
+next_given g (w ∷ []) = if is_trace w then before_words [] (with_telling g told.Trace) else None
 next_given g (w ∷ v ∷ ws) =
-    if is_trace w then before_words (v ∷ ws) (with_trace g) else before_words ws (after_value g w v)
+    if is_trace w then before_words (v ∷ ws) (with_telling g told.Trace)
+    else before_words ws (after_value g w v (length ws))
 
 -- Views
 

@@ -3,14 +3,22 @@ use Rattle.std.specs.Prelude.{ℕ, Bool, true, false, List, [], ◌∷◌, Optio
 use Rattle.std.specs.Prelude.{if◌then◌else◌}
 use Rattle.command_words.specs.Loads.{load_of}
 use Rattle.command_words.specs.Options.{run_of}
+use Rattle.command_words.specs.Paces.{PaceView}
 use Rattle.command_words.specs.declared.options.RunOptions.{RunOptions}
+use Rattle.command_words.specs.declared.options.Telling.{Telling}
+use Rattle.command_words.specs.declared.options.Telling.TheVariants as told
 use Rattle.command_words.specs.declared.tasks.Inquiry.{Inquiry}
 use Rattle.command_words.specs.declared.tasks.Question.{Question}
 use Rattle.command_words.specs.declared.tasks.Task.{Task}
 
--- to run a plan so, and to tell its tables or its trace
+abbrev pub told_so : PaceView → Telling → Inquiry
+told_so pace told.Tables = Inquiry.Run pace
+told_so pace told.Trace = Inquiry.Trace pace
+told_so pace (told.Watch behind) = Inquiry.Watch pace behind
+
+-- to run a plan so, and to tell this of it
 abbrev pub run_inquiry : RunOptions → Inquiry
-run_inquiry said = if said.trace then Inquiry.Trace said.pace else Inquiry.Run said.pace
+run_inquiry said = told_so said.pace said.telling
 
 abbrev pub run_task : List (List ℕ) → Option Task
 run_task ws = option_map (λ said. Task.Of (run_inquiry said)) (run_of ws)

@@ -2,7 +2,7 @@
 
 ghost use Rattle.std.specs.Prelude.{◌≡◌, ◌<◌, ◌≤◌, IfSome, length, map, option_map, string_bytes};
 ghost use Rattle.command_words.specs.Options.{run_of};
-ghost use Rattle.command_words.specs.Given.{AreGiven, after_value, next_given, next_now, run_given, with_trace};
+ghost use Rattle.command_words.specs.Given.{AreGiven, after_value, next_given, next_now, run_given, with_telling};
 
 use crate::numbers::number;
 use std::marker::Model;
@@ -46,11 +46,22 @@ impl Pace {
     }
 }
 
-/// What the options of `run` say: how the run goes, and whether its trace is told in place of its tables.
+/// What is told of a run.
+#[derive(Clone, Copy, Drop)]
+pub(crate) enum Telling {
+    /// Its tables.
+    Tables,
+    /// Its trace.
+    Trace,
+    /// Its tables, and the last view of a node, behind whose name so many words stand.
+    Watch(usize),
+}
+
+/// What the options of `run` say: how the run goes, and what is told of it.
 #[derive(Clone, Copy, Drop)]
 pub(crate) struct RunOptions {
     pub(crate) pace: Pace,
-    pub(crate) trace: bool,
+    pub(crate) telling: Telling,
 }
 
 // The options that were given so far.
@@ -58,11 +69,11 @@ pub(crate) struct RunOptions {
 struct Given {
     workers: Option<usize>,
     stride: Option<u32>,
-    trace: bool,
+    telling: Option<Telling>,
 }
 
 impl Given {
-    // What they say; one worker, one turn and no trace where nothing is said.
+    // What they say; one worker, one turn and the tables where nothing is said.
     fn said(self) -> RunOptions
         requires { AreGiven self }
         ensures { result ≡ run_given self }
@@ -73,30 +84,30 @@ impl Given {
         };
         RunOptions {
             pace,
-            trace: self.trace,
+            telling: self.telling.unwrap_or(Telling::Tables),
         }
     }
 
-    // With the trace, which isn't asked for yet.
-    fn with_trace(self) -> Option<Given>
+    // With what is to be told, of which nothing is said yet.
+    fn with_telling(self, telling: Telling) -> Option<Given>
         requires { AreGiven self }
-        ensures given { result ≡ with_trace self }
+        ensures given { result ≡ with_telling self telling }
         ensures within { IfSome result AreGiven }
     {
-        if self.trace {
-            None
-        } else {
-            Some(Given {
-                trace: true,
+        match self.telling {
+            Some(_) => None,
+            None => Some(Given {
+                telling: Some(telling),
                 ..self
-            })
+            }),
         }
     }
 
-    // With one option more that has a value, and isn't given yet.
-    fn with(self, option: &String, value: &String) -> Option<Given>
+    // With one option more that has a value, behind which so many words stand, and isn't given yet.
+    fn with(self, option: &String, value: &String, behind: usize) -> Option<Given>
         requires { AreGiven self }
-        ensures given { result ≡ after_value self (string_bytes option.now) (string_bytes value.now) }
+        ensures given { result
+            ≡ after_value self (string_bytes option.now) (string_bytes value.now) behind }
         ensures within { IfSome result AreGiven }
     {
         match option.as_str() {
@@ -114,6 +125,7 @@ impl Given {
                     ..self
                 })
             }
+            "--watch" => self.with_telling(Telling::Watch(behind)),
             _ => None,
         }
     }
@@ -129,11 +141,11 @@ fn next_given(given: Given, words: &[String]) -> Option<(Given, &[String])>
     match words {
         [] => None,
         [option, others @ ..] if option.as_str() == "--trace" => {
-            let given = given.with_trace()?;
+            let given = given.with_telling(Telling::Trace)?;
             Some((given, others))
         }
         [option, value, others @ ..] => {
-            let given = given.with(option, value)?;
+            let given = given.with(option, value, others.len())?;
             Some((given, others))
         }
         [_] => None,
@@ -147,7 +159,7 @@ pub(crate) fn run_of(words: &[String]) -> Option<RunOptions>
     let mut given = Given {
         workers: None,
         stride: None,
-        trace: false,
+        telling: None,
     };
     let mut rest = words;
     'options: loop {

@@ -4,7 +4,7 @@ ghost use Rattle.std.specs.Prelude.{◌≡◌, map, string_bytes};
 ghost use Rattle.command_words.specs.Tasks.{alone, asked, command_of, load_task, run_inquiry, run_task, task_of};
 
 use crate::loads::{Load, load_of};
-use crate::options::{Pace, RunOptions, run_of};
+use crate::options::{Pace, RunOptions, Telling, run_of};
 
 /// What the words ask for.
 #[derive(Clone, Copy, Drop)]
@@ -22,6 +22,8 @@ pub enum Inquiry {
     Run(Pace),
     /// To run a plan, and to tell the trace of its run.
     Trace(Pace),
+    /// To run a plan, and to tell its tables and the last view of a node, behind whose name so many words stand.
+    Watch(Pace, usize),
     /// To tell whether it is the trace of a run.
     Check,
     /// To tell what messages say.
@@ -44,10 +46,10 @@ pub enum Question {
 fn run_inquiry(said: RunOptions) -> Inquiry
     ensures { result ≡ run_inquiry said }
 {
-    if said.trace {
-        Inquiry::Trace(said.pace)
-    } else {
-        Inquiry::Run(said.pace)
+    match said.telling {
+        Telling::Tables => Inquiry::Run(said.pace),
+        Telling::Trace => Inquiry::Trace(said.pace),
+        Telling::Watch(behind) => Inquiry::Watch(said.pace, behind),
     }
 }
 

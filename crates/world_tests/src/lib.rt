@@ -13,3 +13,5 @@ mod networks;
 mod replays;
 #[cfg(test)]
 mod stations;
+#[cfg(test)]
+mod views;

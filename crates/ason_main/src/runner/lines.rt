@@ -3,6 +3,7 @@
 ghost use Rattle.std.specs.Prelude.{ℕ, IfErr, IfOk, None, OnOk};
 ghost use Rattle.ason_base.specs.Network.{Network};
 ghost use Rattle.plan_reader.specs.declared.lines.Line.TheVariants as said;
+ghost use Rattle.ason_main.specs.Views.{StayInView};
 ghost use Rattle.ason_main.specs.Running.{CanDo, Does, Stops, Tells, TellsUnsettled};
 
 use crate::laws::every_law;
@@ -26,6 +27,7 @@ fn post_line(fleet: &mut Fleet, command: &Command) -> Result<(), Stop>
         (Does t workers (said.Post command.now) fleet.old fleet.new None) }
     ensures stops { (t : Network) (workers : ℕ) → IfErr result
         (Stops t workers (said.Post command.now) fleet.old fleet.new) }
+    ensures views { OnOk result (StayInView fleet.old.stations fleet.new.stations) }
 {
     fleet.post(command)?;
     Ok(())
@@ -38,6 +40,7 @@ fn disturb_line(fleet: &mut Fleet, line: &Disturb) -> Result<(), Stop>
         (Does t workers (said.Disturb line.now) fleet.old fleet.new None) }
     ensures stops { (t : Network) (workers : ℕ) → IfErr result
         (Stops t workers (said.Disturb line.now) fleet.old fleet.new) }
+    ensures views { OnOk result (StayInView fleet.old.stations fleet.new.stations) }
 {
     fleet.disturb(line)?;
     Ok(())
@@ -50,6 +53,7 @@ fn noise_line(fleet: &mut Fleet, from: NodeId, to: NodeId, bytes: &[u8]) -> Resu
         (Does t workers (said.Noise from to bytes.now) fleet.old fleet.new None) }
     ensures stops { (t : Network) (workers : ℕ) → IfErr result
         (Stops t workers (said.Noise from to bytes.now) fleet.old fleet.new) }
+    ensures views { OnOk result (StayInView fleet.old.stations fleet.new.stations) }
 {
     every_law();
     if fleet.full(to) {
@@ -70,6 +74,7 @@ pub fn do_line<R: Threads + Wait + Sync, G: Gate>(
         (Does t crew.now.workers line.now fleet.old fleet.new None) }
     ensures stops { (t : Network) → IfErr result
         (Stops t crew.now.workers line.now fleet.old fleet.new) }
+    ensures views { OnOk result (StayInView fleet.old.stations fleet.new.stations) }
 {
     match line {
         Line::Post(command) => post_line(fleet, command),

@@ -7,6 +7,7 @@ ghost use Rattle.plan_reader.specs.Plans.{ArePostable};
 ghost use Rattle.script_rules.specs.Outputs.{script_of};
 ghost use Rattle.ason_main.specs.Outputs.{IsRan};
 ghost use Rattle.ason_main.specs.Running.{CanDoAll, DoesAll, StopsAll, at};
+ghost use Rattle.ason_main.specs.Views.{StayInView};
 
 use crate::laws::every_law;
 use crate::runner::crew::Crew;
@@ -15,6 +16,7 @@ use crate::runner::stops::Stop;
 use ason_base::NodeId;
 use ason_io::{Gate, Sink, write_all};
 use fleet::Fleet;
+use mgmt_view::Viewer;
 use plan_reader::{Line, Plan};
 use std::alloc::Global;
 use std::sync::Wait;
@@ -52,6 +54,7 @@ fn run_line<R: Threads + Wait + Sync, K: Sink, G: Gate>(
     ensures stops { IfErr result (StopsAll plan.now crew.now (line.now ∷ [])
         (at fleet.old (K.written out.old) (K.faults out.old))
         (at fleet.new (K.written out.new) (K.faults out.new))) }
+    ensures views { OnOk result (StayInView fleet.old.stations fleet.new.stations) }
 {
     do_line(crew, fleet, line)?;
     if !crew.tables() {
@@ -80,6 +83,7 @@ pub(crate) fn run_lines<R: Threads + Wait + Sync, K: Sink, G: Gate>(
     ensures stops { IfErr result (StopsAll plan.now crew.now lines.now
         (at fleet.old (K.written out.old) (K.faults out.old))
         (at fleet.new (K.written out.new) (K.faults out.new))) }
+    ensures views { OnOk result (StayInView fleet.old.stations fleet.new.stations) }
 {
     every_law();
     for line in lines {
@@ -104,6 +108,7 @@ fn run_script<R: Threads + Wait + Sync, K: Sink, G: Gate>(
     ensures stops { IfErr result (StopsAll plan.now crew.now (script_of plan.now)
         (at fleet.old (K.written out.old) (K.faults out.old))
         (at fleet.new (K.written out.new) (K.faults out.new))) }
+    ensures views { OnOk result (StayInView fleet.old.stations fleet.new.stations) }
 {
     every_law();
     run_lines(alloc, plan, crew, fleet, out, &[Line::Settle(ROUNDS)])?;
@@ -120,8 +125,9 @@ fn run_script<R: Threads + Wait + Sync, K: Sink, G: Gate>(
 
 /// Runs the plan on so many workers, each station with so many turns a round: the network settles, the script is run,
 /// the network settles again, and the table comes last. With `tables` what a line prints is written as soon as the line
-/// is done; else nothing is written. The fleet's logs and posts are those of the last stage of the script: their merge
-/// is a run of a world, and the laws of the machine hold of the mesh that it shows.
+/// is done; else nothing is written. Where a viewer is given it reads in each round, in a thread of its own beside the
+/// workers. The fleet's logs and posts are those of the last stage of the script: their merge is a run of a world, and
+/// the laws of the machine hold of the mesh that it shows.
 pub fn run_plan<R: Threads + Wait + Sync, K: Sink, G: Gate>(
     rt: &R,
     alloc: Global,
@@ -132,16 +138,18 @@ pub fn run_plan<R: Threads + Wait + Sync, K: Sink, G: Gate>(
     tables: bool,
     out: &mut K,
     gate: &G,
+    viewer: Option<&mut Viewer>,
 ) -> Ran
     requires new { StandsFor plan.now.topology [] fleet.old new_record }
     requires postable { ArePostable plan.now.topology [] plan.now.lines }
     requires workers { (1 ≤ workers) × (workers ≤ 16) }
     requires stride { (1 ≤ stride) × (stride ≤ 64) }
-    ensures { IsRan K.written K.faults plan.now (record { workers = workers; tables = tables })
+    ensures ran { IsRan K.written K.faults plan.now (record { workers = workers; tables = tables })
         fleet.new out.old out.new result }
+    ensures views { result ≡ Ran.Ended → StayInView fleet.old.stations fleet.new.stations }
 {
     every_law();
-    let crew = Crew::new(rt, gate, workers, stride, tables);
+    let crew = Crew::new(rt, alloc, gate, workers, stride, tables).beside(viewer);
     match run_script(alloc, plan, &crew, fleet, out) {
         Ok(()) => Ran::Ended,
         Err(Stop::AtLimit(node)) => Ran::AtLimit(node),

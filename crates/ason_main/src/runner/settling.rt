@@ -3,6 +3,7 @@
 ghost use Rattle.std.specs.Prelude.{IfErr, None, OnOk};
 ghost use Rattle.ason_base.specs.Network.{Network};
 ghost use Rattle.plan_reader.specs.declared.lines.Line.TheVariants as said;
+ghost use Rattle.ason_main.specs.Views.{StayInView};
 ghost use Rattle.ason_main.specs.Running.{Does, Stops};
 
 use crate::runner::crew::Crew;
@@ -22,6 +23,7 @@ pub fn settle<R: Threads + Wait + Sync, G: Gate>(
         (Does t crew.now.workers (said.Settle rounds) fleet.old fleet.new None) }
     ensures stops { (t : Network) → IfErr result
         (Stops t crew.now.workers (said.Settle rounds) fleet.old fleet.new) }
+    ensures views { OnOk result (StayInView fleet.old.stations fleet.new.stations) }
 {
     for _made in 0..rounds {
         if fleet.quiet() {

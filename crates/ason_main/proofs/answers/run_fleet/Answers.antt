@@ -11,17 +11,17 @@ returns-in-Ended g c bs plan =
     let f = c.run_plan.new.fleet in
     ended g.K.Sink.written g.K.Sink.faults bs p c.args.pace f (Some f) c.args.out.now c.run_plan.new.out plan refl
     (subst (λ w. HasEnded p (printing w) f (g.K.Sink.written c.args.out.now) (g.K.Sink.written c.run_plan.new.out))
-    c.workers-workers.ensures.workers c.in-Ended.ensures.1)
+    c.workers-workers.ensures.workers c.in-Ended.ensures.ran.1)
 
 pub returns-in-AtLimit : goal.returns-in-AtLimit
 returns-in-AtLimit g c bs plan =
     let p = c.args.plan.now in
     let f = c.run_plan.new.fleet in
     stopped g.K.Sink.written g.K.Sink.faults bs p c.args.pace c.in-AtLimit.node f (Some f) c.args.out.now
-    c.run_plan.new.out c.tell_stop.new.out c.tell_stop.result plan refl c.in-AtLimit.ensures.0
+    c.run_plan.new.out c.tell_stop.new.out c.tell_stop.result plan refl c.in-AtLimit.ensures.ran.0
     (subst (λ w. HasBeenCut p (printing w) c.in-AtLimit.node f (g.K.Sink.written c.args.out.now) (g.K.Sink.written
     c.run_plan.new.out))
-    c.workers-workers.ensures.workers c.in-AtLimit.ensures.1)
+    c.workers-workers.ensures.workers c.in-AtLimit.ensures.ran.1)
     c.tell_stop.ensures
 
 pub returns-in-Failed : goal.returns-in-Failed
@@ -29,11 +29,11 @@ returns-in-Failed g c bs plan =
     let p = c.args.plan.now in
     let f = c.run_plan.new.fleet in
     failed g.K.Sink.written g.K.Sink.faults bs p c.args.pace f (Some f) c.args.out.now c.run_plan.new.out plan refl
-    c.in-Failed.ensures.0
+    c.in-Failed.ensures.ran.0
     (subst (λ w. HasWrittenPart (g.K.Sink.written c.args.out.now) (g.K.Sink.written c.run_plan.new.out)
     (IsBegun p (printing w)))
-    c.workers-workers.ensures.workers c.in-Failed.ensures.1)
-    c.in-Failed.ensures.2
+    c.workers-workers.ensures.workers c.in-Failed.ensures.ran.1)
+    c.in-Failed.ensures.ran.2
 
 pub returns-in-OutOfMemory : goal.returns-in-OutOfMemory
 returns-in-OutOfMemory g c bs plan =
@@ -43,5 +43,5 @@ returns-in-OutOfMemory g c bs plan =
     refl
     (subst (λ w. HasWritten (g.K.Sink.written c.args.out.now) (g.K.Sink.written c.run_plan.new.out)
     (IsBegun p (printing w)))
-    c.workers-workers.ensures.workers c.in-OutOfMemory.ensures.1)
-    c.in-OutOfMemory.ensures.2
+    c.workers-workers.ensures.workers c.in-OutOfMemory.ensures.ran.1)
+    c.in-OutOfMemory.ensures.ran.2

@@ -11,45 +11,45 @@ returns-in_err-text-in-Ended-clause-stops g c =
     let p = c.args.plan.now in
     passed_on c.from_residual.result _ _
     (λ e same. subst (StopsSurvey p c.run_plan.new.fleet) (sym same)
-    (made_yet p c.run_plan.new.fleet (end_of c.in-Ended.ensures.1.more) c.in-Ended.ensures.1.kept))
+    (made_yet p c.run_plan.new.fleet (end_of c.in-Ended.ensures.ran.1.more) c.in-Ended.ensures.ran.1.kept))
     c.from_residual.ensures.1
 
 pub returns-in_err-text-in-Ended-clause-written : goal.returns-in_err-text-in-Ended-clause-written
 returns-in_err-text-in-Ended-clause-written g c =
     ended_silently c.args.plan.now 1 c.run_plan.new.fleet (g.K.Sink.written c.args.out.now) (g.K.Sink.written
     c.run_plan.new.out)
-    c.in-Ended.ensures.1
+    c.in-Ended.ensures.ran.1
 
 pub unreachable-requires : goal.unreachable-requires
 unreachable-requires g c =
     never_failed c.args.plan.now 1 (g.K.Sink.written c.args.out.now) (g.K.Sink.written c.run_plan.new.out)
-    c.in-Failed.ensures.1
+    c.in-Failed.ensures.ran.1
 
 pub returns-in_ok-text-in-Ended-clause-done : goal.returns-in_ok-text-in-Ended-clause-done
 returns-in_ok-text-in-Ended-clause-done g c =
     surveyed c.no_contend.ensures.rows c.args.plan.now c.run_plan.new.fleet
     (g.K.Sink.written c.args.out.now) (g.K.Sink.written c.run_plan.new.out)
-    c.in_ok-text-in-Ended.text.items c.in-Ended.ensures.1 c.in_ok-text-in-Ended.ensures
+    c.in_ok-text-in-Ended.text.items c.in-Ended.ensures.ran.1 c.in_ok-text-in-Ended.ensures
 
 pub returns-in_ok-text-in-Ended-clause-written : goal.returns-in_ok-text-in-Ended-clause-written
 returns-in_ok-text-in-Ended-clause-written g c =
     ended_silently c.args.plan.now 1 c.run_plan.new.fleet (g.K.Sink.written c.args.out.now) (g.K.Sink.written
     c.run_plan.new.out)
-    c.in-Ended.ensures.1
+    c.in-Ended.ensures.ran.1
 
 pub returns-in-AtLimit-clause-stops : goal.returns-in-AtLimit-clause-stops
 returns-in-AtLimit-clause-stops g c =
     stopped_silently c.args.plan.now 1 c.in-AtLimit.node c.run_plan.new.fleet
     (g.K.Sink.written c.args.out.now) (g.K.Sink.written c.run_plan.new.out)
-    c.in-AtLimit.ensures.1
+    c.in-AtLimit.ensures.ran.1
 
 pub returns-in-AtLimit-clause-written : goal.returns-in-AtLimit-clause-written
 returns-in-AtLimit-clause-written g c =
     cut_silently c.args.plan.now 1 c.in-AtLimit.node c.run_plan.new.fleet
     (g.K.Sink.written c.args.out.now) (g.K.Sink.written c.run_plan.new.out)
-    c.in-AtLimit.ensures.1
+    c.in-AtLimit.ensures.ran.1
 
 pub returns-in-OutOfMemory-clause-written : goal.returns-in-OutOfMemory-clause-written
 returns-in-OutOfMemory-clause-written g c =
     begun_silently c.args.plan.now 1 (g.K.Sink.written c.args.out.now) (g.K.Sink.written c.run_plan.new.out)
-    c.in-OutOfMemory.ensures.1
+    c.in-OutOfMemory.ensures.ran.1

@@ -2,6 +2,7 @@ use Rattle.std.proofs.Common.{subst, sym}
 use Rattle.std.specs.Prelude.{IfErr, None, OnOk}
 use Rattle.plan_reader.specs.declared.lines.Line.TheVariants as said
 use Rattle.ason_main.specs.Running.{Does, Stops}
+use Rattle.ason_main.proofs.InView.{stay-self}
 use Rattle.ason_main.proofs.Lines.{show_does}
 use Rattle.ason_main.proofs.runner.lines.do_line.Goals as goal
 
@@ -60,3 +61,6 @@ returns-in-Show-clause-done g c t =
     let w = c.args.crew.now.workers in
     subst (λ l. Does t w l c.args.fleet.now c.args.fleet.now None) (sym c.in-Show.is)
     (show_does t w c.args.fleet.now)
+
+pub returns-in-Show-clause-views : goal.returns-in-Show-clause-views
+returns-in-Show-clause-views g c = stay-self c.args.fleet.now.stations

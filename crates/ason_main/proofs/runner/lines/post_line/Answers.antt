@@ -2,6 +2,7 @@ use Rattle.std.proofs.Common.{subst, sym}
 use Rattle.ason_base.proofs.Results.{passed_on}
 use Rattle.plan_reader.specs.declared.lines.Line.TheVariants as said
 use Rattle.ason_main.specs.Running.{Stops}
+use Rattle.ason_main.proofs.InView.{shown-stay}
 use Rattle.ason_main.proofs.Lines.{post_does, post_stays}
 use Rattle.ason_main.proofs.runner.lines.post_line.Goals as goal
 
@@ -16,3 +17,7 @@ returns-in_err-post-clause-stops c t workers =
 pub returns-clause-done : goal.returns-clause-done
 returns-clause-done c t workers =
     post_does t workers c.args.command.now c.args.fleet.now c.post.new.self c.in_ok-post.ensures.on
+
+pub returns-clause-views : goal.returns-clause-views
+returns-clause-views c =
+    shown-stay c.args.fleet.now.stations c.post.new.self.stations c.post.ensures.shown

@@ -1,11 +1,11 @@
-use Rattle.std.proofs.Common.{None, Some, subst}
+use Rattle.std.proofs.Common.{None, Some, subst, ◌∙◌}
 use Rattle.script_rules.specs.Outputs.{script_of}
 use Rattle.ason_main.specs.Running.{DoesAll, EndsIn, FailsIn, StopsAll, at}
 use Rattle.ason_main.proofs.PlanRuns.{run_cut, run_ended, run_failed, run_starved}
 use Rattle.ason_main.proofs.runner.run.run_plan.Goals as goal
 
-pub returns-in-Ok : goal.returns-in-Ok
-returns-in-Ok g c =
+pub returns-in-Ok-clause-ran : goal.returns-in-Ok-clause-ran
+returns-in-Ok-clause-ran g c =
     let p = c.args.plan.now in (
       c.in-Ok.ensures.done.rises,
       run_ended c.every_law.ensures p (record { workers = c.args.workers; tables = c.args.tables })
@@ -15,18 +15,18 @@ returns-in-Ok g c =
           (subst (λ how. DoesAll p how (script_of p)
           (at c.args.fleet.now (g.K.Sink.written c.args.out.now) (g.K.Sink.faults c.args.out.now))
           (at c.run_script.new.fleet (g.K.Sink.written c.run_script.new.out) (g.K.Sink.faults c.run_script.new.out))
-          None) c.new-crew.ensures c.in-Ok.ensures.done),
+          None) (c.beside-crew.ensures ∙ c.new.ensures) c.in-Ok.ensures.done),
     )
 
-pub returns-in-Err-AtLimit : goal.returns-in-Err-AtLimit
-returns-in-Err-AtLimit g c =
+pub returns-in-Err-AtLimit-clause-ran : goal.returns-in-Err-AtLimit-clause-ran
+returns-in-Err-AtLimit-clause-ran g c =
     let p = c.args.plan.now in
     let n = c.in-Err-AtLimit.node in
-    let cuts : DoesAll p c.new-crew.result (script_of p)
+    let cuts : DoesAll p c.beside-crew.result (script_of p)
     (at c.args.fleet.now (g.K.Sink.written c.args.out.now) (g.K.Sink.faults c.args.out.now))
     (at c.run_script.new.fleet (g.K.Sink.written c.run_script.new.out) (g.K.Sink.faults c.run_script.new.out)) (Some
     n) =
-    subst (StopsAll p c.new-crew.result (script_of p)
+    subst (StopsAll p c.beside-crew.result (script_of p)
     (at c.args.fleet.now (g.K.Sink.written c.args.out.now) (g.K.Sink.faults c.args.out.now))
     (at c.run_script.new.fleet (g.K.Sink.written c.run_script.new.out) (g.K.Sink.faults c.run_script.new.out)))
     c.in-Err-AtLimit.field-0-is c.in-Err-AtLimit.ensures.stops in (
@@ -38,16 +38,16 @@ returns-in-Err-AtLimit g c =
           (subst (λ how. DoesAll p how (script_of p)
           (at c.args.fleet.now (g.K.Sink.written c.args.out.now) (g.K.Sink.faults c.args.out.now))
           (at c.run_script.new.fleet (g.K.Sink.written c.run_script.new.out) (g.K.Sink.faults c.run_script.new.out))
-          (Some n)) c.new-crew.ensures cuts),
+          (Some n)) (c.beside-crew.ensures ∙ c.new.ensures) cuts),
     )
 
-pub returns-in-Err-Failed : goal.returns-in-Err-Failed
-returns-in-Err-Failed g c =
+pub returns-in-Err-Failed-clause-ran : goal.returns-in-Err-Failed-clause-ran
+returns-in-Err-Failed-clause-ran g c =
     let p = c.args.plan.now in
-    let fails : FailsIn p c.new-crew.result (script_of p)
+    let fails : FailsIn p c.beside-crew.result (script_of p)
     (at c.args.fleet.now (g.K.Sink.written c.args.out.now) (g.K.Sink.faults c.args.out.now))
     (at c.run_script.new.fleet (g.K.Sink.written c.run_script.new.out) (g.K.Sink.faults c.run_script.new.out)) =
-    subst (StopsAll p c.new-crew.result (script_of p)
+    subst (StopsAll p c.beside-crew.result (script_of p)
     (at c.args.fleet.now (g.K.Sink.written c.args.out.now) (g.K.Sink.faults c.args.out.now))
     (at c.run_script.new.fleet (g.K.Sink.written c.run_script.new.out) (g.K.Sink.faults c.run_script.new.out)))
     c.in-Err-Failed.field-0-is c.in-Err-Failed.ensures.stops in
@@ -58,16 +58,16 @@ returns-in-Err-Failed g c =
     (subst (λ how. FailsIn p how (script_of p)
     (at c.args.fleet.now (g.K.Sink.written c.args.out.now) (g.K.Sink.faults c.args.out.now))
     (at c.run_script.new.fleet (g.K.Sink.written c.run_script.new.out) (g.K.Sink.faults c.run_script.new.out)))
-    c.new-crew.ensures fails) in
+    (c.beside-crew.ensures ∙ c.new.ensures) fails) in
     (fails.rose, x.0, x.1)
 
-pub returns-in-Err-OutOfMemory : goal.returns-in-Err-OutOfMemory
-returns-in-Err-OutOfMemory g c =
+pub returns-in-Err-OutOfMemory-clause-ran : goal.returns-in-Err-OutOfMemory-clause-ran
+returns-in-Err-OutOfMemory-clause-ran g c =
     let p = c.args.plan.now in
-    let ends : EndsIn p c.new-crew.result (script_of p)
+    let ends : EndsIn p c.beside-crew.result (script_of p)
     (at c.args.fleet.now (g.K.Sink.written c.args.out.now) (g.K.Sink.faults c.args.out.now))
     (at c.run_script.new.fleet (g.K.Sink.written c.run_script.new.out) (g.K.Sink.faults c.run_script.new.out)) =
-    subst (StopsAll p c.new-crew.result (script_of p)
+    subst (StopsAll p c.beside-crew.result (script_of p)
     (at c.args.fleet.now (g.K.Sink.written c.args.out.now) (g.K.Sink.faults c.args.out.now))
     (at c.run_script.new.fleet (g.K.Sink.written c.run_script.new.out) (g.K.Sink.faults c.run_script.new.out)))
     c.in-Err-OutOfMemory.field-0-is c.in-Err-OutOfMemory.ensures.stops in
@@ -78,5 +78,5 @@ returns-in-Err-OutOfMemory g c =
     (subst (λ how. EndsIn p how (script_of p)
     (at c.args.fleet.now (g.K.Sink.written c.args.out.now) (g.K.Sink.faults c.args.out.now))
     (at c.run_script.new.fleet (g.K.Sink.written c.run_script.new.out) (g.K.Sink.faults c.run_script.new.out)))
-    c.new-crew.ensures ends) in
+    (c.beside-crew.ensures ∙ c.new.ensures) ends) in
     (ends.rises, x.0, x.1)

@@ -2,6 +2,8 @@ use Rattle.std.proofs.Common.{◌++◌, None, refl, subst, sym}
 use Rattle.ason_base.proofs.Results.{if_err, on_ok, passed_on}
 use Rattle.script_rules.specs.Stages.{new_stage}
 use Rattle.ason_main.specs.Running.{CanDoAll, DoesAll, StopsAll, at}
+use Rattle.ason_main.specs.Views.{StayInView}
+use Rattle.ason_main.proofs.InView.{stay-then}
 use Rattle.ason_main.proofs.PlanRuns.{postable_script}
 use Rattle.ason_main.proofs.Scripts.{can_then, does_script, first_lines, last_lines, stops_first, stops_last, stops_lines}
 use Rattle.ason_main.proofs.runner.run.run_script.Goals as goal
@@ -105,3 +107,14 @@ returns-clause-stops g c =
     c.items.ensures c.in_ok-run_lines-2.ensures.done)
     stops)
     c.run_lines-3.ensures.stops
+
+pub returns-clause-views : goal.returns-clause-views
+returns-clause-views g c =
+    let first = c.args.fleet.now.stations in
+    let then = c.run_lines.new.fleet.stations in
+    let lines = c.run_lines-2.new.fleet.stations in
+    let last = c.run_lines-3.new.fleet.stations in
+    on_ok c.run_lines-3.result _ (StayInView first last)
+    (λ stay. stay-then first then last c.in_ok-run_lines.ensures.views
+    (stay-then then lines last c.in_ok-run_lines-2.ensures.views stay))
+    c.run_lines-3.ensures.views

@@ -2,6 +2,8 @@ use Rattle.std.proofs.Common.{sym, ◌∙◌}
 use Rattle.ason_base.proofs.Results.{passed_on}
 use Rattle.script_rules.specs.Stages.{Settles}
 use Rattle.ason_main.specs.Running.{Stops}
+use Rattle.std.specs.Prelude.{Ok}
+use Rattle.ason_main.proofs.InView.{round-stay, stay-self, stay-then}
 use Rattle.ason_main.proofs.Rounding.{making_begins, making_ends, making_next, making_rests, making_stops}
 use Rattle.ason_main.proofs.Settling.{settles_line, settles_none, settles_rest, settles_stay, settles_step, settles_stops}
 use Rattle.plan_reader.specs.declared.lines.Line.TheVariants as said
@@ -9,16 +11,18 @@ use Rattle.std.proofs.Common.{subst}
 use Rattle.ason_main.proofs.runner.settling.settle.Goals as goal
 
 pub loop-made-init : goal.loop-made-init
-loop-made-init g c t =
-    let w = c.args.crew.now.workers in
-    making_begins (Settles t w) t w (settles_none t w) (settles_stay t w) c.args.rounds c.args.fleet.now
+loop-made-init g c =
+    let w = c.args.crew.now.workers in (
+      λ t. making_begins (Settles t w) t w (settles_none t w) (settles_stay t w) c.args.rounds c.args.fleet.now,
+      stay-self c.args.fleet.now.stations,
+    )
 
 pub returns-then-quiet-clause-done : goal.returns-then-quiet-clause-done
 returns-then-quiet-clause-done g c t =
     let w = c.args.crew.now.workers in
     settles_line t w c.args.rounds c.args.fleet.now c.loop-made.fleet
     (making_rests (Settles t w) t w (settles_none t w) (settles_stay t w) c.args.rounds c.loop-made._made
-    c.args.fleet.now c.loop-made.fleet (c.loop-made.invariant t)
+    c.args.fleet.now c.loop-made.fleet (c.loop-made.invariant.0 t)
     (settles_rest t w c.args.rounds c.loop-made._made c.loop-made.fleet c.loop-made-test.true
     (λ s at. sym (c.quiet.ensures t s.lines s.made at.stands) ∙ c.if-quiet.true)))
 
@@ -30,19 +34,23 @@ returns-in_err-round-clause-stops g c t =
     (settles_stops t w c.args.rounds c.args.fleet.now c.round.new.fleet c.in_err-round.field-0.0
     (making_stops (Settles t w) t w (settles_none t w) (settles_stay t w) c.args.rounds c.loop-made._made
     c.args.fleet.now
-    c.loop-made.fleet c.round.new.fleet c.in_err-round.field-0.0 c.loop-made-test.true (c.loop-made.invariant t)
+    c.loop-made.fleet c.round.new.fleet c.in_err-round.field-0.0 c.loop-made-test.true (c.loop-made.invariant.0 t)
     (settles_step t w c.loop-made.fleet (λ s at. sym (c.quiet.ensures t s.lines s.made at.stands) ∙
-    c.if-quiet.false)) c.in_err-round.ensures)))
+    c.if-quiet.false)) c.in_err-round.ensures.rounds)))
     c.from_residual.ensures.1
 
 pub loop-made-preserved : goal.loop-made-preserved
-loop-made-preserved g c t =
-    let w = c.args.crew.now.workers in
-    making_next (Settles t w) t w (settles_none t w) (settles_stay t w) c.args.rounds c.loop-made._made
-    c.in_ok-round.field-0 c.args.fleet.now
-    c.loop-made.fleet c.round.new.fleet c.loop-made-test.true (c.loop-made.invariant t) (settles_step t w
-    c.loop-made.fleet (λ s at. sym (c.quiet.ensures t s.lines s.made at.stands) ∙ c.if-quiet.false))
-    c.in_ok-round.ensures
+loop-made-preserved g c =
+    let w = c.args.crew.now.workers in (
+      λ t. making_next (Settles t w) t w (settles_none t w) (settles_stay t w) c.args.rounds c.loop-made._made
+          c.in_ok-round.field-0 c.args.fleet.now
+          c.loop-made.fleet c.round.new.fleet c.loop-made-test.true (c.loop-made.invariant.0 t) (settles_step t w
+          c.loop-made.fleet (λ s at. sym (c.quiet.ensures t s.lines s.made at.stands) ∙ c.if-quiet.false))
+          c.in_ok-round.ensures.rounds,
+      stay-then c.args.fleet.now.stations c.loop-made.fleet.stations c.round.new.fleet.stations
+          c.loop-made.invariant.1
+          (round-stay (Ok c.in_ok-round.field-0) c.loop-made.fleet c.round.new.fleet c.in_ok-round.ensures.publishes),
+    )
 
 pub returns-clause-done : goal.returns-clause-done
 returns-clause-done g c t =
@@ -50,4 +58,4 @@ returns-clause-done g c t =
     settles_line t w c.args.rounds c.args.fleet.now c.loop-made.fleet
     (making_ends (Settles t w) t w (settles_none t w) (settles_stay t w) c.args.rounds c.loop-made._made
     c.args.fleet.now c.loop-made.fleet
-    c.loop-made-test.false (c.loop-made.invariant t))
+    c.loop-made-test.false (c.loop-made.invariant.0 t))

@@ -1,0 +1,146 @@
+-- The station of a node that is watched is in view, and what its viewer is told.
+use Rattle.std.proofs.Common.{◌≡◌, ◌==◌, ◌+◌, ℕ, zero, suc, not, cond, nat_lt, List, [], ◌∷◌, ◌++◌, map, length, refl, sym, ap, ◌∙◌, subst, append-nil}
+use Rattle.std.specs.Prelude.{Option, Some, None, Ok, Err, IsSome, position, slice_get, slice_set}
+use Rattle.std.specs.List.{AllByRecursion, position_or_len}
+use Rattle.std.proofs.lemmas.List.{length-map}
+use Rattle.ason_base.specs.declared.commands.Disturb.{Disturb}
+use Rattle.ason_base.specs.declared.ids.NodeId.{NodeId}
+use Rattle.ason_base.specs.Network.{Network}
+use Rattle.fleet.specs.declared.seats.Seat.{Seat}
+use Rattle.fleet.specs.Commands.{is_seat, station_in, station_of}
+use Rattle.fleet.specs.Standing.{FleetState, StandsFor}
+use Rattle.fleet.specs.Views.{AreUnwatched, IsNode, WatchesAt, publisher_in, publisher_of}
+use Rattle.fleet.proofs.Finding.{seat-lost}
+use Rattle.fleet.proofs.Places.{set-there, zip-get}
+use Rattle.mgmt_view.specs.Publishing.{PublisherState, published_first}
+use Rattle.mgmt_view.specs.Tables.{EndsWith}
+use Rattle.mgmt_view.specs.Viewing.{ViewerState}
+use Rattle.mgmt_view.specs.declared.node_table.NodeTable.{NodeTable}
+use Rattle.plan_reader.specs.declared.plan.Plan.{Plan}
+use Rattle.plan_reader.specs.Names.{place_of}
+use Rattle.plan_reader.proofs.KnownNodes.{place_is_known}
+use Rattle.round_rules.specs.Records.{Record}
+use Rattle.station.specs.Watched.{table_of, tables_by, with_publisher}
+use Rattle.station.specs.declared.watching.WatchFault.TheVariants as fault
+use Rattle.station_doings.specs.States.{StationState}
+use Rattle.table_text.specs.EndsText.{plan_node}
+use Rattle.table_text.specs.ViewText.{view_text}
+use Rattle.ason_main.specs.Views.{IsInView, IsTableOf, IsViewOf, IsViewed, StayInView}
+
+-- What is told
+
+published_of : (n : NodeId) (f : FleetState) (v : IsViewed n f) →
+    tables_by (publisher_of n f) ≡ Some v.2.publisher.published
+published_of n f v = ap (λ o. tables_by (publisher_in o)) v.1 ∙ ap tables_by v.2.watched
+
+-- there is something
+pub told_some : (n : NodeId) (f : FleetState) → IsViewed n f → None ≡ tables_by (publisher_of n f) → ⊥
+told_some n f v none = absurd (cc (none, published_of n f v))
+
+same_tables : (o : Option (List NodeTable)) (xs ys : List NodeTable) → Some xs ≡ o → o ≡ Some ys → xs ≡ ys
+same_tables o xs ys a b = cc (a, b)
+
+same_last : (o : Option NodeTable) (t u : NodeTable) → o ≡ Some t → o ≡ Some u → t ≡ u
+same_last o t u a b = cc (a, b)
+
+-- the last of these tables is the view of the node
+pub view_is : (p : Plan) (n : NodeId) (f : FleetState) (tables : List NodeTable) (t : NodeTable) (text : List ℕ) →
+    IsViewed n f → Some tables ≡ tables_by (publisher_of n f) → EndsWith tables t →
+    text ≡ view_text p n t.entries t.legs → IsViewOf p n f text
+view_is p n f tables t text v told ends is = record {
+  station = v.0;
+  there = v.1;
+  table = t;
+  is_table = subst (λ u. IsTableOf u v.0) (same_last _ v.2.table t v.2.last (subst (λ ts. EndsWith ts t) all ends))
+      v.2.is_table;
+  told = is;
+}
+  where
+    all : tables ≡ v.2.publisher.published
+    all = same_tables (tables_by (publisher_of n f)) tables v.2.publisher.published told (published_of n f v)
+
+-- The station of the node
+
+place_map : {X Y : Type 0} (f : X → Y) (q : Y → _) (xs : List X) →
+    position_or_len (λ x. q (f x)) xs ≡ position_or_len q (map f xs)
+place_map f q [] = refl
+place_map f q (x ∷ xs) = ap (λ k. cond (not (q (f x))) (1 + k) 0) (place_map f q xs)
+
+found_map : {X Y : Type 0} (f : X → Y) (q : Y → _) (xs : List X) →
+    position (λ x. q (f x)) xs ≡ position q (map f xs)
+found_map f q xs = λ i.
+    cond (nat_lt (place_map f q xs i) (sym (length-map xs f) i)) (Some (place_map f q xs i)) None
+
+-- it stands at one place in fleets of one network
+one_place : (t : Network) (ls ms : List Disturb) (r q : Record) (n : NodeId) (old new : FleetState) →
+    StandsFor t ls old r → StandsFor t ms new q → position (is_seat n) new.seats ≡ position (is_seat n) old.seats
+one_place t ls ms r q n old new before after =
+    found_map (λ (s : Seat). s.id) (λ (m : NodeId). m.0 == n.0) new.seats
+    ∙ ap (position (λ (m : NodeId). m.0 == n.0)) (after.seats.ids ∙ sym before.seats.ids)
+    ∙ sym (found_map (λ (s : Seat). s.id) (λ (m : NodeId). m.0 == n.0) old.seats)
+
+-- it stays in view
+pub view_lasts : (t : Network) (ls ms : List Disturb) (r q : Record) (n : NodeId) (old new : FleetState) →
+    StandsFor t ls old r → StandsFor t ms new q → StayInView old.stations new.stations → IsViewed n old →
+    IsViewed n new
+view_lasts t ls ms r q n old new before after stay v =
+    go (position (is_seat n) old.seats) (one_place t ls ms r q n old new before after) v.1
+  where
+    go : (o : Option ℕ) → position (is_seat n) new.seats ≡ o → station_in old o ≡ Some v.0 → IsViewed n new
+    go None at there = absurd (cc (there))
+    go (Some place) at there =
+        let z = zip-get (λ (s z : StationState). IsInView s → IsInView z) old.stations new.stations place v.0 stay
+        there in
+        (z.0, ap (station_in new) at ∙ z.1, z.2 v.2)
+
+-- A new fleet
+
+-- a node of the plan has a station
+pub named_node : (p : Plan) (name : List ℕ) (n : NodeId) (f : FleetState) (lines : List Disturb) (r : Record) →
+    plan_node p name ≡ Some n → StandsFor p.topology lines f r → IsNode n f
+named_node p name n f lines r named stands = go (position (is_seat n) f.seats) refl
+  where
+    go : (o : Option ℕ) → position (is_seat n) f.seats ≡ o → IsSome o
+    go None none =
+        absurd (seat-lost p.topology f.seats n stands.seats none
+        (place_is_known p.topology.nodes (place_of p.node_names name) n named))
+    go (Some place) found = refl
+
+-- from now on it is in view
+pub watched_view : (n : NodeId) (v : ViewerState) (old new : FleetState) → WatchesAt n (Ok v) old new → IsViewed n new
+watched_view n v old new is = (
+  is.after,
+  ap (λ (f : FleetState). station_of f n) is.fleet
+      ∙ ap (station_in (record old { stations = slice_set old.stations is.place is.after })) is.found
+      ∙ set-there old.stations is.place is.before is.after is.there,
+  record {
+    publisher = published_first (table_of is.before);
+    watched = ap (λ (s : StationState). s.publisher) is.watches.station;
+    table = table_of is.before;
+    last = refl;
+    is_table = subst (IsTableOf (table_of is.before)) (sym is.watches.station) (record {
+      legs = refl;
+      before = is.before.log;
+      since = [];
+      noise = tt;
+      log = sym (append-nil is.before.log);
+      entries = refl;
+    });
+  },
+)
+
+free_at : (xs : List StationState) (place : ℕ) (x : StationState) → AreUnwatched xs → slice_get xs place ≡ Some x →
+    x.publisher ≡ None
+free_at [] place x all at = absurd (cc (at))
+free_at (y ∷ xs) zero x all at =
+    let same : y ≡ x = cc (at) in subst (λ (s : StationState). s.publisher ≡ None) same all.0
+free_at (y ∷ xs) (suc place) x all at = free_at xs place x all.1 at
+
+none_watched : (o : Option PublisherState) → o ≡ None → IsSome o → ⊥
+none_watched o none some = absurd (cc (none, some))
+
+-- it wasn't watched before
+pub not_watched : (n : NodeId) (old new : FleetState) → AreUnwatched old.stations →
+    WatchesAt n (Err fault.Watched) old new → ⊥
+not_watched n old new all is =
+    none_watched is.before.publisher (free_at old.stations is.place is.before all is.there) is.watches.0

@@ -1,0 +1,52 @@
+-- What is told of a node that is watched.
+use Rattle.std.specs.Prelude.{◌≡◌, ℕ, List, ◌++◌, Option, Some, IsTrue, length}
+use Rattle.std.specs.List.{AllByRecursion, AllZip}
+use Rattle.ason_base.specs.declared.commands.Entry.{Entry}
+use Rattle.ason_base.specs.declared.ids.NodeId.{NodeId}
+use Rattle.fleet.specs.Commands.{station_of}
+use Rattle.fleet.specs.Standing.{FleetState}
+use Rattle.mgmt_view.specs.Publishing.{PublisherState}
+use Rattle.mgmt_view.specs.Tables.{EndsWith}
+use Rattle.mgmt_view.specs.declared.node_table.NodeTable.{NodeTable}
+use Rattle.plan_reader.specs.declared.plan.Plan.{Plan}
+use Rattle.station.specs.Noise.{is_noise}
+use Rattle.station.specs.Watched.{table_of}
+use Rattle.station_doings.specs.States.{StationState}
+use Rattle.table_text.specs.ViewText.{view_text}
+
+-- Tables
+
+-- the legs of the station's node as they are, and how long its log was before noise came alone
+pub record IsTableOf (t : NodeTable) (s : StationState) : Type 0 where
+  pub legs : t.legs ≡ (table_of s).legs
+  pub before : List Entry
+  pub since : List Entry
+  pub noise : AllByRecursion (λ e. IsTrue (is_noise e)) since
+  pub log : s.log ≡ before ++ since
+  pub entries : t.entries ≡ length before
+
+-- the station is watched, and what it published last is a table of it
+pub record IsInView (s : StationState) : Type 0 where
+  pub publisher : PublisherState
+  pub watched : s.publisher ≡ Some publisher
+  pub table : NodeTable
+  pub last : EndsWith publisher.published table
+  pub is_table : IsTableOf table s
+
+-- the station of the node is in view
+abbrev pub IsViewed : NodeId → FleetState → Type 0
+IsViewed n f = (s : StationState) × (station_of f n ≡ Some s) × IsInView s
+
+-- each station that is in view stays so
+abbrev pub StayInView : List StationState → List StationState → Type 0
+StayInView old new = AllZip (λ s z. IsInView s → IsInView z) old new
+
+-- Texts
+
+-- the view of the node, by a table of its station
+pub record IsViewOf (p : Plan) (n : NodeId) (f : FleetState) (text : List ℕ) : Type 0 where
+  pub station : StationState
+  pub there : station_of f n ≡ Some station
+  pub table : NodeTable
+  pub is_table : IsTableOf table station
+  pub told : text ≡ view_text p n table.entries table.legs

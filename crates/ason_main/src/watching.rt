@@ -1,0 +1,182 @@
+//! Runs a plan beside which a node of it is watched, and tells what its viewer reads at the end.
+
+ghost use Rattle.std.specs.Prelude.{◌≡◌, ℕ, List, [], None, Ok, Some, IfOk};
+ghost use Rattle.ason_main.specs.Answers.{IsAnswered, WasToldOrNothing, Watch};
+ghost use Rattle.ason_main.specs.Views.{IsViewOf, IsViewed};
+ghost use Rattle.fleet.specs.Standing.{StandsFor};
+ghost use Rattle.fleet.specs.Views.{AreUnwatched, IsNode};
+ghost use Rattle.plan_reader.specs.Plans.{ArePostable, PlanOf};
+ghost use Rattle.round_rules.specs.Records.{new_record};
+ghost use Rattle.table_text.specs.EndsText.{no_node_text, plan_node};
+
+use crate::answers::Status;
+use crate::host::Host;
+use crate::keeping::keep;
+use crate::laws::every_law;
+use crate::runner::run::{Ran, run_plan};
+use crate::telling::{refuse, tell, tell_stop};
+use ason_base::{NodeId, OutOfMemory};
+use ason_io::{Gate, Sink};
+use command_words::Pace;
+use fleet::Fleet;
+use mgmt_view::Viewer;
+use plan_reader::{Plan, PlanError, read_plan};
+use station::WatchFault;
+use std::alloc::Global;
+use std::sync::Wait;
+use std::thread::Threads;
+use table_text::{node_of_name, unknown_text, view_text};
+
+/// A node, and who reads its table.
+#[derive(Drop)]
+struct Watched {
+    node: NodeId,
+    viewer: Viewer,
+}
+
+// What the viewer reads of its node, of the last table that was published.
+fn view_of(
+    alloc: Global,
+    plan: &Plan,
+    fleet: &mut Fleet,
+    watched: &mut Watched,
+) -> Result<Vec<u8>, OutOfMemory>
+    requires { IsViewed watched.old.node fleet.old }
+    ensures same { fleet.new ≡ fleet.old }
+    ensures text { IfOk result (λ text. IsViewOf plan.now watched.old.node fleet.old text.items) }
+{
+    match fleet.told(watched.node)? {
+        None => unreachable!(),
+        Some(token) => {
+            let table = watched.viewer.read_told(alloc, token)?;
+            view_text(alloc, plan, watched.node, table.entries, table.legs.items())
+        }
+    }
+}
+
+// Runs the plan on this fleet, and tells what the viewer reads then.
+fn watch_fleet<R: Threads + Wait + Sync, K: Sink, G: Gate>(
+    host: &Host<R, G>,
+    plan: &Plan,
+    pace: Pace,
+    watched: &mut Watched,
+    fleet: &mut Fleet,
+    out: &mut K,
+) -> Status
+    requires new { StandsFor plan.now.topology [] fleet.old new_record }
+    requires postable { ArePostable plan.now.topology [] plan.now.lines }
+    requires view { IsViewed watched.old.node fleet.old }
+    ensures { (bs : List ℕ) (name : List ℕ) → PlanOf bs (Ok plan.now) →
+        plan_node plan.now name ≡ Some watched.old.node →
+        IsAnswered K.written K.faults (Watch pace name) bs out.old out.new (Some fleet.new) result }
+{
+    let (workers, stride) = (pace.workers(), pace.stride());
+    match run_plan(
+        host.rt,
+        host.alloc,
+        fleet,
+        plan,
+        workers,
+        stride,
+        true,
+        out,
+        host.gate,
+        Some(&mut watched.viewer),
+    ) {
+        Ran::Ended => match view_of(host.alloc, plan, fleet, watched) {
+            Ok(text) => tell(out, &text, Status::Done),
+            Err(OutOfMemory) => Status::OutOfMemory,
+        },
+        Ran::AtLimit(node) => tell_stop(host.alloc, plan, node, out),
+        Ran::Failed => Status::WriteFault,
+        Ran::OutOfMemory => Status::OutOfMemory,
+    }
+}
+
+// Watches the node of a new fleet, and runs the plan on it.
+fn watch_node<R: Threads + Wait + Sync, K: Sink, G: Gate>(
+    host: &Host<R, G>,
+    plan: &Plan,
+    pace: Pace,
+    node: NodeId,
+    fleet: &mut Fleet,
+    out: &mut K,
+) -> Status
+    requires new { StandsFor plan.now.topology [] fleet.old new_record }
+    requires unwatched { AreUnwatched fleet.old.stations }
+    requires node { IsNode node fleet.old }
+    requires postable { ArePostable plan.now.topology [] plan.now.lines }
+    ensures { (bs : List ℕ) (name : List ℕ) → PlanOf bs (Ok plan.now) →
+        plan_node plan.now name ≡ Some node →
+        IsAnswered K.written K.faults (Watch pace name) bs out.old out.new (Some fleet.new) result }
+{
+    every_law();
+    match fleet.watch(host.rt, node) {
+        Ok(viewer) => {
+            let mut watched = Watched { node, viewer };
+            watch_fleet(host, plan, pace, &mut watched, fleet, out)
+        }
+        Err(WatchFault::OutOfMemory) => Status::OutOfMemory,
+        Err(WatchFault::Watched) => unreachable!(),
+    }
+}
+
+// Watches this node, runs the plan, and keeps the fleet that made the run.
+fn watch<R: Threads + Wait + Sync, K: Sink, G: Gate>(
+    host: &Host<R, G>,
+    plan: &Plan,
+    pace: Pace,
+    node: NodeId,
+    out: &mut K,
+    kept: &mut Option<Fleet>,
+) -> Status
+    requires postable { ArePostable plan.now.topology [] plan.now.lines }
+    requires none { kept.old ≡ None }
+    requires node { (name : List ℕ) × (plan_node plan.now name ≡ Some node) }
+    ensures { (bs : List ℕ) (name : List ℕ) → PlanOf bs (Ok plan.now) →
+        plan_node plan.now name ≡ Some node →
+        IsAnswered K.written K.faults (Watch pace name) bs out.old out.new kept.new result }
+{
+    match Fleet::new(host.alloc, &plan.topology) {
+        Ok(mut fleet) => {
+            let status = watch_node(host, plan, pace, node, &mut fleet, out);
+            keep(kept, fleet);
+            status
+        }
+        Err(OutOfMemory) => Status::OutOfMemory,
+    }
+}
+
+// Tells that the plan has no node of this name.
+fn tell_unknown<K: Sink>(alloc: Global, name: &str, out: &mut K) -> Status
+    ensures { WasToldOrNothing K.written K.faults out.old out.new
+        (no_node_text name.now) Status.Done result }
+{
+    match unknown_text(alloc, name) {
+        Ok(text) => tell(out, &text, Status::Done),
+        Err(OutOfMemory) => Status::OutOfMemory,
+    }
+}
+
+/// What `run --watch` with the name of a node answers of the input.
+pub fn watch_input<R: Threads + Wait + Sync, K: Sink, G: Gate>(
+    host: &Host<R, G>,
+    pace: Pace,
+    name: &str,
+    bytes: &[u8],
+    out: &mut K,
+    kept: &mut Option<Fleet>,
+) -> Status
+    requires { kept.old ≡ None }
+    ensures { IsAnswered K.written K.faults (Watch pace name.now) bytes.now
+        out.old out.new kept.new result }
+{
+    match read_plan(host.alloc, bytes) {
+        Ok(plan) => match node_of_name(&plan, name) {
+            Some(node) => watch(host, &plan, pace, node, out, kept),
+            None => tell_unknown(host.alloc, name, out),
+        },
+        Err(PlanError::Fault(fault)) => refuse(host.alloc, fault, out),
+        Err(PlanError::OutOfMemory) => Status::OutOfMemory,
+    }
+}
