@@ -18,7 +18,7 @@ from .support import EXAMPLES, TOP, ason_told, plan_text, tool
 PLAN = 'script = ["wait 2"]\n[[node]]\nname = "a"\nid = 1\n'
 
 TRACE = f"""\
-ason-trace 1
+ason-trace 2
 plan 47
 {PLAN}
 events 2
@@ -36,8 +36,9 @@ TEAR = bytes.fromhex(
 )
 
 NO_TRACE = [
-    ("", "it doesn't begin as a trace, with a line `ason-trace 1` and its plan"),
-    (TRACE.replace("plan 47", "plan 45"), "it doesn't begin as a trace, with a line `ason-trace 1` and its plan"),
+    ("", "it doesn't begin as a trace, with a line `ason-trace 2` and its plan"),
+    (TRACE.replace("ason-trace 2", "ason-trace 3"), "it doesn't begin as a trace, with a line `ason-trace 2` and its plan"),
+    (TRACE.replace("plan 47", "plan 45"), "it doesn't begin as a trace, with a line `ason-trace 2` and its plan"),
     (TRACE.replace("events 2", "events 9"), "it has no line with the number of its events, or fewer lines than that"),
     (TRACE.replace("events 2", "events 1"), "no table follows its events"),
     (TRACE.replace("2 a tick", "2 a tock"), "its event 2 isn't one"),
@@ -55,10 +56,13 @@ class ReadTest(unittest.TestCase):
         self.assertEqual(trace.entries, (Tick(1, "a"), Tick(2, "a")))
         self.assertEqual(trace.table.text(), "calls 0 legs 0\n")
 
+    def test_a_trace_of_version_1(self) -> None:
+        self.assertEqual(traces.read(TRACE.replace("ason-trace 2", "ason-trace 1").encode()), traces.read(TRACE.encode()))
+
     def test_each_kind_of_entry(self) -> None:
         plan = plan_text(["setup  c1 a b", "settle 5", "fail link 1"])
         lines = ["1 - post setup c1 a b", "2 a desk", "2 - post fail link 1", "3 b deliver a 7", "4 a noise b 2E00", "5 a noise b -"]
-        text = f"ason-trace 1\nplan {len(plan)}\n{plan}\nevents {len(lines)}\n" + "".join(line + "\n" for line in lines)
+        text = f"ason-trace 2\nplan {len(plan)}\n{plan}\nevents {len(lines)}\n" + "".join(line + "\n" for line in lines)
         self.assertEqual(
             traces.read(f"{text}table\ncalls 0 legs 0\nend\n".encode()).entries,
             (

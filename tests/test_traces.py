@@ -19,7 +19,7 @@ name = "a"
 id = 1
 """
 TWO_TICKS_TRACE = f"""\
-ason-trace 1
+ason-trace 2
 plan 47
 {TWO_TICKS}
 events 2
@@ -55,7 +55,7 @@ class TraceTest(unittest.TestCase):
                 plan = (EXAMPLES / f"{example}.toml").read_text()
                 ended = ason_told("run", "--trace", given=plan)
                 self.assertEqual(ended.status, DONE)
-                self.assertTrue(ended.out.startswith(f"ason-trace 1\nplan {len(plan.encode())}\n{plan}\nevents "))
+                self.assertTrue(ended.out.startswith(f"ason-trace 2\nplan {len(plan.encode())}\n{plan}\nevents "))
                 table = ended.out.rsplit("\ntable\n", 1)[1]
                 printed = ason_told("run", given=plan).out
                 self.assertTrue(printed.endswith(table.removesuffix("end\n")))
@@ -100,12 +100,16 @@ class TraceTest(unittest.TestCase):
             self.assertEqual((ended.returncode, file.read()), (WRITE_FAULT, b"ason-"))
 
 
-class CheckTest(unittest.TestCase):
-    """Traces that are checked."""
+class Checking(unittest.TestCase):
+    """What `check` tells of a trace."""
 
     def told(self, trace: str, status: int, text: str) -> None:
         ended = ason_told("check", given=trace)
         self.assertEqual((ended.status, ended.out), (status, text))
+
+
+class CheckTest(Checking):
+    """Traces that are checked."""
 
     def test_two_ticks(self) -> None:
         self.told(TWO_TICKS_TRACE, DONE, "run of 2 events\ncalls 0 legs 0\n")
@@ -121,7 +125,7 @@ class CheckTest(unittest.TestCase):
 
     def test_the_first_wrong_index_is_told(self) -> None:
         for old, new, index in (
-            ("ason-trace 1", "ason-trace 2", 0),
+            ("ason-trace 2", "ason-trace 3", 0),
             ("plan 47", "plan 46", 0),
             ("events 2", "events two", 0),
             ("1 a tick", "1 b tick", 1),
@@ -137,12 +141,47 @@ class CheckTest(unittest.TestCase):
 
     def test_a_frame_that_was_not_sent(self) -> None:
         plan = PAIR.text()
-        trace = f"ason-trace 1\nplan {len(plan)}\n{plan}\nevents 1\n1 b deliver a 1\ntable\ncalls 0 legs 0\nend\n"
+        trace = f"ason-trace 2\nplan {len(plan)}\n{plan}\nevents 1\n1 b deliver a 1\ntable\ncalls 0 legs 0\nend\n"
         self.told(trace, NOT_RUN, "not a run 1\n")
 
     def test_a_plan_with_a_fault(self) -> None:
         plan = LOOP.text()
-        self.told(f"ason-trace 1\nplan {len(plan)}\n{plan}\n", PLAN_REFUSED, "refused plan link 1 ends\n")
+        self.told(f"ason-trace 2\nplan {len(plan)}\n{plan}\n", PLAN_REFUSED, "refused plan link 1 ends\n")
+
+
+class FirstVersionTest(Checking):
+    """Traces of version 1, whose events are replayed anew."""
+
+    def trace(self, plan: str, events: list[str], table: str = "calls 0 legs 0") -> str:
+        """The trace of version 1 with these events, or what an earlier machine took for one."""
+        lines = "".join(line + "\n" for line in events)
+        return f"ason-trace 1\nplan {len(plan)}\n{plan}\nevents {len(events)}\n{lines}table\n{table}\nend\n"
+
+    def test_a_run_loses_nothing(self) -> None:
+        trace = self.trace(TWO_TICKS, ["1 a tick", "2 a tick"])
+        self.told(trace, DONE, "migrated 0 left out\nrun of 2 events\ncalls 0 legs 0\n")
+
+    def test_what_cannot_happen_is_left_out(self) -> None:
+        trace = self.trace(PAIR.text(), ["1 b deliver a 1"])
+        self.told(trace, DONE, "migrated 1 left out\nrun of 0 events\ncalls 0 legs 0\n")
+
+    def test_any_table_will_do(self) -> None:
+        for table in ("calls 9 legs 9", "no table", "table\n\nend"):
+            with self.subTest(table=table):
+                trace = self.trace(TWO_TICKS, ["1 a tick", "2 a tick"], table)
+                self.told(trace, DONE, "migrated 0 left out\nrun of 2 events\ncalls 0 legs 0\n")
+
+    def test_the_form_is_the_same(self) -> None:
+        for events, index in ((["1 b tick"], 1), (["2 a tick", "1 a tick"], 2)):
+            with self.subTest(events=events):
+                self.told(self.trace(TWO_TICKS, events), NOT_RUN, f"not a run {index}\n")
+        self.told(self.trace(TWO_TICKS, ["1 a tick"]) + "more\n", NOT_RUN, "not a run 2\n")
+
+    def test_no_plan_had_two_way_calls(self) -> None:
+        plan = replace(PAIR, script=["setup c1 a b unprotected both"]).text()
+        self.told(self.trace(plan, []), PLAN_REFUSED, "refused plan script 1 words\n")
+        second = self.trace(plan, []).replace("ason-trace 1", "ason-trace 2", 1)
+        self.told(second, DONE, "run of 0 events\ncalls 0 legs 0\n")
 
 
 if __name__ == "__main__":

@@ -300,7 +300,7 @@ class ToolTest(unittest.TestCase):
         self.assertIn("a number has no sign and no leading zero, as 010 has", zero)
 
     def test_each_form_is_one_of_the_program(self) -> None:
-        routes = {"setup NAME FROM TO via L,.. backup L,..": "setup z a c via 4 backup 1,2"}
+        routes = {f"setup NAME FROM TO {both}via L,.. backup L,..": f"setup z a c {both}via 4 backup 1,2" for both in ("", "both ")}
         words = {"NAME": "z", "FROM": "a", "TO": "c", "L,..": "4", "N": "7", "R": "9", "A": "a", "B": "b", "K": "5", "HEX": "00"}
         network = plan_text().replace('ends = ["a", "c"]', 'srlg = [7]\nends = ["a", "c"]').replace("id = 4\nsrlg", "id = 7\nsrlg")
         for form in FORMS:

@@ -66,7 +66,7 @@ class Trace:
 
 _NUMBER = r"0|[1-9][0-9]{0,19}"
 _NAME = r"[A-Za-z][A-Za-z0-9_-]{0,15}"
-_HEAD = re.compile(rb"ason-trace 1\nplan (0|[1-9][0-9]{0,9})\n")
+_HEAD = re.compile(rb"ason-trace [12]\nplan (0|[1-9][0-9]{0,9})\n")
 _EVENTS = re.compile(rf"events ({_NUMBER})")
 _ENTRY = re.compile(rf"({_NUMBER}) ({_NAME}|-) (tick|desk|deliver ({_NAME}) ({_NUMBER})|noise ({_NAME}) ([0-9A-F]+|-)|post (.+))")
 
@@ -76,7 +76,7 @@ def read(data: bytes) -> Trace:
     head = _HEAD.match(data)
     behind = head.end() + int(head[1]) if head else 0
     if head is None or data[behind : behind + 1] != b"\n":
-        raise ToolError("it doesn't begin as a trace, with a line `ason-trace 1` and its plan")
+        raise ToolError("it doesn't begin as a trace, with a line `ason-trace 2` and its plan")
     source = data[head.end() : behind]
     try:
         lines = data[behind + 1 :].decode("ascii").split("\n")

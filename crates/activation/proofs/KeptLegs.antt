@@ -1,9 +1,11 @@
--- The legs fit after each step of an activation, and after it is taken back, and their marks may be set.
+-- The legs fit after each step of an activation, and after it is taken back; they keep their labels, and their marks
+-- may be set.
 use Rattle.std.proofs.Common.{◌≡◌, ◌∙◌, ℕ, Bool, true, false, cond, refl, ap, subst, sym, List, drop}
 use Rattle.std.specs.Prelude.{◌&&◌, Option, Some, None}
 use Rattle.ason_base.specs.Labels.{has}
 use Rattle.ason_base.specs.declared.calls.Phase.{Phase}
 use Rattle.ason_base.specs.declared.calls.Phase.TheVariants as phase
+use Rattle.ason_base.specs.declared.ids.Lsp.{Lsp}
 use Rattle.ason_base.specs.declared.ids.NodeId.{NodeId}
 use Rattle.ason_base.specs.declared.messages.Msg.{Msg}
 use Rattle.ason_base.specs.declared.messages.Msg.TheVariants.{Path, Resv, PathTear, PathErr, Notify}
@@ -17,7 +19,7 @@ use Rattle.mesh_rules.specs.ActivationAnswers.{confirmed, contended, disarmed, i
 use Rattle.mesh_rules.specs.Activations.{path_again}
 use Rattle.mesh_rules.specs.Changes.{Answer, nothing}
 use Rattle.mesh_rules.specs.Legs.{find_leg, following, is_armed, is_asked, is_label, is_node, is_over, previous}
-use Rattle.mesh_rules.specs.Messages.{arrival, on_message}
+use Rattle.mesh_rules.specs.Messages.{arrival}
 use Rattle.mesh_rules.specs.PathErrs.{PathFailure, on_path_err, path_err_with, removed}
 use Rattle.mesh_rules.specs.Paths.{PathRequest, is_active, path_with}
 use Rattle.mesh_rules.specs.Resvs.{answered, on_resv, resv_with}
@@ -25,29 +27,31 @@ use Rattle.mesh_rules.specs.State.{new_node}
 use Rattle.mesh_nodes.specs.LocalNodes.{LocalNodeFits}
 use Rattle.mesh_nodes.proofs.Cases.{both_left, if_cases}
 use Rattle.leg_table.specs.Fits.{OwnLegsFit, legs_after}
-use Rattle.leg_table.specs.LegClaims.{MayAllMark, is_own_fibre}
+use Rattle.mesh_nodes.specs.Kept.{LegFits}
+use Rattle.mesh_nodes.proofs.LegList.{found-all}
+use Rattle.leg_table.specs.LegClaims.{OverOwnFibres}
+use Rattle.leg_table.proofs.OwnFibres.{over-own}
 use Rattle.leg_table.specs.States.{legs_state, local_of}
 use Rattle.leg_table.specs.Tables.{LegTable}
+use Rattle.leg_labels.proofs.Activated.{confirmed-calm, contended-calm, path_again-calm}
+use Rattle.leg_labels.proofs.CallLegs.{Calm}
+use Rattle.leg_labels.proofs.MayPut.{found-itself}
 use Rattle.leg_labels.proofs.OwnLegs.{legs-after, next_state}
-use Rattle.leg_labels.proofs.RuleChanges.{message-may}
 use Rattle.activation.specs.Answers.{activate_answer, busy_answer, connect_answer, connected_here, contended_here, path_here, path_taken, take_back_answer}
 
--- what an answer does to the legs
+-- what an answer does to the legs: they keep their labels
 pub record Keeps (t : LegTable) (a : Answer) : Type 0 where
   pub legs : OwnLegsFit (legs_after t a)
-  pub marks : MayAllMark (is_own_fibre (local_of t)) t.legs a.legs
-
--- the node answers so to some message, whatever number is next
-answers : (t : LegTable) (u : NodeId) (m : Msg) (a : Answer) → LocalNodeFits (local_of t) → OwnLegsFit t →
-    ((next : ℕ) → a.legs ≡ (on_message (local_of t) (next_state t next) u m).legs) → Keeps t a
-answers t u m a links (next, some, legs) is = record {
-  legs = legs-after t u m a.legs links (next, some, legs) is;
-  marks = subst (MayAllMark (is_own_fibre (local_of t)) t.legs) (sym (is next))
-      (message-may (local_of t) (next_state t next) next u m links legs.each tt).1;
-}
+  pub calm : Calm (local_of t) t.legs a
 
 none : (t : LegTable) → OwnLegsFit t → Keeps t nothing
-none t fits = record { legs = fits; marks = tt }
+none t fits = record { legs = fits; calm = (tt, tt) }
+
+-- the legs that stand are over the node's fibres
+over-here : (t : LegTable) (l : Lsp) (g : Leg) → LocalNodeFits (local_of t) → OwnLegsFit t →
+    find_leg l t.legs ≡ Some g → OverOwnFibres (local_of t) g
+over-here t l g links (next, some, legs) found =
+    over-own (local_of t) next g links (found-all (LegFits (local_of t) next) l t.legs g found legs.each)
 
 -- whatever number is next, the machine's rules are these
 
@@ -105,6 +109,19 @@ module _ (t : LegTable) (next : ℕ) (g : Leg) (u : NodeId) (e : PathFailure) wh
       ∙ sym (ap (λ b. (cond b (cond e.removed (removed s g e) (contended s g e.msg)) nothing).legs) near)
       ∙ sym (ap (λ o. (path_err_with s u e o).legs) found)
 
+-- a call would follow at an ingress, and none stands here
+confirmed-here : (t : LegTable) (g : Leg) (o : Option Neighbour) →
+    confirmed (legs_state t) g o ≡ confirmed new_node g o
+confirmed-here t g None = refl
+confirmed-here t g (Some h) = refl
+
+contended-at : (t : LegTable) (g : Leg) (m : Msg) → contended (legs_state t) g m ≡ contended new_node g m
+contended-at t g m = ap (λ a. cond (is_armed g.phase) a nothing) (go (previous g))
+  where
+    go : (o : Option Neighbour) → disarmed (legs_state t) g m o ≡ disarmed new_node g m o
+    go None = refl
+    go (Some h) = refl
+
 -- Each answer
 
 -- a Path where a leg of its LSP may stand
@@ -121,17 +138,22 @@ path-legs t m links fits = go (find_leg m.arrival.lsp t.legs) refl
     go : (o : Option Leg) → find_leg a.lsp t.legs ≡ o → Keeps t (path_taken t a left m.role o)
     go None found = none t fits
     go (Some g) found =
-        answers t a.from (Path a.lsp a.egress a.link m.route m.set None m.role)
-        (path_again (local_of t) (legs_state t) a left m.role g) links fits
-        (λ next. ap (λ w. w.legs) (path-by t next a left m.role g
-        ∙ ap (path_with (local_of t) (next_state t next) m) (sym found)))
+        record {
+          legs = legs-after t a.from (Path a.lsp a.egress a.link m.route m.set m.upstream m.role)
+              (path_again (local_of t) (legs_state t) a left m.role g).legs links fits
+              (λ next. ap (λ w. w.legs) (path-by t next a left m.role g
+              ∙ ap (path_with (local_of t) (next_state t next) m) (sym found)));
+          calm = path_again-calm (local_of t) (legs_state t) g (over-here t a.lsp g links fits found)
+              (found-itself a.lsp t.legs g found) a left m.role;
+        }
 
 pub activate-keeps : (t : LegTable) (u : NodeId) (m : Msg) → LocalNodeFits (local_of t) → OwnLegsFit t →
     Keeps t (activate_answer t u m)
 activate-keeps t u (Path l e k route set up r) links fits =
     let a = arrival l e u k in
     if_cases (Keeps t) (is_active r) (path_here t a (drop 1 route) r) nothing
-    (λ active. path-legs t (record { arrival = a; route = route; set = set; role = r }) links fits) (λ other. none t fits)
+    (λ active. path-legs t (record { arrival = a; route = route; set = set; upstream = up; role = r }) links fits)
+    (λ other. none t fits)
 activate-keeps t u (Resv l e k x) links fits = none t fits
 activate-keeps t u (PathTear l e k) links fits = none t fits
 activate-keeps t u (PathErr l e at gone code) links fits = none t fits
@@ -142,7 +164,7 @@ pub take_back-keeps : (t : LegTable) (u : NodeId) (m : Msg) → LocalNodeFits (l
 take_back-keeps t u (Path l e k route set up r) links fits =
     let a = arrival l e u k in
     if_cases (Keeps t) (is_active r) nothing (path_here t a (drop 1 route) r) (λ active. none t fits)
-    (λ other. path-legs t (record { arrival = a; route = route; set = set; role = r }) links fits)
+    (λ other. path-legs t (record { arrival = a; route = route; set = set; upstream = up; role = r }) links fits)
 take_back-keeps t u (Resv l e k x) links fits = none t fits
 take_back-keeps t u (PathTear l e k) links fits = none t fits
 take_back-keeps t u (PathErr l e at gone code) links fits = none t fits
@@ -160,8 +182,14 @@ connect-keeps t u (Resv l e k x) links fits = go (find_leg l t.legs) refl
     go None found = none t fits
     go (Some g) found =
         if_cases (Keeps t) (is_confirmed a x g) (confirmed new_node g (previous g)) nothing
-        (λ takes. answers t u (Resv l e k x) (confirmed new_node g (previous g)) links fits
-        (λ next. resv-is t next a x g found takes)) (λ other. none t fits)
+        (λ takes. record {
+          legs = legs-after t u (Resv l e k x) (confirmed new_node g (previous g)).legs links fits
+              (λ next. resv-is t next a x g found takes);
+          calm = subst (Calm (local_of t) t.legs) (confirmed-here t g (previous g))
+              (confirmed-calm (local_of t) (legs_state t) g (over-here t l g links fits found)
+              (found-itself l t.legs g found) (previous g) (both_left (is_armed g.phase) _ takes));
+        })
+        (λ other. none t fits)
 connect-keeps t u (PathTear l e k) links fits = none t fits
 connect-keeps t u (PathErr l e at gone code) links fits = none t fits
 connect-keeps t u (Notify l e at k code) links fits = none t fits
@@ -184,6 +212,12 @@ busy-keeps t u (PathErr l e at false code) links fits = go (find_leg l t.legs) r
     go None found = none t fits
     go (Some g) found =
         if_cases (Keeps t) (is_node (following g) u) (contended new_node g m) nothing
-        (λ near. answers t u m (contended new_node g m) links fits
-        (λ next. err-is t next g u f found refl near)) (λ other. none t fits)
+        (λ near. record {
+          legs = legs-after t u m (contended new_node g m).legs links fits
+              (λ next. err-is t next g u f found refl near);
+          calm = subst (Calm (local_of t) t.legs) (contended-at t g m)
+              (contended-calm (local_of t) (legs_state t) g (over-here t l g links fits found)
+              (found-itself l t.legs g found) m);
+        })
+        (λ other. none t fits)
 busy-keeps t u (Notify l e at k code) links fits = none t fits

@@ -1,3 +1,2 @@
 pub mod KeptLegs
-pub mod MayStay
 pub mod PathsHere

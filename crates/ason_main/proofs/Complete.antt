@@ -157,7 +157,7 @@ passes text run s ends = by_length (cases_lt 4194304 (length text))
     by_length : (4194304 < length text) ⊎ (length text ≤ 4194304) →
         IsDoneOrOutOfMemory s ⊎ ((s ≡ Status.TooLong) × (4194304 < length text))
     by_length (inl long) = too_long (length text) s long (ends.1 long)
-    by_length (inr short) = inl ((ends.0 short).done run.0 run.1)
+    by_length (inr short) = inl ((ends.0 short).done run.0 (inl run.1))
 
 pub is_checked_trace : {K : Type 0} (written : K → Option (List ℕ)) (faults : K → ℕ) (words : List (List ℕ))
     (old new : K) (r : Reply) (s : Status) → WasGiven written faults old new r s → TellsItsRun words r s →

@@ -18,7 +18,7 @@ use Rattle.log_merge.specs.declared.merging.Merging.{Merging}
 use Rattle.fleet.specs.Rounds.{Merges}
 use Rattle.fleet.specs.Standing.{FleetState, StandsFor}
 use Rattle.table_text.specs.TableText.{stopped_text}
-use Rattle.trace_text.specs.Checks.{IsChecked}
+use Rattle.trace_text.specs.Checks.{IsRunTrace}
 use Rattle.trace_text.specs.Complete.{EveryRunIsChecked, EveryScriptPosts}
 use Rattle.trace_text.specs.Merges.{EveryMergeComes}
 use Rattle.trace_text.specs.TraceText.{trace_text}
@@ -143,9 +143,15 @@ run_trace : RoundLaws → EveryScriptPosts → EveryRunIsChecked → (p : Plan) 
     IsTraceOfRun text
 run_trace rounds posts checked p how bs more printed text plan run prints whole =
     let trace = whole.trace in
-    let c : Checked = record { events = length trace.merge; plan = p; rows = trace.rows } in (
+    let c : Checked = record {
+      version = 2;
+      events = length trace.merge;
+      left_out = 0;
+      plan = p;
+      rows = trace.rows;
+    } in (
       c,
-      subst (λ xs. IsChecked xs c) (sym trace.told)
+      subst (λ xs. IsRunTrace xs c) (sym trace.told)
           (checked p bs (end_of more).made trace.merge trace.rows (record {
             spelled = plan;
             possible = (lawful_end p more run).possible;

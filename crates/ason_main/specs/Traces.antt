@@ -1,5 +1,5 @@
 -- What the program tells of a run as a whole: its trace.
-use Rattle.std.specs.Prelude.{◌≡◌, ◌<◌, ◌⊎◌, ◌++◌, ℕ, List, [], Option, codes, length, take}
+use Rattle.std.specs.Prelude.{◌≡◌, ◌<◌, ◌⊎◌, ◌++◌, ℕ, List, [], Option, codes, length, take, if◌then◌else◌}
 use Rattle.std.specs.Fmt.{decimal}
 use Rattle.table_text.specs.TableText.{table_text}
 use Rattle.trace_text.specs.declared.checking.Checked.{Checked}
@@ -17,7 +17,8 @@ use Rattle.plan_reader.specs.declared.plan.Plan.{Plan}
 use Rattle.script_rules.specs.Laws.{AreSame}
 use Rattle.script_rules.specs.Stages.{Stage}
 use Rattle.script_rules.specs.Tables.{IsTable}
-use Rattle.trace_text.specs.Checks.{IsChecked}
+use Rattle.trace_text.specs.Checks.{IsRunTrace}
+use Rattle.trace_text.specs.TraceForms.{is_version_2}
 use Rattle.trace_text.specs.TraceText.{trace_text}
 use Rattle.trace_text.specs.Widths.{TraceFits}
 use Rattle.trace_text.specs.declared.write.TraceWriteFault.{TraceWriteFault}
@@ -78,11 +79,22 @@ IsPartOfTrace p workers bs more text =
 
 -- this is the trace of a run of its plan, with the table to which the run leads
 abbrev pub IsTraceOfRun : List ℕ → Type 0
-IsTraceOfRun text = (c : Checked) × IsChecked text c
+IsTraceOfRun text = (c : Checked) × IsRunTrace text c
 
--- `run of E events`, and the table
+-- `migrated N left out` where the trace is of version 1
+abbrev pub migrated_line : Checked → List ℕ
+migrated_line c = if is_version_2 c.version then [] else codes "migrated " ++ decimal c.left_out ++ codes " left out\n"
+
+-- `run of E events`
+abbrev pub run_line : Checked → List ℕ
+run_line c = codes "run of " ++ decimal c.events ++ codes " events\n"
+
+-- what is told before the table
+abbrev pub summary : Checked → List ℕ
+summary c = migrated_line c ++ run_line c
+
 abbrev pub checked_text : Checked → List ℕ
-checked_text c = codes "run of " ++ decimal c.events ++ codes " events\n" ++ table_text c.plan c.rows
+checked_text c = summary c ++ table_text c.plan c.rows
 
 -- `not a run I`
 abbrev pub not_run_text : ℕ → List ℕ

@@ -2,7 +2,7 @@
 
 ghost use Rattle.std.specs.Prelude.{◌≡◌, None, IfOk, string_bytes};
 ghost use Rattle.ason_main.specs.Answers.{Check, IsAnswered};
-ghost use Rattle.ason_main.specs.Traces.{checked_text, not_run_text};
+ghost use Rattle.ason_main.specs.Traces.{checked_text, migrated_line, not_run_text, run_line, summary};
 
 use crate::answers::Status;
 use crate::telling::{refuse, tell};
@@ -12,13 +12,41 @@ use std::alloc::Global;
 use table_text::write_table;
 use trace_text::{Checked, TraceFault, check};
 
-// What is told of the trace of a run.
+// How many events of a trace of version 1 were left out.
+fn migrated_line(alloc: Global, checked: &Checked) -> Result<String, OutOfMemory>
+    ensures { IfOk result (λ text. string_bytes text ≡ migrated_line checked.now) }
+{
+    if checked.version == 2 {
+        return Ok(String::new(alloc));
+    }
+    let left_out = checked.left_out;
+    let text = format!(in alloc; "migrated {left_out} left out\n")?;
+    Ok(text)
+}
+
+// How many events the run has.
+fn run_line(alloc: Global, checked: &Checked) -> Result<String, OutOfMemory>
+    ensures { IfOk result (λ text. string_bytes text ≡ run_line checked.now) }
+{
+    let events = checked.events;
+    let text = format!(in alloc; "run of {events} events\n")?;
+    Ok(text)
+}
+
+// What is told of a trace before its table.
+fn summary(alloc: Global, checked: &Checked) -> Result<String, OutOfMemory>
+    ensures { IfOk result (λ text. string_bytes text ≡ summary checked.now) }
+{
+    let mut text = migrated_line(alloc, checked)?;
+    text.push_str(&run_line(alloc, checked)?)?;
+    Ok(text)
+}
+
+// What is told of a trace that passes.
 fn checked_text(alloc: Global, checked: &Checked) -> Result<Vec<u8>, OutOfMemory>
     ensures { IfOk result (λ text. text.items ≡ checked_text checked.now) }
 {
-    let events = checked.events;
-    let line = format!(in alloc; "run of {events} events\n")?;
-    let mut text = line.as_bytes().to_vec(alloc)?;
+    let mut text = summary(alloc, checked)?.as_bytes().to_vec(alloc)?;
     write_table(alloc, &mut text, &checked.plan, &checked.rows)?;
     Ok(text)
 }

@@ -18,7 +18,7 @@ use Rattle.mesh_rules.specs.ActivationAnswers.{confirmed, contended, disarmed, i
 use Rattle.mesh_rules.specs.CallSteps.{call_answered, call_contended, call_refused, call_turned}
 use Rattle.mesh_rules.specs.Calls.{call_with}
 use Rattle.mesh_rules.specs.Changes.{Answer, changed, followed_by, nothing, puts, removes}
-use Rattle.mesh_rules.specs.Legs.{connected, find_leg, following, is_armed, is_closing, is_in_use, is_node, is_work, previous, reserved, with_leg, with_phase, without_leg}
+use Rattle.mesh_rules.specs.Legs.{connected, find_leg, following, is_armed, is_asked, is_closing, is_in_use, is_node, is_work, previous, reserved, with_leg, with_phase, without_leg}
 use Rattle.mesh_rules.specs.LocalNodes.{LocalNode}
 use Rattle.mesh_rules.specs.Messages.{arrival, on_message}
 use Rattle.mesh_rules.specs.Notifies.{Notice, notice_passed, notice_told, notify_with}
@@ -73,6 +73,7 @@ module _ (before t : LegTable) (c : CallTable) (u : NodeId) (l : Lsp) (e : NodeI
     pub is : t ≡ record before { legs = with_leg h before.legs }
     pub lsp : h.lsp ≡ g.lsp
     pub role : h.role ≡ g.role
+    pub risks : h.risks ≡ g.risks
     pub unarmed : is_armed h.phase ≡ false
     pub whole : on_message p s u m ≡ followed_by (puts h []) a
 
@@ -82,7 +83,7 @@ module _ (before t : LegTable) (c : CallTable) (u : NodeId) (l : Lsp) (e : NodeI
 
     -- a leg gets its labels, or an Armed one is Live
     pub data TakesResv : Type 0 where
-      connects : (g : Leg) →
+      connects : (g : Leg) → is_asked g.phase ≡ true →
           Becomes (Resv l e k x) g (connected g None x)
           (call_answered p s (connected g None x) (call_with g.lsp c.calls)) → TakesResv
       confirms : (g : Leg) → is_confirmed a x g ≡ true →
@@ -118,11 +119,12 @@ module _ (before t : LegTable) (c : CallTable) (u : NodeId) (l : Lsp) (e : NodeI
                 ∙ ap (legs_after before) rule
 
             by_kind : (b : Bool) → is_expected a x g ≡ b → TakesResv
-            by_kind true expected = connects g (record {
+            by_kind true expected = connects g (both_left (is_asked g.phase) _ expected) (record {
               found = found;
               is = is _ (resv-connects (legs_state before) g first expected);
               lsp = refl;
               role = refl;
+              risks = refl;
               unarmed = reserved-unarmed g.role;
               whole = ap (resv_with p s a x) found ∙ resv-connects s g first expected;
             })
@@ -134,6 +136,7 @@ module _ (before t : LegTable) (c : CallTable) (u : NodeId) (l : Lsp) (e : NodeI
                   is = is _ (resv-confirms (legs_state before) g first other armed);
                   lsp = refl;
                   role = refl;
+                  risks = refl;
                   unarmed = refl;
                   whole = ap (resv_with p s a x) found ∙ resv-confirms s g first other armed;
                 })
@@ -215,6 +218,7 @@ module _ (before t : LegTable) (c : CallTable) (u : NodeId) (l : Lsp) (e : NodeI
                 ∙ ap (legs_after before) (err-busy (legs_state before) g applies);
             lsp = refl;
             role = refl;
+            risks = refl;
             unarmed = refl;
             whole = ap (path_err_with s u (f false)) found ∙ err-busy s g applies;
           };

@@ -1,26 +1,32 @@
 -- What becomes of a call is the same with the legs before a message and with those after what it did to the leg.
-use Rattle.std.proofs.Common.{◌≡◌, Bool, true, false, cond, nat_lt, nat_le, List, drop, length, refl, sym, ap, ◌∙◌}
-use Rattle.std.specs.Prelude.{Option, Some, None, is_some}
+use Rattle.std.proofs.Common.{◌≡◌, ◌+◌, ℕ, Bool, true, false, cond, nat_lt, nat_le, List, drop, length, refl, sym, ap, ◌∙◌}
+use Rattle.std.specs.Prelude.{◌&&◌, Option, Some, None, is_some}
 use Rattle.ason_base.specs.Risks.{unknown_link}
-use Rattle.ason_base.specs.Codes.{busy_code}
+use Rattle.ason_base.specs.Codes.{busy_code, label_code}
+use Rattle.ason_base.specs.Labels.{least}
 use Rattle.ason_base.specs.declared.calls.CallState.{CallState}
 use Rattle.ason_base.specs.declared.calls.CallState.TheVariants.{Asking, Bare, Blocked, Guarded, Pairing, Stuck, Turned, Turning}
 use Rattle.ason_base.specs.declared.calls.Cause.TheVariants.{Code, Full, NoBackup, Spent}
+use Rattle.ason_base.specs.declared.calls.Role.{Role}
 use Rattle.ason_base.specs.declared.codes.ErrCode.{ErrCode}
+use Rattle.ason_base.specs.declared.ids.Fibre.{Fibre}
 use Rattle.ason_base.specs.declared.ids.Lsp.{Lsp}
+use Rattle.ason_base.specs.declared.messages.PathRole.{PathRole}
 use Rattle.ason_base.specs.declared.network.LinkSpec.{LinkSpec}
+use Rattle.ason_base.specs.declared.risks.Risk.{Risk}
 use Rattle.ason_base.specs.declared.steps.Step.{Step}
 use Rattle.ason_base.specs.declared.tables.CallRec.{CallRec}
 use Rattle.ason_base.specs.declared.tables.Leg.{Leg}
 use Rattle.mesh_rules.specs.declared.limits.TheConstants.{LAST_NUMBER, MOST_LEGS}
 use Rattle.mesh_rules.specs.CallSteps.{backup_reserved, call_answered, call_contended, call_refused, call_turned}
-use Rattle.mesh_rules.specs.Calls.{bare, call_with, guarded, is_asking, is_pairing, is_turning, names, stuck, turned}
+use Rattle.mesh_rules.specs.Calls.{bare, call_with, guarded, is_asking, is_pairing, is_turning, names, pairing, stuck, turned}
 use Rattle.mesh_rules.specs.Changes.{Answer, nothing}
-use Rattle.mesh_rules.specs.FirstLegs.{first_link, is_full}
+use Rattle.mesh_rules.specs.FirstLegs.{asks_for, first_back, first_link, is_full}
 use Rattle.mesh_rules.specs.KnownRows.{known_rows}
-use Rattle.mesh_rules.specs.Legs.{find_leg, is_contended, is_held, is_work}
-use Rattle.mesh_rules.specs.LocalNodes.{LocalNode}
-use Rattle.mesh_rules.specs.Pairs.{backup_route, begins_backup, leaves_bare, over_backup, pair, pair_over, route_from}
+use Rattle.mesh_rules.specs.Legs.{find_leg, is_contended, is_held, is_work, reverse, usable}
+use Rattle.mesh_rules.specs.LocalNodes.{LocalNode, fibre_out}
+use Rattle.mesh_rules.specs.Pairs.{backup_lsp, backup_route, beside_lsp, guarding, is_two_way, leaves_bare, over_backup, pair, pair_over, route_from}
+use Rattle.mesh_rules.specs.Paths.{is_none, recorded, role_of}
 use Rattle.mesh_rules.specs.State.{NodeState}
 use Rattle.mesh_rules.specs.Turns.{arms, call_put, decide, decided, has_any}
 use Rattle.mesh_nodes.proofs.CallList.{called-names}
@@ -65,22 +71,35 @@ module _ (s : NodeState) (legs : List Leg) (b : Leg) (alike : is_contended legs 
 
 -- The call of a leg that got its labels
 
--- as many legs stand
+-- as many legs stand, which take what they took
 module _ (p : LocalNode) (s : NodeState) (legs : List Leg) (many : length legs ≡ length s.legs) (g : Leg)
-    (alike : is_contended legs g ≡ is_contended s.legs g) where
+    (alike : is_contended legs g ≡ is_contended s.legs g)
+    (as_usable : (r : Role) (risks : List Risk) (f : Fibre) → usable p legs r risks f ≡ usable p s.legs r risks f) where
   abbrev later : NodeState
   later = record s { legs = legs }
 
   full-same : is_full later ≡ is_full s
   full-same = ap (nat_le MOST_LEGS) many
 
+  back-same : (both : Bool) (r : PathRole) (out : LinkSpec) → first_back p later both r out ≡ first_back p s both r out
+  back-same false r out = refl
+  back-same true r out = ap least (as_usable (role_of r) (recorded (known_rows p s) r) (reverse (fibre_out out p.id)))
+
   module _ (c : CallRec) where
+    -- the backup that comes back on this label, where the node is full or isn't
+    admitted_with : LinkSpec → List Step → Bool → Option ℕ → Answer
+    admitted_with out route full back =
+        cond (nat_lt LAST_NUMBER s.lsp) (leaves_bare c Spent) (cond full (leaves_bare c Full)
+        (cond (is_two_way g && is_none back) (leaves_bare c (Code label_code))
+        (asks_for p s (record (backup_lsp p s g out route) { back = back }) (pairing c (beside_lsp g.lsp s.lsp))
+        (record { tunnel = s.tunnel; lsp = s.lsp + 1 }))))
+
     over-same : (route : List Step) (o : Option LinkSpec) →
         over_backup p later c g route o ≡ over_backup p s c g route o
+    unfolding admitted_with
     over-same route None = refl
     over-same route (Some out) =
-        ap (λ b. cond (nat_lt LAST_NUMBER s.lsp) (leaves_bare c Spent)
-        (cond b (leaves_bare c Full) (begins_backup p s c g out (drop 1 route)))) full-same
+        λ i. admitted_with out (drop 1 route) (full-same i) (back-same (is_two_way g) (guarding p g) out i)
 
     along-same : (o : Option (List Step)) → pair_over p later c g o ≡ pair_over p s c g o
     along-same None = refl

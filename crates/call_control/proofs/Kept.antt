@@ -89,7 +89,7 @@ item-keeps t c item fits stays =
     record {
       kept = (items-fit p s item fits.links fits.kept).kept;
       stays = stays;
-      fine = item-may p s c.lsp item fits.links fits.kept.legs.each fits.kept.calls.each;
+      fine = item-may p s item fits.links fits.kept.legs.each fits.kept.calls.each;
     }
 
 pub setup-keeps : (t : LegTable) (c : CallTable) (command : Command) → IngressFits t c →

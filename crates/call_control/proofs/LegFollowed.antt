@@ -1,19 +1,21 @@
 -- A leg at an ingress that a message changes alone, and the tables after it: what is done to its call is done there.
-use Rattle.std.proofs.Common.{◌≡◌, true, cond, length, List, [], ◌∷◌, sym, ap, subst, ◌∙◌, arith}
+use Rattle.std.proofs.Common.{◌≡◌, ℕ, true, cond, length, List, [], ◌∷◌, sym, ap, subst, ◌∙◌, arith}
 use Rattle.std.specs.Prelude.{Some}
 use Rattle.std.specs.List.{AllByRecursion}
+use Rattle.ason_base.specs.declared.calls.Role.{Role}
 use Rattle.ason_base.specs.declared.calls.Role.TheVariants.{Back}
+use Rattle.ason_base.specs.declared.ids.Fibre.{Fibre}
 use Rattle.ason_base.specs.declared.ids.Lsp.{Lsp}
 use Rattle.ason_base.specs.declared.ids.NodeId.{NodeId}
 use Rattle.ason_base.specs.declared.messages.Msg.{Msg}
+use Rattle.ason_base.specs.declared.risks.Risk.{Risk}
 use Rattle.ason_base.specs.declared.tables.CallRec.{CallRec}
 use Rattle.ason_base.specs.declared.tables.Leg.{Leg}
 use Rattle.ason_base.specs.declared.tables.Out.{Out}
-use Rattle.mesh_rules.specs.declared.changes.LegChange.{LegChange}
 use Rattle.mesh_rules.specs.declared.changes.LegChange.TheVariants as leg
 use Rattle.mesh_rules.specs.Calls.{call_with, names}
 use Rattle.mesh_rules.specs.Changes.{Answer, changed, followed_by, nothing}
-use Rattle.mesh_rules.specs.Legs.{find_leg, is_armed, is_contended, leg_changed, with_leg}
+use Rattle.mesh_rules.specs.Legs.{find_leg, is_armed, is_contended, takes, usable, with_leg}
 use Rattle.mesh_rules.specs.LocalNodes.{LocalNode}
 use Rattle.mesh_rules.specs.Messages.{on_message}
 use Rattle.mesh_rules.specs.State.{NodeState}
@@ -26,7 +28,10 @@ use Rattle.mesh_nodes.proofs.Links.{found-one}
 use Rattle.mesh_nodes.proofs.Messages.{messages-fit}
 use Rattle.leg_table.specs.States.{local_of, state_of}
 use Rattle.leg_table.specs.Tables.{CallTable, LegTable}
-use Rattle.leg_labels.proofs.CallLegs.{Fine, calm-fine}
+use Rattle.leg_table.specs.LegClaims.{StaysAs, TakesNoMore}
+use Rattle.leg_labels.proofs.CallLegs.{Fine}
+use Rattle.leg_labels.proofs.MayPut.{stays-less}
+use Rattle.leg_labels.proofs.UsableAfter.{later-made, usable-same}
 use Rattle.leg_labels.proofs.OwnContention.{contended-with}
 use Rattle.leg_labels.proofs.RuleChanges.{message-may}
 use Rattle.call_control.specs.Handlers.{answer_here, whole_answer}
@@ -37,10 +42,10 @@ use Rattle.call_control.proofs.Kept.{Keeps}
 use Rattle.call_control.proofs.Named.{Stays}
 use Rattle.call_control.proofs.Roles.{calls-stay, changed-stay, named-as}
 
--- what follows the first change of a leg
-pub rest-fine : (p : LocalNode) (legs : List Leg) (x : LegChange) (outs : List Out) (a : Answer) →
-    Fine p legs (followed_by (record nothing { legs = x ∷ []; sent = outs }) a) → Fine p (leg_changed x legs) a
-rest-fine p legs x outs a fine = calm-fine p (leg_changed x legs) a (fine.0.1, fine.1.1)
+-- what follows the first change, of a leg that takes no more than it did
+rest-fine : (p : LocalNode) (legs : List Leg) (h : Leg) (outs : List Out) (a : Answer) → TakesNoMore legs h →
+    Fine p legs (followed_by (record nothing { legs = leg.Put h ∷ []; sent = outs }) a) → Fine p (with_leg h legs) a
+rest-fine p legs h outs a less fine = (later-made p legs h less (with_leg h legs) a.legs fine.0.1, fine.1.1)
 
 -- the whole rule is what was done to the leg and then what is done to the call
 pub record Follows (before t : LegTable) (c : CallTable) (u : NodeId) (m : Msg) : Type 0 where
@@ -88,6 +93,20 @@ module _ (before : LegTable) (c : CallTable) (u : NodeId) (fits : IngressFits be
         calls-stay p.id.0 c.lsp c.lsp before.legs after.legs c.calls (omega arith)
         (changed-stay c.lsp h before.legs (ap role_at there ∙ ap Some (sym became.role))) fits.names
 
+    stands : ((f : Fibre) (x : ℕ) → takes f x g ≡ takes f x h) → StaysAs before.legs h
+    stands taken = record {
+      before = g;
+      there = there;
+      role = sym became.role;
+      risks = sym became.risks;
+      same = taken;
+    }
+
+    -- a leg that takes what it took leaves the same labels to others
+    pub usable-alike : ((f : Fibre) (x : ℕ) → takes f x g ≡ takes f x h) → (r : Role) (risks : List Risk) (f : Fibre) →
+        usable p after.legs r risks f ≡ usable p before.legs r risks f
+    usable-alike taken r risks f = usable-same p before.legs h r risks f (stands taken)
+
     -- the marked legs of other LSPs are those that were
     pub contended-alike : is_contended after.legs h ≡ is_contended before.legs h
     contended-alike = contended-with h h before.legs (same_lsp-refl h.lsp)
@@ -107,9 +126,10 @@ module _ (before : LegTable) (c : CallTable) (u : NodeId) (fits : IngressFits be
         (ap (λ (k : Lsp). k.ingress.0) (sym became.lsp) ∙ n.ingress) armed
 
     -- by the rule of its call
-    pub leg-follows : whole_answer before c u m ≡ on_message p s u m → answer_here after c m ≡ a →
+    pub leg-follows : ((f : Fibre) (x : ℕ) → takes f x g ≡ takes f x h) →
+        whole_answer before c u m ≡ on_message p s u m → answer_here after c m ≡ a →
         Stays p (state_of after c) a → Follows before after c u m
-    leg-follows whole part stays =
+    leg-follows taken whole part stays =
         let state : changed s (whole_answer before c u m) ≡ changed (state_of after c) (answer_here after c m) =
         ap (changed s) (whole ∙ became.whole) ∙ puts-then s h a ∙ ap (changed (state_of after c)) (sym part) in
         record {
@@ -122,7 +142,7 @@ module _ (before : LegTable) (c : CallTable) (u : NodeId) (fits : IngressFits be
                 (messages-fit p s u m fits.links fits.kept).kept;
             stays = subst (Stays p (state_of after c)) (sym part) stays;
             fine = subst (Fine p after.legs) (sym part)
-                (rest-fine p before.legs (leg.Put h) [] a (subst (Fine p before.legs) became.whole
-                (message-may p s c.lsp u m fits.links fits.kept.legs.each fits.kept.calls.each)));
+                (rest-fine p before.legs h [] a (stays-less before.legs h (stands taken)) (subst (Fine p before.legs) became.whole
+                (message-may p s u m fits.links fits.kept.legs.each)));
           };
         }

@@ -15,3 +15,4 @@ pub mod Named
 pub mod Roles
 mod Searched
 mod Told
+mod WayBack

@@ -2,11 +2,12 @@
 use Rattle.std.proofs.Common.{◌≡◌, ◌+◌, ℕ, Bool, true, false, cond, nat_eq, nat_lt, not, List, [], ◌∷◌, drop, refl, sym, ap, subst, ◌∙◌, arith}
 use Rattle.std.specs.Prelude.{◌&&◌, Option, Some, None, IfSome, is_some}
 use Rattle.std.specs.List.{AllByRecursion}
+use Rattle.ason_base.specs.Codes.{label_code}
 use Rattle.ason_base.specs.Lsps.{same_lsp}
 use Rattle.ason_base.specs.Risks.{unknown_link}
 use Rattle.ason_base.specs.declared.calls.CallState.TheVariants.{Asking, Blocked}
 use Rattle.ason_base.specs.declared.calls.Cause.{Cause}
-use Rattle.ason_base.specs.declared.calls.Cause.TheVariants.{Full, NoBackup, NoRoute, Spent, Unset}
+use Rattle.ason_base.specs.declared.calls.Cause.TheVariants.{Code, Full, NoBackup, NoRoute, Spent, Unset}
 use Rattle.ason_base.specs.declared.calls.Phase.{Phase}
 use Rattle.ason_base.specs.declared.calls.Phase.TheVariants.{Asked, Held, Armed, Live, Closing, Falling}
 use Rattle.ason_base.specs.declared.calls.Role.{Role}
@@ -14,6 +15,7 @@ use Rattle.ason_base.specs.declared.calls.Role.TheVariants.{Work, Back}
 use Rattle.ason_base.specs.declared.ids.CallNo.{CallNo}
 use Rattle.ason_base.specs.declared.ids.Lsp.{Lsp}
 use Rattle.ason_base.specs.declared.ids.NodeId.{NodeId}
+use Rattle.ason_base.specs.declared.messages.PathRole.TheVariants as path
 use Rattle.ason_base.specs.declared.network.LinkSpec.{LinkSpec}
 use Rattle.ason_base.specs.declared.steps.Step.{Step}
 use Rattle.ason_base.specs.declared.tables.CallRec.{CallRec}
@@ -22,12 +24,12 @@ use Rattle.mesh_rules.specs.declared.changes.CallChange.TheVariants as call
 use Rattle.mesh_rules.specs.declared.limits.TheConstants.{LAST_NUMBER}
 use Rattle.mesh_rules.specs.Calls.{find_call, is_bare, pairing, unbacked, without_call}
 use Rattle.mesh_rules.specs.Changes.{Answer, changed, changes_calls, followed_by, nothing}
-use Rattle.mesh_rules.specs.FirstLegs.{NewLsp, first_leg, first_link, is_full}
+use Rattle.mesh_rules.specs.FirstLegs.{NewLsp, first_leg, first_link, is_full, lacks_first_back}
 use Rattle.mesh_rules.specs.KnownRows.{known_rows}
 use Rattle.mesh_rules.specs.LeastRoutes.{Trip, least_trip}
 use Rattle.mesh_rules.specs.Legs.{closed, closing_phase, find_leg, is_armed, leg_of, legs_changed, with_leg}
 use Rattle.mesh_rules.specs.LocalNodes.{LocalNode}
-use Rattle.mesh_rules.specs.Pairs.{backup_lsp, backup_route, begins_backup, beside_lsp, leaves_bare, over_backup, pair, pair_over, route_from}
+use Rattle.mesh_rules.specs.Pairs.{backup_lsp, backup_route, begins_backup, beside_lsp, guarding, is_two_way, leaves_bare, over_backup, pair, pair_over, route_from}
 use Rattle.mesh_rules.specs.Protects.{protect_with, protects}
 use Rattle.mesh_rules.specs.Releases.{release_with, releases, tears}
 use Rattle.mesh_rules.specs.Setups.{SetupRequest, admitted_setup, begins, call_record, is_order_here, is_spent, new_call, next_lsp, over_first, over_found, refused_setup, setup_with, working_lsp}
@@ -106,7 +108,9 @@ module _ (p : LocalNode) (s : NodeState) (all : AllNameByRole p s)
     admitted-stays : (out : LinkSpec) (route : List Step) → Stays p s (admitted_setup p s w out route)
     admitted-stays out route =
         if_cases (Stays p s) (is_spent s) _ _ (λ e. blocked-stays Spent)
-        (λ e. if_cases (Stays p s) (is_full s) _ _ (λ f. blocked-stays Full) (λ f. begins-stays out route))
+        (λ e. if_cases (Stays p s) (is_full s) _ _ (λ f. blocked-stays Full)
+        (λ f. if_cases (Stays p s) (lacks_first_back p s w.both (path.Work w.protected) out) _ _
+        (λ h. blocked-stays (Code label_code)) (λ h. begins-stays out route)))
 
     over-stays : (route : List Step) (o : Option LinkSpec) → Stays p s (over_first p s w route o)
     over-stays route None = nothing-stays
@@ -152,7 +156,9 @@ module _ (p : LocalNode) (s : NodeState) (all : AllNameByRole p s)
       backed-stays route None = bare-stays NoBackup
       backed-stays route (Some out) =
           if_cases (Stays p s) (nat_lt LAST_NUMBER s.lsp) _ _ (λ e. bare-stays Spent)
-          (λ e. if_cases (Stays p s) (is_full s) _ _ (λ f. bare-stays Full) (λ f. paired-stays out (drop 1 route)))
+          (λ e. if_cases (Stays p s) (is_full s) _ _ (λ f. bare-stays Full)
+          (λ f. if_cases (Stays p s) (lacks_first_back p s (is_two_way w) (guarding p w) out) _ _
+          (λ h. bare-stays (Code label_code)) (λ h. paired-stays out (drop 1 route))))
 
       along-stays : (o : Option (List Step)) → Stays p s (pair_over p s c w o)
       along-stays None = bare-stays NoBackup

@@ -1,6 +1,8 @@
 -- The rules of calls at an ingress of these tables.
-use Rattle.std.specs.Prelude.{[], ◌∷◌, Bool, List, Option, Some, None, if◌then◌else◌}
-use Rattle.ason_base.specs.Labels.{up_to}
+use Rattle.std.specs.Prelude.{[], ◌∷◌, ℕ, Bool, true, false, List, Option, Some, None, if◌then◌else◌}
+use Rattle.ason_base.specs.Codes.{label_code}
+use Rattle.ason_base.specs.Labels.{least, up_to}
+use Rattle.ason_base.specs.declared.calls.Cause.TheVariants.{Code}
 use Rattle.ason_base.specs.declared.calls.Role.{Role}
 use Rattle.ason_base.specs.declared.codes.ErrCode.{ErrCode}
 use Rattle.ason_base.specs.declared.ids.CallNo.{CallNo}
@@ -9,20 +11,24 @@ use Rattle.ason_base.specs.declared.ids.Lsp.{Lsp}
 use Rattle.ason_base.specs.declared.ids.NodeId.{NodeId}
 use Rattle.ason_base.specs.declared.messages.Msg.{Msg}
 use Rattle.ason_base.specs.declared.messages.Msg.TheVariants.{Path, Resv, PathTear, PathErr, Notify}
+use Rattle.ason_base.specs.declared.messages.PathRole.TheVariants as path
 use Rattle.ason_base.specs.declared.network.LinkSpec.{LinkSpec}
+use Rattle.ason_base.specs.declared.risks.Risk.{Risk}
 use Rattle.ason_base.specs.declared.steps.Step.{Step}
 use Rattle.ason_base.specs.declared.tables.CallRec.{CallRec}
 use Rattle.ason_base.specs.declared.tables.Leg.{Leg}
 use Rattle.mesh_rules.specs.Calls.{call_with}
 use Rattle.mesh_rules.specs.CallSteps.{backup_refused, call_answered, call_contended, call_refused, call_turned, work_refused}
 use Rattle.mesh_rules.specs.Changes.{Answer, nothing, puts}
-use Rattle.mesh_rules.specs.FirstLegs.{NewLsp, first_leg, first_link, first_path}
-use Rattle.mesh_rules.specs.Legs.{find_leg, is_work}
+use Rattle.mesh_rules.specs.FirstLegs.{NewLsp, first_leg, first_link, first_path, lacks_first_back}
+use Rattle.mesh_rules.specs.Legs.{find_leg, is_work, reverse, usable}
+use Rattle.mesh_rules.specs.LocalNodes.{fibre_out}
 use Rattle.mesh_rules.specs.Protects.{on_protect}
 use Rattle.mesh_rules.specs.Releases.{on_release}
 use Rattle.mesh_rules.specs.Reports.{report_here, reported}
 use Rattle.mesh_rules.specs.Retries.{on_retry}
-use Rattle.mesh_rules.specs.Setups.{SetupRequest, admitted_setup, begins, new_call, on_setup, over_first}
+use Rattle.mesh_rules.specs.Setups.{SetupRequest, admitted_setup, begins, new_call, on_setup, over_first, refused_setup}
+use Rattle.leg_table.specs.LegClaims.{is_fibre_in}
 use Rattle.leg_table.specs.States.{local_of, state_of}
 use Rattle.leg_table.specs.Tables.{CallTable, LegTable}
 
@@ -30,7 +36,18 @@ use Rattle.leg_table.specs.Tables.{CallTable, LegTable}
 
 -- the Path that asks for an LSP
 abbrev pub path_for : NewLsp → Msg
-path_for n = Path n.lsp n.egress n.out.id n.route (up_to n.out.labels) None n.role
+path_for n = Path n.lsp n.egress n.out.id n.route (up_to n.out.labels) n.back n.role
+
+-- the fibre that comes back over this link comes in here
+abbrev pub comes_back : LegTable → LinkSpec → Bool
+comes_back t out = is_fibre_in (local_of t) (reverse (fibre_out out (local_of t).id))
+
+-- the least label of the fibre that comes back over this link which a two-way LSP of this role may take, whose primary
+-- has these risks
+abbrev pub back_here : LegTable → Bool → Role → List Risk → LinkSpec → Option ℕ
+back_here t false role risks out = None
+back_here t true role risks out =
+    least (usable (local_of t) t.legs role risks (reverse (fibre_out out (local_of t).id)))
 
 -- its leg is put in its place, and the Path is sent
 abbrev pub asked_here : LegTable → NewLsp → Answer
@@ -50,6 +67,12 @@ searched_here t c w = new_call (local_of t) (state_of t c) w None
 
 abbrev pub over_here : LegTable → CallTable → SetupRequest → List Step → Answer
 over_here t c w route = over_first (local_of t) (state_of t c) w route (first_link (local_of t) route)
+
+-- where numbers and room for a leg are left
+abbrev pub labelled_here : LegTable → CallTable → SetupRequest → LinkSpec → List Step → Answer
+labelled_here t c w out route =
+    if lacks_first_back (local_of t) (state_of t c) w.both (path.Work w.protected) out
+    then refused_setup w (Code label_code) else begins (local_of t) (state_of t c) w out route
 
 abbrev pub admitted_here : LegTable → CallTable → SetupRequest → LinkSpec → List Step → Answer
 admitted_here t c w out route = admitted_setup (local_of t) (state_of t c) w out route

@@ -4,7 +4,7 @@ ghost use Rattle.std.specs.Prelude.{◌≡◌, OnOk};
 ghost use Rattle.std.specs.Option.{option_copied};
 ghost use Rattle.mesh_rules.specs.Changes.{followed_by};
 ghost use Rattle.mesh_nodes.specs.LocalNodes.{LocalNodeFits};
-ghost use Rattle.leg_table.specs.LegClaims.{ClaimsFit};
+ghost use Rattle.leg_table.specs.LegClaims.{AreOfOneNode, ClaimsFit};
 ghost use Rattle.leg_table.specs.States.{local_of};
 ghost use Rattle.call_control.specs.Handlers.{gone_here, named_role};
 ghost use Rattle.call_control.specs.Rules.{answered_here, contended_here, refused_as, refused_here, turned_here};
@@ -18,6 +18,7 @@ use ason_base::codes::BUSY;
 use ason_base::{CallRec, CallState, Cause, Copied, ErrCode, Leg, Lsp, OutOfMemory, Role, Steps};
 use leg_table::one_leg::is_work;
 use leg_table::{Calls, Change, NodeTables};
+use share_check::Shares;
 use std::alloc::Global;
 
 // A Resv
@@ -55,12 +56,13 @@ pub fn answer_resv(
     alloc: Global,
     change: &mut Change,
     parts: &IngressParts<'_>,
+    shares: &Shares,
     leg: &Leg,
     backup: Option<&Steps>,
 ) -> Result<(), OutOfMemory>
     requires links { LocalNodeFits (local_of parts.now.tables.now) }
     requires rows { RowsAreKnown parts.now.tables.now }
-    requires claims { ClaimsFit parts.now.tables.now.legs parts.now.owner.now }
+    requires node { AreOfOneNode parts.now.tables.now parts.now.owner.now shares.now }
     requires backup { IsBackupFor parts.now.tables.now
         (sought_by_resv parts.now.calls.now leg.now) (option_copied backup) }
     ensures { OnOk result (change.new ≡ followed_by change.old
@@ -75,7 +77,7 @@ pub fn answer_resv(
             work: leg,
             found: backup,
         };
-        return pair(alloc, change, parts.tables, parts.calls, &request);
+        return pair(alloc, change, parts, shares, &request);
     }
     match (leg.role, call.state) {
         (Role::Work, CallState::Asking) => change.put_call(bare(call.copy(alloc)?)),

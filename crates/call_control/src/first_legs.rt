@@ -1,26 +1,29 @@
 //! An LSP at the node where it begins: its leg, and the Path that asks for it (RFC 2205, section
 //! 3.1.3).
 
-ghost use Rattle.std.specs.Prelude.{◌≡◌, ◌≤◌, IfOk, OnOk};
+ghost use Rattle.std.specs.Prelude.{◌≡◌, ◌≤◌, IfOk, IsTrue, OnOk};
 ghost use Rattle.mesh_rules.specs.Changes.{followed_by};
 ghost use Rattle.mesh_rules.specs.FirstLegs.{first_leg};
 ghost use Rattle.mesh_rules.specs.Paths.{recorded, role_of};
+ghost use Rattle.leg_table.specs.LegClaims.{AreOfOneNode};
 ghost use Rattle.leg_table.specs.States.{local_of};
-ghost use Rattle.call_control.specs.Rules.{asked_here, path_for};
+ghost use Rattle.call_control.specs.Rules.{asked_here, back_here, comes_back, path_for};
 
-use crate::ingress::id_of;
+use crate::ingress::{IngressParts, id_of};
 use ason_base::routes::other_end;
 use ason_base::{
-    Copied, LabelSet, Leg, LinkSpec, Lsp, Msg, NodeId, OutOfMemory, PathRole, Phase, RiskSet, Role,
-    Steps,
+    Copied, Label, LabelSet, Leg, LinkSpec, Lsp, Msg, NodeId, OutOfMemory, PathRole, Phase,
+    RiskSet, Role, Steps,
 };
+use leg_labels::usable;
 use leg_table::{Change, NodeTables};
-use mesh_rules::links::fibre_out;
+use mesh_rules::links::{fibre_out, reverse};
+use share_check::Shares;
 use std::alloc::Global;
 use std::marker::Model;
 
 /// An LSP that is asked for: over which link it leaves, over which steps it goes on from there,
-/// and for what.
+/// for what, and, of a two-way LSP, the label on which it comes back over that link.
 #[derive(Drop)]
 pub(crate) struct NewLsp<'a> {
     pub(crate) lsp: Lsp,
@@ -28,6 +31,7 @@ pub(crate) struct NewLsp<'a> {
     pub(crate) out: &'a LinkSpec,
     pub(crate) route: Steps,
     pub(crate) role: PathRole,
+    pub(crate) back: Option<Label>,
 }
 
 impl<'a> Model for NewLsp<'a> {
@@ -41,6 +45,7 @@ impl<'a> Model for NewLsp<'a> {
       out = n.out.now;
       route = n.route;
       role = n.role;
+      back = n.back;
     } };
 }
 
@@ -63,7 +68,7 @@ fn path_for(alloc: Global, new: &NewLsp<'_>) -> Result<Msg, OutOfMemory>
         link: new.out.id,
         route: new.route.copy(alloc)?,
         set: LabelSet::upto(new.out.labels),
-        upstream: None,
+        upstream: new.back,
         role: new.role.copy(alloc)?,
     })
 }
@@ -79,6 +84,7 @@ fn first_leg(tables: &NodeTables, new: NewLsp<'_>, risks: RiskSet) -> Leg
         out,
         route,
         role,
+        back,
     } = new;
     let here = id_of(tables);
     Leg {
@@ -97,9 +103,31 @@ fn first_leg(tables: &NodeTables, new: NewLsp<'_>, risks: RiskSet) -> Leg
         phase: Phase::Asked,
         in_label: None,
         out_label: None,
-        back_in: None,
+        back_in: back,
         back_out: None,
     }
+}
+
+/// The label on which a two-way LSP of this role, whose primary has these risks, comes back over
+/// its first link: the least that it may take. There is none for a one-way LSP, nor where no label
+/// is left.
+pub(crate) fn first_back(
+    parts: &IngressParts<'_>,
+    shares: &Shares,
+    both: bool,
+    role: Role,
+    risks: &RiskSet,
+    out: &LinkSpec,
+) -> Option<Label>
+    requires node { AreOfOneNode parts.now.tables.now parts.now.owner.now shares.now }
+    requires out { IsTrue (comes_back parts.now.tables.now out.now) }
+    ensures { result ≡ back_here parts.now.tables.now both role risks.now out.now }
+{
+    if !both {
+        return None;
+    }
+    let back = reverse(fibre_out(out, id_of(parts.tables)));
+    usable(parts.tables, parts.owner, shares, role, risks, back).least()
 }
 
 /// The LSP is asked for: its leg is put in its place, with these risks of its primary, and the

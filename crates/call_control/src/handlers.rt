@@ -6,7 +6,7 @@ ghost use Rattle.std.specs.Option.{option_copied};
 ghost use Rattle.mesh_rules.specs.Changes.{followed_by};
 ghost use Rattle.mesh_rules.specs.Legs.{find_leg};
 ghost use Rattle.mesh_nodes.specs.LocalNodes.{LocalNodeFits};
-ghost use Rattle.leg_table.specs.LegClaims.{AreOfOneNode, ClaimsFit};
+ghost use Rattle.leg_table.specs.LegClaims.{AreOfOneNode};
 ghost use Rattle.leg_table.specs.States.{local_of, state_of};
 ghost use Rattle.leg_table.specs.Tables.{LegTable};
 ghost use Rattle.call_control.specs.Handlers.{AreSentFor, IsKeptAfter, IsRouteOf, WereBefore, after_command, after_setup, answer_here, command_answer, is_activated, resv_here, setup_answer, sought_at, sought_by_answer, sought_by_command};
@@ -32,15 +32,18 @@ use std::alloc::Global;
 
 fn setup_change(
     alloc: Global,
-    tables: &NodeTables,
-    calls: &Calls,
+    parts: &IngressParts<'_>,
+    shares: &Shares,
     command: &Command,
     route: Option<&Steps>,
 ) -> Result<Change, OutOfMemory>
-    requires links { LocalNodeFits (local_of tables.now) }
-    requires rows { RowsAreKnown tables.now }
-    requires route { IsRouteOf tables.now calls.now command.now (option_copied route) }
-    ensures { IfOk result (λ c. c ≡ setup_answer tables.now calls.now command.now) }
+    requires links { LocalNodeFits (local_of parts.now.tables.now) }
+    requires node { AreOfOneNode parts.now.tables.now parts.now.owner.now shares.now }
+    requires rows { RowsAreKnown parts.now.tables.now }
+    requires route { IsRouteOf parts.now.tables.now parts.now.calls.now command.now
+        (option_copied route) }
+    ensures { IfOk result
+        (λ c. c ≡ setup_answer parts.now.tables.now parts.now.calls.now command.now) }
 {
     match command {
         Command::Setup {
@@ -61,7 +64,7 @@ fn setup_change(
                 via,
                 backup,
             };
-            set_up(alloc, tables, calls, &request, route)
+            set_up(alloc, parts, shares, &request, route)
         }
         Command::Release { .. }
         | Command::Protect { .. }
@@ -99,7 +102,12 @@ pub fn setup(
     ensures err_shares { OnErr result (shares.new ≡ shares.old) }
     ensures err_calls { OnErr result (calls.new ≡ calls.old) }
 {
-    let change = setup_change(alloc, tables, calls, command, route)?;
+    let parts = IngressParts {
+        tables,
+        owner,
+        calls,
+    };
+    let change = setup_change(alloc, &parts, shares, command, route)?;
     carry_out(change, tables, owner, shares, calls)
 }
 
@@ -108,12 +116,13 @@ pub fn setup(
 fn command_change(
     alloc: Global,
     parts: &IngressParts<'_>,
+    shares: &Shares,
     command: &Command,
     backup: Option<&Steps>,
 ) -> Result<Change, OutOfMemory>
     requires links { LocalNodeFits (local_of parts.now.tables.now) }
     requires rows { RowsAreKnown parts.now.tables.now }
-    requires claims { ClaimsFit parts.now.tables.now.legs parts.now.owner.now }
+    requires node { AreOfOneNode parts.now.tables.now parts.now.owner.now shares.now }
     requires backup { IsBackupFor parts.now.tables.now
         (sought_by_command parts.now.tables.now parts.now.calls.now command.now)
         (option_copied backup) }
@@ -124,7 +133,7 @@ fn command_change(
     let calls = parts.calls;
     match command {
         Command::Release { call, from } => release(alloc, tables, calls, *call, *from),
-        Command::Protect { call, from } => protect(alloc, tables, calls, *call, *from, backup),
+        Command::Protect { call, from } => { protect(alloc, parts, shares, *call, *from, backup) }
         Command::Retry { call, from } => retry(alloc, parts, *call, *from),
         Command::Setup { .. }
         | Command::Revert { .. }
@@ -167,7 +176,7 @@ pub fn command(
         owner,
         calls,
     };
-    let change = command_change(alloc, &parts, command, backup)?;
+    let change = command_change(alloc, &parts, shares, command, backup)?;
     carry_out(change, tables, owner, shares, calls)
 }
 
@@ -185,12 +194,13 @@ fn follow_resv(
     alloc: Global,
     change: &mut Change,
     parts: &IngressParts<'_>,
+    shares: &Shares,
     lsp: Lsp,
     backup: Option<&Steps>,
 ) -> Result<(), OutOfMemory>
     requires links { LocalNodeFits (local_of parts.now.tables.now) }
     requires rows { RowsAreKnown parts.now.tables.now }
-    requires claims { ClaimsFit parts.now.tables.now.legs parts.now.owner.now }
+    requires node { AreOfOneNode parts.now.tables.now parts.now.owner.now shares.now }
     requires backup { IsBackupFor parts.now.tables.now
         (sought_at parts.now.calls.now (find_leg lsp parts.now.tables.now.legs))
         (option_copied backup) }
@@ -200,19 +210,20 @@ fn follow_resv(
     match parts.tables.get(&lsp) {
         None => Ok(()),
         Some(leg) if is_activated(leg) => answer_confirmed(alloc, change, parts, leg),
-        Some(leg) => answer_resv(alloc, change, parts, leg, backup),
+        Some(leg) => answer_resv(alloc, change, parts, shares, leg, backup),
     }
 }
 
 fn answer_change(
     alloc: Global,
     parts: &IngressParts<'_>,
+    shares: &Shares,
     msg: &Msg,
     backup: Option<&Steps>,
 ) -> Result<Change, OutOfMemory>
     requires links { LocalNodeFits (local_of parts.now.tables.now) }
     requires rows { RowsAreKnown parts.now.tables.now }
-    requires claims { ClaimsFit parts.now.tables.now.legs parts.now.owner.now }
+    requires node { AreOfOneNode parts.now.tables.now parts.now.owner.now shares.now }
     requires backup { IsBackupFor parts.now.tables.now
         (sought_by_answer parts.now.tables.now parts.now.calls.now msg.now)
         (option_copied backup) }
@@ -222,7 +233,7 @@ fn answer_change(
     let mut change = Change::nothing(alloc);
     match msg {
         Msg::Resv { lsp, .. } => {
-            follow_resv(alloc, &mut change, parts, *lsp, backup)?;
+            follow_resv(alloc, &mut change, parts, shares, *lsp, backup)?;
         }
         Msg::PathErr {
             lsp,
@@ -286,6 +297,6 @@ pub fn answer(
         owner,
         calls,
     };
-    let change = answer_change(alloc, &parts, msg, backup)?;
+    let change = answer_change(alloc, &parts, shares, msg, backup)?;
     carry_out(change, tables, owner, shares, calls)
 }

@@ -1,12 +1,13 @@
 //! What an ingress knows: its number, its links, and its legs.
 
-ghost use Rattle.std.specs.Prelude.{◌≡◌, ◌≤◌, IfSome};
+ghost use Rattle.std.specs.Prelude.{◌≡◌, ◌≤◌, IfSome, IsTrue};
 ghost use Rattle.std.specs.Option.{option_copied};
 ghost use Rattle.mesh_rules.specs.FirstLegs.{first_link, is_full};
 ghost use Rattle.mesh_rules.specs.Legs.{leg_of};
 ghost use Rattle.mesh_rules.specs.LocalNodes.{own_link};
 ghost use Rattle.mesh_nodes.specs.LocalNodes.{LocalNodeFits};
 ghost use Rattle.leg_table.specs.States.{legs_state, local_of};
+ghost use Rattle.call_control.specs.Rules.{comes_back};
 
 use ason_base::{Leg, LinkId, LinkSpec, Lsp, NodeId, Steps};
 use leg_table::{Calls, NodeTables};
@@ -32,6 +33,7 @@ fn own_link(tables: &NodeTables, link: LinkId) -> Option<&LinkSpec>
     requires { LocalNodeFits (local_of tables.now) }
     ensures found { option_copied result ≡ own_link (local_of tables.now) link }
     ensures narrow { IfSome (option_copied result) (λ l. l.labels ≤ 80) }
+    ensures back { IfSome (option_copied result) (λ l. IsTrue (comes_back tables.now l)) }
 {
     tables.own(link)
 }
@@ -41,6 +43,7 @@ pub(crate) fn first_link<'a>(tables: &'a NodeTables, route: &Steps) -> Option<&'
     requires { LocalNodeFits (local_of tables.now) }
     ensures found { option_copied result ≡ first_link (local_of tables.now) route.now }
     ensures narrow { IfSome (option_copied result) (λ l. l.labels ≤ 80) }
+    ensures back { IfSome (option_copied result) (λ l. IsTrue (comes_back tables.now l)) }
 {
     match route.items() {
         [] => None,

@@ -3,16 +3,18 @@
 ghost use Rattle.std.specs.Prelude.{◌≡◌, IfOk};
 ghost use Rattle.std.specs.Option.{option_copied};
 ghost use Rattle.mesh_nodes.specs.LocalNodes.{LocalNodeFits};
+ghost use Rattle.leg_table.specs.LegClaims.{AreOfOneNode};
 ghost use Rattle.leg_table.specs.States.{local_of};
 ghost use Rattle.call_control.specs.Rules.{protect_here};
 ghost use Rattle.call_control.specs.Searches.{IsBackupFor, RowsAreKnown, sought_by_protect, unprotected_here};
 
 use crate::call_states::is_bare;
 use crate::call_steps::has_no_backup;
-use crate::ingress::{id_of, leg_of};
+use crate::ingress::{IngressParts, id_of, leg_of};
 use crate::pairs::{PairRequest, pair};
 use ason_base::{CallNo, CallRec, Leg, NodeId, OutOfMemory, Steps};
 use leg_table::{Calls, Change, NodeTables};
+use share_check::Shares;
 use std::alloc::Global;
 
 // The call of this number, if it stands without a backup and its ingress is here.
@@ -50,23 +52,26 @@ pub fn sought_by_protect<'a>(
 /// one. The backup route is the least one that is found where one is sought.
 pub fn protect(
     alloc: Global,
-    tables: &NodeTables,
-    calls: &Calls,
+    parts: &IngressParts<'_>,
+    shares: &Shares,
     number: CallNo,
     from: NodeId,
     backup: Option<&Steps>,
 ) -> Result<Change, OutOfMemory>
-    requires links { LocalNodeFits (local_of tables.now) }
-    requires rows { RowsAreKnown tables.now }
-    requires backup { IsBackupFor tables.now
-        (sought_by_protect tables.now calls.now number from) (option_copied backup) }
-    ensures { IfOk result (λ c. c ≡ protect_here tables.now calls.now number from) }
+    requires links { LocalNodeFits (local_of parts.now.tables.now) }
+    requires node { AreOfOneNode parts.now.tables.now parts.now.owner.now shares.now }
+    requires rows { RowsAreKnown parts.now.tables.now }
+    requires backup { IsBackupFor parts.now.tables.now
+        (sought_by_protect parts.now.tables.now parts.now.calls.now number from)
+        (option_copied backup) }
+    ensures { IfOk result
+        (λ c. c ≡ protect_here parts.now.tables.now parts.now.calls.now number from) }
 {
     let mut change = Change::nothing(alloc);
-    let Some(call) = unprotected(tables, calls, number, from) else {
+    let Some(call) = unprotected(parts.tables, parts.calls, number, from) else {
         return Ok(change);
     };
-    let Some(work) = leg_of(tables, call.work) else {
+    let Some(work) = leg_of(parts.tables, call.work) else {
         return Ok(change);
     };
     let request = PairRequest {
@@ -74,6 +79,6 @@ pub fn protect(
         work,
         found: backup,
     };
-    pair(alloc, &mut change, tables, calls, &request)?;
+    pair(alloc, &mut change, parts, shares, &request)?;
     Ok(change)
 }

@@ -1,22 +1,26 @@
 //! A setup at its ingress (ITU-T G.8080, call control).
 
-ghost use Rattle.std.specs.Prelude.{◌≡◌, ◌≤◌, IfOk, true};
+ghost use Rattle.std.specs.Prelude.{◌≡◌, ◌≤◌, [], IfOk, IsTrue, true};
 ghost use Rattle.std.specs.Option.{option_copied};
 ghost use Rattle.mesh_rules.specs.Setups.{call_record, is_followable, is_order_here, is_spent, refused_setup};
 ghost use Rattle.mesh_nodes.specs.LocalNodes.{LocalNodeFits};
+ghost use Rattle.ason_base.specs.declared.calls.Role.TheVariants.{Work};
+ghost use Rattle.leg_table.specs.LegClaims.{AreOfOneNode};
 ghost use Rattle.leg_table.specs.States.{local_of, state_of};
-ghost use Rattle.call_control.specs.Rules.{admitted_here, begins_here, call_here, over_here, searched_here, setup_here};
+ghost use Rattle.call_control.specs.Rules.{admitted_here, back_here, begins_here, call_here, comes_back, labelled_here, over_here, searched_here, setup_here};
 ghost use Rattle.call_control.specs.Searches.{IsRouteFor, RowsAreKnown, found_route, seeks_route};
 
-use crate::first_legs::{NewLsp, ask_for};
-use crate::ingress::{first_link, id_of, is_full};
+use crate::first_legs::{NewLsp, ask_for, first_back};
+use crate::ingress::{IngressParts, first_link, id_of, is_full};
+use ason_base::codes::LABEL;
 use ason_base::{
-    CallNo, CallRec, CallState, Cause, Copied, Fibres, LinkSpec, Lsp, NodeId, OutOfMemory,
-    PathRole, RiskSet, Steps,
+    CallNo, CallRec, CallState, Cause, Copied, Fibres, Label, LinkSpec, Lsp, NodeId, OutOfMemory,
+    PathRole, RiskSet, Role, Steps,
 };
 use leg_table::{Calls, Change, NodeTables};
 use mesh_rules::NextNumbers;
 use mesh_rules::limits::LAST_NUMBER;
+use share_check::Shares;
 use std::alloc::Global;
 use std::marker::Model;
 
@@ -87,26 +91,29 @@ fn refuse_setup(
     Ok(change)
 }
 
-// The LSP begins: a tunnel and an LSP number are left.
+// The LSP begins, with this label for its way back: a tunnel and an LSP number are left.
+#[tactic(auto, using(crate::proofs::WayBack::work_back))]
 fn begin(
     alloc: Global,
-    tables: &NodeTables,
-    calls: &Calls,
+    parts: &IngressParts<'_>,
     request: &SetupRequest<'_>,
     out: &LinkSpec,
     route: Steps,
+    back: Option<Label>,
 ) -> Result<Change, OutOfMemory>
     requires narrow { out.now.labels ≤ 80 }
-    requires tunnel { calls.now.tunnel ≤ 65535 }
-    requires lsp { calls.now.lsp ≤ 65535 }
-    ensures { IfOk result (λ c. c ≡ begins_here tables.now calls.now request.now out.now route) }
+    requires tunnel { parts.now.calls.now.tunnel ≤ 65535 }
+    requires lsp { parts.now.calls.now.lsp ≤ 65535 }
+    requires back { back ≡ back_here parts.now.tables.now request.now.both Work [] out.now }
+    ensures { IfOk result (λ c. c ≡ begins_here parts.now.tables.now parts.now.calls.now
+        request.now out.now route) }
 {
     let next = NextNumbers {
-        tunnel: calls.next_tunnel(),
-        lsp: calls.next_lsp(),
+        tunnel: parts.calls.next_tunnel(),
+        lsp: parts.calls.next_lsp(),
     };
     let lsp = Lsp {
-        ingress: id_of(tables),
+        ingress: id_of(parts.tables),
         tunnel: next.tunnel as u16,
         lsp: next.lsp as u16,
     };
@@ -118,9 +125,10 @@ fn begin(
         role: PathRole::Work {
             guard: request.protected,
         },
+        back,
     };
     let mut change = Change::nothing(alloc);
-    ask_for(alloc, &mut change, tables, new, RiskSet::new(alloc))?;
+    ask_for(alloc, &mut change, parts.tables, new, RiskSet::new(alloc))?;
     let call = call_record(alloc, request, CallState::Asking, Some(lsp), Cause::Unset)?;
     change.put_call(call)?;
     change.use_numbers(NextNumbers {
@@ -137,23 +145,53 @@ fn is_spent(tables: &NodeTables, calls: &Calls) -> bool
     calls.next_lsp() > LAST_NUMBER || calls.next_tunnel() > LAST_NUMBER
 }
 
-fn admit(
+// A two-way call without a label for its way back is refused.
+#[tactic(auto, using(crate::proofs::WayBack::work_back))]
+fn begin_labelled(
     alloc: Global,
-    tables: &NodeTables,
-    calls: &Calls,
+    parts: &IngressParts<'_>,
+    shares: &Shares,
     request: &SetupRequest<'_>,
     out: &LinkSpec,
     route: Steps,
 ) -> Result<Change, OutOfMemory>
-    requires { out.now.labels ≤ 80 }
-    ensures { IfOk result (λ c. c ≡ admitted_here tables.now calls.now request.now out.now route) }
+    requires node { AreOfOneNode parts.now.tables.now parts.now.owner.now shares.now }
+    requires out { IsTrue (comes_back parts.now.tables.now out.now) }
+    requires narrow { out.now.labels ≤ 80 }
+    requires tunnel { parts.now.calls.now.tunnel ≤ 65535 }
+    requires lsp { parts.now.calls.now.lsp ≤ 65535 }
+    ensures { IfOk result (λ c. c ≡ labelled_here parts.now.tables.now parts.now.calls.now
+        request.now out.now route) }
 {
-    if is_spent(tables, calls) {
+    let risks = RiskSet::new(alloc);
+    let back = first_back(parts, shares, request.both, Role::Work, &risks, out);
+    if request.both && back.is_none() {
+        refuse_setup(alloc, request, Cause::Code(LABEL))
+    } else {
+        begin(alloc, parts, request, out, route, back)
+    }
+}
+
+fn admit(
+    alloc: Global,
+    parts: &IngressParts<'_>,
+    shares: &Shares,
+    request: &SetupRequest<'_>,
+    out: &LinkSpec,
+    route: Steps,
+) -> Result<Change, OutOfMemory>
+    requires node { AreOfOneNode parts.now.tables.now parts.now.owner.now shares.now }
+    requires out { IsTrue (comes_back parts.now.tables.now out.now) }
+    requires narrow { out.now.labels ≤ 80 }
+    ensures { IfOk result (λ c. c ≡ admitted_here parts.now.tables.now parts.now.calls.now
+        request.now out.now route) }
+{
+    if is_spent(parts.tables, parts.calls) {
         refuse_setup(alloc, request, Cause::Spent)
-    } else if is_full(tables) {
+    } else if is_full(parts.tables) {
         refuse_setup(alloc, request, Cause::Full)
     } else {
-        begin(alloc, tables, calls, request, out, route)
+        begin_labelled(alloc, parts, shares, request, out, route)
     }
 }
 
@@ -173,26 +211,27 @@ fn is_order_here(tables: &NodeTables, request: &SetupRequest<'_>) -> bool
 {
     request.from == id_of(tables)
         && request.egress != id_of(tables)
-        && !request.both
         && is_followable(tables, request.backup)
 }
 
 // The call over this route, if it may be followed from here.
 fn call_over(
     alloc: Global,
-    tables: &NodeTables,
-    calls: &Calls,
+    parts: &IngressParts<'_>,
+    shares: &Shares,
     request: &SetupRequest<'_>,
     route: &Steps,
 ) -> Result<Change, OutOfMemory>
-    requires { LocalNodeFits (local_of tables.now) }
-    ensures { IfOk result (λ c. c ≡ over_here tables.now calls.now request.now route.now) }
+    requires links { LocalNodeFits (local_of parts.now.tables.now) }
+    requires node { AreOfOneNode parts.now.tables.now parts.now.owner.now shares.now }
+    ensures { IfOk result (λ c. c ≡ over_here parts.now.tables.now parts.now.calls.now
+        request.now route.now) }
 {
-    match first_link(tables, route) {
+    match first_link(parts.tables, route) {
         None => Ok(Change::nothing(alloc)),
         Some(out) => {
             let rest = route.copy_from(alloc, 1)?;
-            admit(alloc, tables, calls, request, out, rest)
+            admit(alloc, parts, shares, request, out, rest)
         }
     }
 }
@@ -201,19 +240,22 @@ fn call_over(
 #[tactic(auto, using(crate::proofs::Searched::found_over, crate::proofs::Searched::none_found))]
 fn call_searched(
     alloc: Global,
-    tables: &NodeTables,
-    calls: &Calls,
+    parts: &IngressParts<'_>,
+    shares: &Shares,
     request: &SetupRequest<'_>,
     route: Option<&Steps>,
 ) -> Result<Change, OutOfMemory>
-    requires links { LocalNodeFits (local_of tables.now) }
-    requires rows { RowsAreKnown tables.now }
-    requires route { option_copied route ≡ found_route tables.now request.now.egress }
-    ensures { IfOk result (λ c. c ≡ searched_here tables.now calls.now request.now) }
+    requires links { LocalNodeFits (local_of parts.now.tables.now) }
+    requires node { AreOfOneNode parts.now.tables.now parts.now.owner.now shares.now }
+    requires rows { RowsAreKnown parts.now.tables.now }
+    requires route { option_copied route
+        ≡ found_route parts.now.tables.now request.now.egress }
+    ensures { IfOk result (λ c. c ≡ searched_here parts.now.tables.now parts.now.calls.now
+        request.now) }
 {
     match route {
         None => refuse_setup(alloc, request, Cause::NoRoute),
-        Some(route) => call_over(alloc, tables, calls, request, route),
+        Some(route) => call_over(alloc, parts, shares, request, route),
     }
 }
 
@@ -226,25 +268,28 @@ pub fn seeks_route(tables: &NodeTables, calls: &Calls, request: &SetupRequest<'_
     calls.get(request.call).is_none() && is_order_here(tables, request) && request.via.is_none()
 }
 
-/// What a setup does: an LSP is asked for, or the call is refused. The route is the least one
-/// where one is sought.
+/// What a setup does: an LSP is asked for, two-way where the setup says so, or the call is refused.
+/// The route is the least one where one is sought.
 pub fn set_up(
     alloc: Global,
-    tables: &NodeTables,
-    calls: &Calls,
+    parts: &IngressParts<'_>,
+    shares: &Shares,
     request: &SetupRequest<'_>,
     route: Option<&Steps>,
 ) -> Result<Change, OutOfMemory>
-    requires links { LocalNodeFits (local_of tables.now) }
-    requires rows { RowsAreKnown tables.now }
-    requires route { IsRouteFor tables.now calls.now request.now (option_copied route) }
-    ensures { IfOk result (λ c. c ≡ setup_here tables.now calls.now request.now) }
+    requires links { LocalNodeFits (local_of parts.now.tables.now) }
+    requires node { AreOfOneNode parts.now.tables.now parts.now.owner.now shares.now }
+    requires rows { RowsAreKnown parts.now.tables.now }
+    requires route { IsRouteFor parts.now.tables.now parts.now.calls.now request.now
+        (option_copied route) }
+    ensures { IfOk result
+        (λ c. c ≡ setup_here parts.now.tables.now parts.now.calls.now request.now) }
 {
-    if calls.get(request.call).is_some() || !is_order_here(tables, request) {
+    if parts.calls.get(request.call).is_some() || !is_order_here(parts.tables, request) {
         return Ok(Change::nothing(alloc));
     }
     match request.via {
-        None => call_searched(alloc, tables, calls, request, route),
-        Some(given) => call_over(alloc, tables, calls, request, given),
+        None => call_searched(alloc, parts, shares, request, route),
+        Some(given) => call_over(alloc, parts, shares, request, given),
     }
 }

@@ -1,12 +1,13 @@
 -- Lists of claims, and in what way a leg has its label.
-use Rattle.std.proofs.Common.{◌≡◌, ℕ, Bool, true, false, cond, not, nat_eq, List, [], ◌∷◌, ◌++◌, refl, ◌∙◌, arith}
+use Rattle.std.proofs.Common.{◌≡◌, ℕ, Bool, true, false, cond, nat_eq, List, [], ◌∷◌, ◌++◌, refl, ◌∙◌, arith}
 use Rattle.std.specs.Prelude.{◌||◌, Some, None, filter}
 use Rattle.std.specs.List.{AllByRecursion, list_any}
 use Rattle.std.proofs.lemmas.List.Folds.{list_any-append}
 use Rattle.ason_base.specs.declared.ids.Fibre.{Fibre}
 use Rattle.ason_base.specs.declared.tables.Leg.{Leg}
 use Rattle.link_owner.specs.declared.claims.ClaimKind.{ClaimKind}
-use Rattle.leg_table.specs.LegClaims.{claim_kind, kind_here, takes_in}
+use Rattle.mesh_rules.specs.Legs.{takes}
+use Rattle.leg_table.specs.LegClaims.{claim_kind, kind_here}
 
 -- Lists of claims
 
@@ -63,17 +64,12 @@ number a b e = grind arith
 pub same_number : (n : ℕ) → nat_eq n n ≡ true
 same_number n = grind arith
 
--- a test whose opposite passes fails
-pub not-of : (b : Bool) → not b ≡ true → b ≡ false
-not-of true e = absurd (cc e)
-not-of false e = refl
-
 -- Kinds
 
 -- a leg with a kind of claim on a label takes it
-pub kind-of : (f : Fibre) (x : ℕ) (g : Leg) (k : ClaimKind) → kind_here f x (Some g) ≡ Some k → takes_in f x g ≡ true
-kind-of f x g k e = go (takes_in f x g) refl e
+pub kind-of : (f : Fibre) (x : ℕ) (g : Leg) (k : ClaimKind) → kind_here f x (Some g) ≡ Some k → takes f x g ≡ true
+kind-of f x g k e = go (takes f x g) refl e
   where
-    go : (b : Bool) → takes_in f x g ≡ b → cond b (Some (claim_kind g.role)) None ≡ Some k → b ≡ true
+    go : (b : Bool) → takes f x g ≡ b → cond b (Some (claim_kind g.role)) None ≡ Some k → b ≡ true
     go true t e = refl
     go false t e = absurd (cc e)

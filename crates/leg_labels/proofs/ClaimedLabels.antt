@@ -1,5 +1,5 @@
 -- The labels that no leg claims are those that a working leg may take.
-use Rattle.std.proofs.Common.{◌≡◌, ℕ, Bool, true, false, not, nat_eq, List, [], ◌∷◌, refl, sym, ap, subst, ◌∙◌, arith}
+use Rattle.std.proofs.Common.{◌≡◌, ℕ, Bool, true, false, not, nat_eq, List, [], ◌∷◌, refl, sym, ap, subst, arith}
 use Rattle.std.specs.Prelude.{◌||◌, Option, Some, None}
 use Rattle.std.specs.List.{AllByRecursion, list_any}
 use Rattle.ason_base.specs.Labels.{up_to}
@@ -19,7 +19,6 @@ use Rattle.mesh_nodes.specs.Order.{LegsRise}
 use Rattle.mesh_nodes.proofs.LegList.{all-found}
 use Rattle.mesh_nodes.proofs.Links.{any-found, any-left}
 use Rattle.leg_table.specs.LegClaims.{ClaimsFit, IsClaimOfLeg, OwnerFits, kind_here}
-use Rattle.leg_table.proofs.TakenLabels.{OneWay, in-takes}
 use Rattle.leg_labels.proofs.ClaimLists.{kind-of}
 
 -- a test or one that passes
@@ -43,7 +42,7 @@ one_takes legs f c e = go (find_leg c.lsp legs) refl e
     go None found e = absurd (cc e)
     go (Some g) found e =
         any-found (takes f c.label) (λ h. same_lsp h.lsp c.lsp) legs g found
-        (in-takes f c.label g (kind-of f c.label g c.kind e))
+        (kind-of f c.label g c.kind e)
 
 -- so a label that is claimed is taken
 pub claims_take : (legs : List Leg) (f : Fibre) (x : ℕ) (claims : List Claim) →
@@ -69,27 +68,27 @@ of_each {X} p P (x ∷ xs) all h = go (p x) refl h (of_each p P xs all.1)
     go true e h later = all.0 e
     go false e h later = later h
 
-legs_claim : (legs : List Leg) (o : OwnerState) (f : Fibre) (x : ℕ) → LegsRise legs → OneWay legs →
+legs_claim : (legs : List Leg) (o : OwnerState) (f : Fibre) (x : ℕ) → LegsRise legs →
     ClaimsFit legs o → list_any (takes f x) legs ≡ true → list_any (has x) (claims_of f o.claims) ≡ true
-legs_claim legs o f x rise one fit h =
+legs_claim legs o f x rise fit h =
     of_each (takes f x) (list_any (has x) (claims_of f o.claims) ≡ true) legs
     (all-found (λ g. takes f x g ≡ true → list_any (has x) (claims_of f o.claims) ≡ true) legs rise
     (λ l g found t. any-left (λ c. nat_eq c.label x) (λ c. same_lsp c.lsp l) (claims_of f o.claims)
-    (fit.all f x l g found (sym (one l g found f x) ∙ t))))
+    (fit.all f x l g found t)))
     h
 
 -- some leg claims a label exactly where some leg takes it
-pub claimed-taken : (legs : List Leg) (o : OwnerState) (f : Fibre) (x : ℕ) → LegsRise legs → OneWay legs →
+pub claimed-taken : (legs : List Leg) (o : OwnerState) (f : Fibre) (x : ℕ) → LegsRise legs →
     ClaimsFit legs o → list_any (has x) (claims_of f o.claims) ≡ list_any (takes f x) legs
-claimed-taken legs o f x rise one fit =
-    iff _ _ (claims_take legs f x (claims_of f o.claims) (fit.each f)) (legs_claim legs o f x rise one fit)
+claimed-taken legs o f x rise fit =
+    iff _ _ (claims_take legs f x (claims_of f o.claims) (fit.each f)) (legs_claim legs o f x rise fit)
 
 -- the labels that no leg claims are those that a working leg may take
 pub unclaimed-usable : (p : LocalNode) (legs : List Leg) (risks : List Risk) (o : OwnerState) (f : Fibre) →
-    LegsRise legs → OneWay legs → ClaimsFit legs o → OwnerFits p o → comes_in o.claims f ≡ true →
+    LegsRise legs → ClaimsFit legs o → OwnerFits p o → comes_in o.claims f ≡ true →
     unclaimed (labels_of f o.claims) (claims_of f o.claims) ≡ usable p legs Work risks f
-unclaimed-usable p legs risks o f rise one fit owner comes =
+unclaimed-usable p legs risks o f rise fit owner comes =
     rw (owner.labels f comes)
     (filter-agree (λ x. not (list_any (has x) (claims_of f o.claims))) (is_usable Work risks legs f)
     (up_to (local.labels_of (own_link p f.link)))
-    (λ x h. ap not (claimed-taken legs o f x rise one fit)))
+    (λ x h. ap not (claimed-taken legs o f x rise fit)))

@@ -1,4 +1,4 @@
--- The fibres by which a node's legs come in are its owner's.
+-- The fibres by which a node's legs come in, and on which they take what comes back, are its owner's.
 use Rattle.std.proofs.Common.{◌≡◌, Bool, true, false, List, [], ◌∷◌, refl, subst}
 use Rattle.std.specs.Prelude.{◌||◌, ◌&&◌, ◌==◌, Option, Some, IfSome, IsTrue}
 use Rattle.std.specs.List.{list_any}
@@ -10,16 +10,17 @@ use Rattle.ason_base.specs.declared.tables.Leg.{Leg}
 use Rattle.ason_base.specs.Lsps.{same_fibre}
 use Rattle.ason_base.specs.Network.{other_end}
 use Rattle.mesh_rules.specs.declared.neighbours.Neighbour.{Neighbour}
-use Rattle.mesh_rules.specs.Legs.{find_leg, previous}
-use Rattle.mesh_rules.specs.LocalNodes.{LocalNode, fibre_in, leads, own_link}
+use Rattle.mesh_rules.specs.Legs.{find_leg, previous, reverse}
+use Rattle.mesh_rules.specs.LocalNodes.{LocalNode, fibre_in, fibre_out, leads, own_link}
 use Rattle.mesh_nodes.specs.Kept.{LegFits}
 use Rattle.mesh_nodes.specs.LocalNodes.{LocalNodeFits, is_upstream}
 use Rattle.mesh_nodes.proofs.LegList.{found-all}
-use Rattle.mesh_nodes.proofs.Links.{sender-upstream}
+use Rattle.mesh_nodes.proofs.Links.{end-downstream, sender-upstream}
 use Rattle.leg_table.specs.Fits.{OwnLegsFit}
 use Rattle.leg_table.specs.LegClaims.{is_fibre_in}
 use Rattle.leg_table.specs.States.{local_of}
 use Rattle.leg_table.specs.Tables.{LegTable}
+use Rattle.leg_table.proofs.OwnFibres.{downstream-fibre_in}
 
 any-right : {X : Type 0} (p q : X → Bool) (xs : List X) → list_any (λ x. p x && q x) xs ≡ true → list_any q xs ≡ true
 any-right p q [] e = e
@@ -55,3 +56,10 @@ previous-fibre_in t l g h legs found before =
     let here : LegFits (local_of t) next g = found-all (LegFits (local_of t) next) l t.legs g found legs.2.each in
     upstream-fibre_in (local_of t) h
     (if-is (λ k. IsTrue (is_upstream (local_of t) k)) (previous g) h before here.upstream)
+
+-- the other direction of a fibre that goes out over a link of the node
+pub out-comes_back : (p : LocalNode) (k : LinkId) (out : LinkSpec) → LocalNodeFits p → own_link p k ≡ Some out →
+    is_fibre_in p (reverse (fibre_out out p.id)) ≡ true
+out-comes_back p k out links own =
+    downstream-fibre_in p (record { node = other_end out p.id; fibre = fibre_out out p.id }) links
+    (end-downstream p k out own)

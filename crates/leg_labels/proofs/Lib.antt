@@ -1,23 +1,27 @@
 pub mod Activated
 pub mod CallLegs
 pub mod CallOrders
-mod Carried
-mod ChangedLabels
-mod ClaimChanges
 mod ClaimLists
 mod ClaimedLabels
 mod Contention
-mod GuardChanges
+mod GivenLegs
+mod GivenUp
+mod HeldLabels
 pub mod InFibres
-mod KeptClaims
-mod KeptTables
+mod KeptLegs
+mod LeftChanges
+mod LeftSteps
 mod MarkChanges
 mod MarkedLegs
 pub mod MayMark
-mod MayPut
+pub mod MayPut
 pub mod MessageChanges
+mod NewLabels
 pub mod OwnContention
 pub mod OwnLegs
+mod ReservedLabels
 mod Restored
+mod Rests
 pub mod RuleChanges
+pub mod UsableAfter
 mod UsableLabels

@@ -208,3 +208,8 @@ open-after l a b on just free f x m e h = go (same_lsp l m) (sym (just.lit f x m
 
 pub none-after : (l : Lsp) (a b : OwnerState) → MarksJust l None a b → MarksOfLeg l None b
 none-after l a b just f x = just.lit f x l ∙ rw (same_lsp-refl l) refl
+
+-- claims that change keep the marks
+pub same-marks : (legs : List Leg) (o after : OwnerState) → after.marks ≡ o.marks → MarksFit legs o → MarksFit legs after
+same-marks legs o after same fit =
+    subst (λ marks. MarksFit legs (record { claims = after.claims; marks = marks })) (sym same) fit

@@ -1,7 +1,7 @@
 -- Which legs may be put as to their marks: those that aren't marked, those that keep their mark, and those that get it
 -- where no label of theirs is in use.
 use Rattle.std.proofs.Common.{◌≡◌, ◌∙◌, ℕ, Bool, true, false, not, List, [], ◌∷◌, drop, get_or, inl, inr, refl, sym, ap, subst}
-use Rattle.std.specs.Prelude.{◌&&◌, ◌⊎◌, Option, Some, None}
+use Rattle.std.specs.Prelude.{◌&&◌, ◌⊎◌, Some, None}
 use Rattle.std.specs.List.{AllByRecursion}
 use Rattle.ason_base.specs.declared.calls.Phase.{Phase}
 use Rattle.ason_base.specs.declared.calls.Phase.TheVariants as phase
@@ -14,6 +14,7 @@ use Rattle.mesh_rules.specs.declared.changes.LegChange.TheVariants.{Goes, Put}
 use Rattle.mesh_rules.specs.Legs.{closed, closing_phase, find_leg, is_armed, is_at, is_contended, is_marked, is_marking, is_work, leg_changed, reserved, reverse_of, sends, takes, uses, with_phase}
 use Rattle.mesh_nodes.proofs.LabelPlaces.{either, none-at, or-first, or-second}
 use Rattle.leg_table.specs.LegClaims.{MayAllMark, MayMark, UsesOver}
+use Rattle.leg_labels.proofs.MayPut.{closed-takes}
 
 -- Legs that aren't marked
 
@@ -68,23 +69,13 @@ closed-marked q Work e = absurd (cc e)
 pub closed-uses : (g : Leg) (f : Fibre) (x : ℕ) → uses f x (closed g) ≡ true → uses f x g ≡ true
 closed-uses g f x e = go (either (takes f x (closed g)) (sends f x (closed g)) e)
   where
-    never : (o : Option Fibre) (P : Type 0) → is_at o None f x ≡ true → P
-    never o P e = absurd (let no = none-at o f x in cc (no, e))
-
-    taken : (is_at g.in_fibre None f x ≡ true) ⊎ (is_at (reverse_of g.out_fibre) g.back_in f x ≡ true) →
-        takes f x g ≡ true
-    taken (inl e) = never g.in_fibre (takes f x g ≡ true) e
-    taken (inr e) = or-second (is_at g.in_fibre g.in_label f x) (is_at (reverse_of g.out_fibre) g.back_in f x) e
-
     sent : (is_at g.out_fibre g.out_label f x ≡ true) ⊎ (is_at (reverse_of g.in_fibre) None f x ≡ true) →
         sends f x g ≡ true
     sent (inl e) = or-first (is_at g.out_fibre g.out_label f x) (is_at (reverse_of g.in_fibre) g.back_out f x) e
-    sent (inr e) = never (reverse_of g.in_fibre) (sends f x g ≡ true) e
+    sent (inr e) = absurd (let no = none-at (reverse_of g.in_fibre) f x in cc (no, e))
 
     go : (takes f x (closed g) ≡ true) ⊎ (sends f x (closed g) ≡ true) → uses f x g ≡ true
-    go (inl e) =
-        or-first (takes f x g) (sends f x g)
-        (taken (either (is_at g.in_fibre None f x) (is_at (reverse_of g.out_fibre) g.back_in f x) e))
+    go (inl e) = or-first (takes f x g) (sends f x g) (closed-takes g f x e)
     go (inr e) =
         or-second (takes f x g) (sends f x g)
         (sent (either (is_at g.out_fibre g.out_label f x) (is_at (reverse_of g.in_fibre) None f x) e))

@@ -1,8 +1,7 @@
--- The claim of a label that a leg takes is there; and where it is freed again, the owner is as it was.
+-- Where the claim of a label that a leg takes is freed again, the owner is as it was.
 use Rattle.std.proofs.Common.{◌≡◌, ℕ, Bool, true, false, cond, not, List, [], ◌∷◌, ◌++◌, refl, ap, ◌∙◌}
 use Rattle.std.specs.Prelude.{◌||◌}
 use Rattle.std.specs.List.{list_any}
-use Rattle.std.proofs.lemmas.List.Folds.{list_any-append}
 use Rattle.ason_base.specs.declared.ids.Fibre.{Fibre}
 use Rattle.ason_base.specs.declared.ids.Lsp.{Lsp}
 use Rattle.ason_base.specs.declared.tables.Leg.{Leg}
@@ -13,7 +12,7 @@ use Rattle.link_owner.specs.declared.claims.Claim.{Claim}
 use Rattle.mesh_nodes.proofs.LegList.{same_lsp-refl}
 use Rattle.leg_table.specs.declared.labels.TakenLabel.{TakenLabel}
 use Rattle.leg_table.specs.LegClaims.{claim_by, claimed_by}
-use Rattle.leg_labels.proofs.ClaimLists.{or_true, same_number}
+use Rattle.leg_labels.proofs.ClaimLists.{same_number}
 use Rattle.leg_table.proofs.OwnerFibres.{claims-there, comes-kept}
 
 set-again : (f : Fibre) (claims later : List Claim) (o : List FibreClaims) →
@@ -60,12 +59,6 @@ module _ (g : Leg) (t : TakenLabel) (o : OwnerState) (comes : comes_in o.claims 
 
   pub claimed-comes : comes_in (claimed_by g t o).claims t.fibre ≡ true
   claimed-comes = comes-kept t.fibre t.fibre (claims_of t.fibre o.claims ++ c ∷ []) o.claims ∙ comes
-
-  pub claimed-has : has_label (claimed_by g t o).claims t.fibre t.label g.lsp ≡ true
-  claimed-has =
-      ap (list_any (is_of_lsp t.label g.lsp)) there
-      ∙ list_any-append (is_of_lsp t.label g.lsp) (claims_of t.fibre o.claims) (c ∷ [])
-      ∙ rw its (or_true (list_any (is_of_lsp t.label g.lsp) (claims_of t.fibre o.claims)))
 
   pub claimed-freed : not (has_label o.claims t.fibre t.label g.lsp) ≡ true →
       label_freed t.fibre t.label g.lsp (claimed_by g t o).claims ≡ o.claims

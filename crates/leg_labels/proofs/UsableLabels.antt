@@ -23,12 +23,11 @@ use Rattle.mesh_rules.specs.Legs.{find_leg, is_apart, is_usable, is_work, takes,
 use Rattle.mesh_rules.specs.LocalNodes.{LocalNode, own_link}
 use Rattle.mesh_rules.specs.LocalNodes as local
 use Rattle.mesh_nodes.specs.Order.{LegsRise}
-use Rattle.mesh_nodes.proofs.Cases.{both_left, both_right}
+use Rattle.mesh_nodes.proofs.Cases.{both_left, both_right, not-true}
 use Rattle.mesh_nodes.proofs.LegList.{all-found, same_lsp-eq}
 use Rattle.mesh_nodes.proofs.Links.{any-found}
-use Rattle.leg_table.specs.LegClaims.{IsClaimOfLeg, LabelsFit, OwnerFits, bars, claim_kind, guarded_risks, guards_here, kind_here, takes_in}
+use Rattle.leg_table.specs.LegClaims.{IsClaimOfLeg, LabelsFit, OwnerFits, bars, claim_kind, guarded_risks, guards_here, kind_here}
 use Rattle.leg_labels.proofs.ClaimLists.{kind-of}
-use Rattle.leg_table.proofs.TakenLabels.{OneWay, in-takes}
 use Rattle.leg_labels.proofs.ClaimedLabels.{claims_take, of_each, or_last}
 
 -- Labels that a backup may share
@@ -71,14 +70,14 @@ module _ (legs : List Leg) (risks : List Risk) (o : OwnerState) (s : List Guard)
               list_any (keeps_from risks f x) legs ≡ true
           go None found e = absurd (cc e)
           go (Some g) found e =
-              let t : takes_in f c.label g ≡ true = kind-of f c.label g c.kind e in
+              let t : takes f c.label g ≡ true = kind-of f c.label g c.kind e in
               let kind : Some (claim_kind g.role) ≡ Some c.kind = rw t at e in
               let is : claim_kind g.role ≡ c.kind = cc kind in
               let work : is_work g.role ≡ true =
               working-is g.role (ap is_working is ∙ both_right (has x c) (is_working c.kind) works) in
-              let t' : takes_in f x g ≡ true = subst (λ y. takes_in f y g ≡ true) label t in
+              let t' : takes f x g ≡ true = subst (λ y. takes f y g ≡ true) label t in
               any-found (keeps_from risks f x) (λ h. same_lsp h.lsp c.lsp) legs g found
-              (rw (in-takes f x g t', work) refl)
+              (rw (t', work) refl)
 
       each : (claims : List Claim) → AllByRecursion (IsClaimOfLeg legs f) claims →
           AllByRecursion (λ c. works_on x c ≡ true → list_any (keeps_from risks f x) legs ≡ true) claims
@@ -106,16 +105,16 @@ module _ (legs : List Leg) (risks : List Risk) (o : OwnerState) (s : List Guard)
       go None found e = absurd (cc e)
       go (Some g) found e =
           any-found (keeps_from risks f x) (λ h. same_lsp h.lsp l) legs g found
-          (keeps g (in-takes f x g (both_left (takes_in f x g) _ e))
-          (both_right (takes_in f x g) (has_risk (guarded_risks g) q) e))
+          (keeps g (both_left (takes f x g) _ e)
+          (both_right (takes f x g) (has_risk (guarded_risks g) q) e))
 
   -- a leg that keeps the backup from the label has a working claim of it, or guards one of the risks
-  keeps-one : OneWay legs → list_any (works_on x) (claims_of f o.claims) ≡ false → fits s f risks x ≡ true → (l : Lsp)
+  keeps-one : list_any (works_on x) (claims_of f o.claims) ≡ false → fits s f risks x ≡ true → (l : Lsp)
       (g : Leg) → find_leg l legs ≡ Some g → keeps_from risks f x g ≡ true → ⊥
-  keeps-one one none fitting l g found keeps = role (is_work g.role) refl
+  keeps-one none fitting l g found keeps = role (is_work g.role) refl
     where
-      t : takes_in f x g ≡ true
-      t = sym (one l g found f x) ∙ both_left (takes f x g) (not (is_apart risks g)) keeps
+      t : takes f x g ≡ true
+      t = both_left (takes f x g) (not (is_apart risks g)) keeps
 
       works : is_work g.role ≡ true → list_any (works_on x) (claims_of f o.claims) ≡ true
       works work =
@@ -158,9 +157,9 @@ module _ (legs : List Leg) (risks : List Risk) (o : OwnerState) (s : List Guard)
           guards back (common-of (is_work g.role) (have_common risks g.risks) back
           (both_right (takes f x g) (not (is_apart risks g)) keeps))
 
-  pub shared-exact : OneWay legs → (not (list_any (works_on x) (claims_of f o.claims)) && fits s f risks x) ≡
+  pub shared-exact : (not (list_any (works_on x) (claims_of f o.claims)) && fits s f risks x) ≡
       not (list_any (keeps_from risks f x) legs)
-  shared-exact one =
+  shared-exact =
       go (list_any (works_on x) (claims_of f o.claims)) (fits s f risks x) (list_any (keeps_from risks f x) legs) refl refl
       refl
     where
@@ -168,7 +167,7 @@ module _ (legs : List Leg) (risks : List Risk) (o : OwnerState) (s : List Guard)
           list_any (keeps_from risks f x) legs ≡ true → ⊥
       none-keeps none fitting h =
           of_each (keeps_from risks f x) ⊥ legs
-          (all-found (λ g. keeps_from risks f x g ≡ true → ⊥) legs rise (keeps-one one none fitting)) h
+          (all-found (λ g. keeps_from risks f x g ≡ true → ⊥) legs rise (keeps-one none fitting)) h
 
       met-keeps : fits s f risks x ≡ false → list_any (keeps_from risks f x) legs ≡ false → ⊥
       met-keeps met none =
@@ -187,16 +186,16 @@ module _ (legs : List Leg) (risks : List Risk) (o : OwnerState) (s : List Guard)
       go false false false works fitting keeps = absurd (met-keeps fitting keeps)
 
 pub shared-usable : (p : LocalNode) (legs : List Leg) (risks : List Risk) (o : OwnerState) (s : List Guard)
-    (f : Fibre) → LegsRise legs → OneWay legs → LabelsFit legs o s → OwnerFits p o → comes_in o.claims f ≡ true →
+    (f : Fibre) → LegsRise legs → LabelsFit legs o s → OwnerFits p o → comes_in o.claims f ≡ true →
     shareable (labels_of f o.claims) (claims_of f o.claims) ≡
     filter (labels.has (shareable (labels_of f o.claims) (claims_of f o.claims))) (up_to 80) →
     labels.meet (shareable (labels_of f o.claims) (claims_of f o.claims)) (fitting s f risks) ≡ usable p legs Back risks f
-shared-usable p legs risks o s f rise one fit owner comes narrow =
+shared-usable p legs risks o s f rise fit owner comes narrow =
     filter-agree (labels.has (fitting s f risks)) (fits s f risks) left (λ x h. here x h)
     ∙ filter-filter (λ x. not (list_any (works_on x) (claims_of f o.claims))) (fits s f risks) (up_to (labels_of f o.claims))
     ∙ rw (owner.labels f comes)
     (filter-agree (λ x. not (list_any (works_on x) (claims_of f o.claims)) && fits s f risks x) (is_usable Back risks legs f)
-    (up_to (local.labels_of (own_link p f.link))) (λ x h. shared-exact legs risks o s f x rise fit one))
+    (up_to (local.labels_of (own_link p f.link))) (λ x h. shared-exact legs risks o s f x rise fit))
   where
     left : List ℕ
     left = shareable (labels_of f o.claims) (claims_of f o.claims)
@@ -230,10 +229,6 @@ usable-within p legs r risks f x h =
     let below : x < 1 + n = has-bound n 1 x in_all in
     omega arith
 
-not-of : (b : Bool) → not b ≡ true → b ≡ false
-not-of true e = absurd (cc e)
-not-of false e = refl
-
 -- what one test tells, that another fails
 pub unless : (a b : Bool) → (a ≡ true → b ≡ true) → b ≡ false → a ≡ false
 unless true b then none = absurd (let some = then refl in cc (none, some))
@@ -246,8 +241,8 @@ pub usable-unclaimed : (p : LocalNode) (legs : List Leg) (r : Role) (risks : Lis
 usable-unclaimed p legs Work risks o s f x rise fit h =
     unless (list_any (has x) (claims_of f o.claims)) (list_any (takes f x) legs)
     (claims_take legs f x (claims_of f o.claims) (fit.claims.each f))
-    (not-of (list_any (takes f x) legs) (usable-is p legs Work risks f x h))
+    (not-true (list_any (takes f x) legs) (usable-is p legs Work risks f x h))
 usable-unclaimed p legs Back risks o s f x rise fit h =
     unless (list_any (works_on x) (claims_of f o.claims)) (list_any (keeps_from risks f x) legs)
     (works-keeps legs risks o s f x rise fit)
-    (not-of (list_any (keeps_from risks f x) legs) (usable-is p legs Back risks f x h))
+    (not-true (list_any (keeps_from risks f x) legs) (usable-is p legs Back risks f x h))

@@ -1,1 +1,2 @@
+pub mod LegHolds
 pub mod LegMarks

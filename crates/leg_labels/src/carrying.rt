@@ -1,21 +1,22 @@
 //! Carrying out what a rule changes: the legs with the labels that they take and their marks, the row that is learnt, the
 //! calls and the numbers.
 
-ghost use Rattle.std.specs.Prelude.{◌≡◌, ◌≤◌, ◌<◌, ◌+◌, ◌⊎◌, IfOk, IfSome, None, OnErr, OnOk, Some, length, vec_capacity, vec_len};
-ghost use Rattle.std.specs.List.{AllByRecursion};
+ghost use Rattle.std.specs.Prelude.{◌≡◌, ◌≤◌, ◌<◌, ◌+◌, IfOk, IfSome, None, OnErr, OnOk, Some, length, vec_capacity, vec_len};
 ghost use Rattle.std.specs.Option.{option_to_list};
 ghost use Rattle.link_owner.specs.Marks.{has_fibre};
 ghost use Rattle.mesh_rules.specs.Changes.{changed, learnt_after};
-ghost use Rattle.mesh_rules.specs.Legs.{find_leg, leg_changed, legs_changed, with_leg, without_leg};
-ghost use Rattle.leg_table.specs.LegClaims.{AreOfOneNode, ClaimsFit, LabelsFit, MayAllEnter, MayAllMark, MayAllStay, MayBeMade, MayClaim, MayEnter, MayKeep, MayMark, MayMarkSo, OwnerFits, SameFibres, SharesStay, StaysAs, TakesNone, is_own_fibre, taken, taken_of};
+ghost use Rattle.mesh_rules.specs.declared.changes.LegChange.TheVariants.{Goes, Put};
+ghost use Rattle.mesh_rules.specs.Legs.{find_leg, legs_changed, with_leg, without_leg};
+ghost use Rattle.leg_table.specs.LegClaims.{AreOfOneNode, ClaimsFit, LabelsFit, MarksFit, MayAllMark, MayAllStay, MayBeMade, MayMark, MayStay, OwnerFits, SameFibres, SharesStay, is_own_fibre};
 ghost use Rattle.leg_table.specs.States.{local_of, state_of};
 ghost use Rattle.leg_table.specs.Tables.{LegsRise};
+ghost use Rattle.leg_labels.specs.LegHolds.{AreLeft, GivesUp, MayGiveUpAll, is_lost};
 
 use crate::marking::{remark, unmark_lsp};
-use crate::reserving::{free_label, has_taken, reserve};
+use crate::releasing::give_up_lost;
+use crate::reserving::reserve_new;
 use ason_base::{Lsp, OutOfMemory, Outs, TeRow};
 use leg_table::boxes::{BoxedChange, BoxedLeg, LegEdit};
-use leg_table::labels::{TakenLabel, taken};
 use leg_table::legs::{set_leg, take_leg};
 use leg_table::{Calls, Change, NodeTables};
 use link_owner::Owner;
@@ -24,46 +25,97 @@ use std::alloc::Global;
 
 // Legs
 
+// Takes a leg off. Its labels are given up.
 fn remove_leg(legs: &mut Vec<BoxedLeg>, owner: &mut Owner, shares: &mut Shares, lsp: Lsp)
     requires rising { LegsRise legs.old.items }
-    requires fit { LabelsFit legs.old.items owner.old shares.old }
+    requires may { MayGiveUpAll (find_leg lsp legs.old.items) owner.old shares.old }
+    requires fit { MarksFit legs.old.items owner.old }
     ensures items { legs.new.items ≡ without_leg lsp legs.old.items }
     ensures rising { LegsRise legs.new.items }
     ensures len { vec_len legs.new ≤ vec_len legs.old }
     ensures capacity { vec_capacity legs.new ≡ vec_capacity legs.old }
-    ensures fit { LabelsFit legs.new.items owner.new shares.new }
+    ensures labels { GivesUp lsp (is_lost (find_leg lsp legs.old.items) None)
+        owner.old.claims owner.new.claims shares.old shares.new }
+    ensures fit { MarksFit legs.new.items owner.new }
     ensures fibres { SameFibres owner.old owner.new }
 {
-    free_label(legs, owner, shares, lsp);
+    give_up_lost(legs, owner, shares, lsp, None);
     unmark_lsp(legs, owner, lsp);
     let _leg = take_leg(legs, lsp);
 }
 
-// Puts a leg that takes no label. There is room for it.
+// Puts a leg. The labels that its LSP's leg took and it doesn't are given up; those that it takes are claimed. There is
+// room for it.
 fn put_leg(legs: &mut Vec<BoxedLeg>, owner: &mut Owner, shares: &mut Shares, leg: BoxedLeg)
     requires rising { LegsRise legs.old.items }
     requires room { vec_len legs.old < vec_capacity legs.old }
-    requires fit { LabelsFit legs.old.items owner.old shares.old }
-    requires none { taken leg ≡ None }
+    requires may { MayGiveUpAll (find_leg leg.lsp legs.old.items) owner.old shares.old }
+    requires fit { MarksFit legs.old.items owner.old }
     requires marks { MayMark (has_fibre owner.old.marks) legs.old.items leg }
     ensures items { legs.new.items ≡ with_leg leg legs.old.items }
     ensures rising { LegsRise legs.new.items }
     ensures len { vec_len legs.new ≤ vec_len legs.old + 1 }
     ensures capacity { vec_capacity legs.new ≡ vec_capacity legs.old }
-    ensures fit { LabelsFit legs.new.items owner.new shares.new }
+    ensures labels { GivesUp leg.lsp (is_lost (find_leg leg.lsp legs.old.items) (Some leg))
+        owner.old.claims owner.new.claims shares.old shares.new }
+    ensures fit { MarksFit legs.new.items owner.new }
     ensures fibres { SameFibres owner.old owner.new }
 {
-    free_label(legs, owner, shares, leg.leg().lsp);
+    give_up_lost(legs, owner, shares, leg.leg().lsp, Some(leg.leg()));
     remark(legs, owner, leg.leg());
     set_leg(legs, leg);
 }
 
-// Puts a leg of an LSP whose leg stands and takes the same label, or none. There is room for it.
+// Makes the changes, one after the other. The label that the last of them takes newly is claimed, and there is room for
+// them.
+fn change_legs(
+    legs: &mut Vec<BoxedLeg>,
+    owner: &mut Owner,
+    shares: &mut Shares,
+    changes: Vec<LegEdit>,
+)
+    requires rising { LegsRise legs.old.items }
+    requires room { vec_len legs.old + vec_len changes ≤ vec_capacity legs.old }
+    requires left { AreLeft legs.old.items legs.old.items changes.items owner.old shares.old }
+    requires fit { MarksFit legs.old.items owner.old }
+    requires marks { MayAllMark (has_fibre owner.old.marks) legs.old.items changes.items }
+    ensures items { legs.new.items ≡ legs_changed changes.items legs.old.items }
+    ensures rising { LegsRise legs.new.items }
+    ensures fit { LabelsFit legs.new.items owner.new shares.new }
+    ensures fibres { SameFibres owner.old owner.new }
+{
+    for change in changes {
+        match change.into_change() {
+            BoxedChange::Goes(lsp) => remove_leg(legs, owner, shares, lsp),
+            BoxedChange::Put(leg) => put_leg(legs, owner, shares, leg),
+        }
+    }
+}
+
+// Legs that keep their labels
+
+// Takes a leg off that takes no label.
+fn drop_leg(legs: &mut Vec<BoxedLeg>, owner: &mut Owner, lsp: Lsp)
+    requires rising { LegsRise legs.old.items }
+    requires fit { ClaimsFit legs.old.items owner.old }
+    requires may { MayStay legs.old.items (Goes lsp) }
+    ensures items { legs.new.items ≡ without_leg lsp legs.old.items }
+    ensures rising { LegsRise legs.new.items }
+    ensures len { length legs.new.items ≤ length legs.old.items }
+    ensures capacity { vec_capacity legs.new ≡ vec_capacity legs.old }
+    ensures fit { ClaimsFit legs.new.items owner.new }
+    ensures fibres { SameFibres owner.old owner.new }
+{
+    unmark_lsp(legs, owner, lsp);
+    let _leg = take_leg(legs, lsp);
+}
+
+// Puts a leg of an LSP whose leg stands and takes the same labels. There is room for it.
 fn stay_leg(legs: &mut Vec<BoxedLeg>, owner: &mut Owner, leg: BoxedLeg)
     requires rising { LegsRise legs.old.items }
     requires room { vec_len legs.old < vec_capacity legs.old }
     requires fit { ClaimsFit legs.old.items owner.old }
-    requires may { StaysAs legs.old.items leg (taken leg) }
+    requires may { MayStay legs.old.items (Put leg) }
     requires marks { MayMark (has_fibre owner.old.marks) legs.old.items leg }
     ensures items { legs.new.items ≡ with_leg leg legs.old.items }
     ensures rising { LegsRise legs.new.items }
@@ -74,22 +126,6 @@ fn stay_leg(legs: &mut Vec<BoxedLeg>, owner: &mut Owner, leg: BoxedLeg)
 {
     remark(legs, owner, leg.leg());
     set_leg(legs, leg);
-}
-
-// Takes a leg off that takes no label.
-fn drop_leg(legs: &mut Vec<BoxedLeg>, owner: &mut Owner, lsp: Lsp)
-    requires rising { LegsRise legs.old.items }
-    requires fit { ClaimsFit legs.old.items owner.old }
-    requires none { taken_of (find_leg lsp legs.old.items) ≡ None }
-    ensures items { legs.new.items ≡ without_leg lsp legs.old.items }
-    ensures rising { LegsRise legs.new.items }
-    ensures len { length legs.new.items ≤ length legs.old.items }
-    ensures capacity { vec_capacity legs.new ≡ vec_capacity legs.old }
-    ensures fit { ClaimsFit legs.new.items owner.new }
-    ensures fibres { SameFibres owner.old owner.new }
-{
-    unmark_lsp(legs, owner, lsp);
-    let _leg = take_leg(legs, lsp);
 }
 
 // Makes the changes, one after the other. Legs keep their labels, and there is room for them.
@@ -111,167 +147,6 @@ fn keep_legs(legs: &mut Vec<BoxedLeg>, owner: &mut Owner, changes: Vec<LegEdit>)
             BoxedChange::Put(leg) => stay_leg(legs, owner, leg),
         }
     }
-}
-
-// Makes the changes, one after the other. None takes a label, and there is room for them.
-fn change_later(
-    legs: &mut Vec<BoxedLeg>,
-    owner: &mut Owner,
-    shares: &mut Shares,
-    changes: Vec<LegEdit>,
-)
-    requires rising { LegsRise legs.old.items }
-    requires room { vec_len legs.old + vec_len changes ≤ vec_capacity legs.old }
-    requires fit { LabelsFit legs.old.items owner.old shares.old }
-    requires none { AllByRecursion TakesNone changes.items }
-    requires marks { MayAllMark (has_fibre owner.old.marks) legs.old.items changes.items }
-    ensures items { legs.new.items ≡ legs_changed changes.items legs.old.items }
-    ensures rising { LegsRise legs.new.items }
-    ensures fit { LabelsFit legs.new.items owner.new shares.new }
-    ensures fibres { SameFibres owner.old owner.new }
-{
-    for change in changes {
-        match change.into_change() {
-            BoxedChange::Goes(lsp) => remove_leg(legs, owner, shares, lsp),
-            BoxedChange::Put(leg) => put_leg(legs, owner, shares, leg),
-        }
-    }
-}
-
-// Puts a leg that takes this label, where its LSP took none. There is room for it. After want of memory nothing has
-// changed.
-fn enter_leg(
-    legs: &mut Vec<BoxedLeg>,
-    owner: &mut Owner,
-    shares: &mut Shares,
-    alloc: Global,
-    leg: BoxedLeg,
-    label: TakenLabel,
-) -> Result<(), OutOfMemory>
-    requires rising { LegsRise legs.old.items }
-    requires room { vec_len legs.old < vec_capacity legs.old }
-    requires fit { LabelsFit legs.old.items owner.old shares.old }
-    requires taken { taken leg ≡ Some label }
-    requires may { MayClaim owner.old legs.old.items leg label }
-    requires marks { MayMark (has_fibre owner.old.marks) legs.old.items leg }
-    ensures ok { OnOk result (legs.new.items ≡ with_leg leg legs.old.items) }
-    ensures err { OnErr result (legs.new.items ≡ legs.old.items) }
-    ensures err_owner { OnErr result (owner.new ≡ owner.old) }
-    ensures err_shares { OnErr result (shares.new ≡ shares.old) }
-    ensures rising { LegsRise legs.new.items }
-    ensures len { vec_len legs.new ≤ vec_len legs.old + 1 }
-    ensures capacity { vec_capacity legs.new ≡ vec_capacity legs.old }
-    ensures fit { LabelsFit legs.new.items owner.new shares.new }
-    ensures fibres { SameFibres owner.old owner.new }
-{
-    reserve(owner, shares, alloc, leg.leg(), &label)?;
-    remark(legs, owner, leg.leg());
-    set_leg(legs, leg);
-    Ok(())
-}
-
-// Puts a leg that takes this label, or keeps it. There is room for it. After want of memory nothing has changed.
-fn label_leg(
-    legs: &mut Vec<BoxedLeg>,
-    owner: &mut Owner,
-    shares: &mut Shares,
-    alloc: Global,
-    leg: BoxedLeg,
-    label: TakenLabel,
-) -> Result<(), OutOfMemory>
-    requires rising { LegsRise legs.old.items }
-    requires room { vec_len legs.old < vec_capacity legs.old }
-    requires fit { LabelsFit legs.old.items owner.old shares.old }
-    requires taken { taken leg ≡ Some label }
-    requires may { MayClaim owner.old legs.old.items leg label ⊎ MayKeep legs.old.items leg label }
-    requires marks { MayMark (has_fibre owner.old.marks) legs.old.items leg }
-    ensures ok { OnOk result (legs.new.items ≡ with_leg leg legs.old.items) }
-    ensures err { OnErr result (legs.new.items ≡ legs.old.items) }
-    ensures err_owner { OnErr result (owner.new ≡ owner.old) }
-    ensures err_shares { OnErr result (shares.new ≡ shares.old) }
-    ensures rising { LegsRise legs.new.items }
-    ensures len { vec_len legs.new ≤ vec_len legs.old + 1 }
-    ensures capacity { vec_capacity legs.new ≡ vec_capacity legs.old }
-    ensures fit { LabelsFit legs.new.items owner.new shares.new }
-    ensures fibres { SameFibres owner.old owner.new }
-{
-    let lsp = leg.leg().lsp;
-    if has_taken(legs, lsp) {
-        stay_leg(legs, owner, leg);
-        Ok(())
-    } else {
-        enter_leg(legs, owner, shares, alloc, leg, label)
-    }
-}
-
-// Makes the first change, which may take a label, or keep one. There is room for it. After want of memory nothing has
-// changed.
-fn change_first(
-    legs: &mut Vec<BoxedLeg>,
-    owner: &mut Owner,
-    shares: &mut Shares,
-    alloc: Global,
-    change: LegEdit,
-) -> Result<(), OutOfMemory>
-    requires rising { LegsRise legs.old.items }
-    requires room { vec_len legs.old < vec_capacity legs.old }
-    requires fit { LabelsFit legs.old.items owner.old shares.old }
-    requires may { MayEnter owner.old legs.old.items change }
-    requires marks { MayMarkSo (has_fibre owner.old.marks) legs.old.items change }
-    ensures ok { OnOk result (legs.new.items ≡ leg_changed change legs.old.items) }
-    ensures err { OnErr result (legs.new.items ≡ legs.old.items) }
-    ensures err_owner { OnErr result (owner.new ≡ owner.old) }
-    ensures err_shares { OnErr result (shares.new ≡ shares.old) }
-    ensures rising { LegsRise legs.new.items }
-    ensures len { vec_len legs.new ≤ vec_len legs.old + 1 }
-    ensures capacity { vec_capacity legs.new ≡ vec_capacity legs.old }
-    ensures fit { LabelsFit legs.new.items owner.new shares.new }
-    ensures fibres { SameFibres owner.old owner.new }
-{
-    match change.into_change() {
-        BoxedChange::Goes(lsp) => {
-            remove_leg(legs, owner, shares, lsp);
-            Ok(())
-        }
-        BoxedChange::Put(leg) => match taken(leg.leg()) {
-            None => {
-                put_leg(legs, owner, shares, leg);
-                Ok(())
-            }
-            Some(label) => label_leg(legs, owner, shares, alloc, leg, label),
-        },
-    }
-}
-
-// Makes the changes, one after the other. There is room for them. After want of memory nothing has changed.
-fn change_legs(
-    legs: &mut Vec<BoxedLeg>,
-    owner: &mut Owner,
-    shares: &mut Shares,
-    alloc: Global,
-    changes: Vec<LegEdit>,
-) -> Result<(), OutOfMemory>
-    requires rising { LegsRise legs.old.items }
-    requires room { vec_len legs.old + vec_len changes ≤ vec_capacity legs.old }
-    requires fit { LabelsFit legs.old.items owner.old shares.old }
-    requires may { MayAllEnter owner.old legs.old.items changes.items }
-    requires marks { MayAllMark (has_fibre owner.old.marks) legs.old.items changes.items }
-    ensures ok { OnOk result (legs.new.items ≡ legs_changed changes.items legs.old.items) }
-    ensures err { OnErr result (legs.new.items ≡ legs.old.items) }
-    ensures err_owner { OnErr result (owner.new ≡ owner.old) }
-    ensures err_shares { OnErr result (shares.new ≡ shares.old) }
-    ensures rising { LegsRise legs.new.items }
-    ensures fit { LabelsFit legs.new.items owner.new shares.new }
-    ensures fibres { SameFibres owner.old owner.new }
-{
-    let mut later = changes;
-    if later.is_empty() {
-        return Ok(());
-    }
-    let first = later.remove(0);
-    change_first(legs, owner, shares, alloc, first)?;
-    change_later(legs, owner, shares, later);
-    Ok(())
 }
 
 // Rows
@@ -329,7 +204,8 @@ pub(crate) fn carry_out_tables(
 {
     make_room(&mut tables.rows, &row)?;
     tables.legs.reserve(changes.len())?;
-    change_legs(&mut tables.legs, owner, shares, alloc, changes)?;
+    reserve_new(&tables.legs, owner, shares, alloc, &changes)?;
+    change_legs(&mut tables.legs, owner, shares, changes);
     put_row(&mut tables.rows, row);
     Ok(())
 }

@@ -5,9 +5,10 @@
 mod carrying;
 mod handling;
 mod marking;
+mod releasing;
 mod reserving;
 mod usable_labels;
 
 pub use carrying::carry_out;
 pub use handling::{handle, handle_kept, handle_kept_calls};
-pub use usable_labels::{is_contended, usable};
+pub use usable_labels::{is_contended, label_through, usable};

@@ -11,17 +11,7 @@ use ason_base::{Fibre, Label, Leg, Lsp, Phase, Role};
 use leg_table::boxes::BoxedLeg;
 use leg_table::legs::find_leg;
 use link_owner::Owner;
-
-// The other direction of the same link.
-fn reverse_of(fibre: Option<Fibre>) -> Option<Fibre>
-    ensures { result ≡ reverse_of fibre }
-{
-    let fibre = fibre?;
-    Some(Fibre {
-        link: fibre.link,
-        forward: !fibre.forward,
-    })
-}
+use mesh_rules::links::reverse_of;
 
 fn is_marked(leg: &Leg) -> bool
     ensures { result ≡ is_marked leg.now }

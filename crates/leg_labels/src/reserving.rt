@@ -1,16 +1,18 @@
-//! Labels that legs take and give up, at the owner and at the shares.
+//! Labels that legs take, at the owner and at the shares: the one that changes of legs take newly.
 
-ghost use Rattle.std.specs.Prelude.{◌≡◌, ◌≤◌, [], true, IfErr, IfSome, IsTrue, OnErr, OnOk, is_some, not};
+ghost use Rattle.std.specs.Prelude.{◌≡◌, ◌≤◌, None, IfErr, IsTrue, OnErr, OnOk, not};
+ghost use Rattle.std.specs.Option.{option_copied};
 ghost use Rattle.link_owner.specs.Claims.{NoClaim, RefusedFor};
 ghost use Rattle.link_owner.specs.Owners.{claims_of, comes_in, has_label, labels_of};
-ghost use Rattle.mesh_rules.specs.Legs.{find_leg, is_work};
-ghost use Rattle.share_check.specs.Guards.{GuardsJust, GuardsNone};
-ghost use Rattle.leg_table.specs.LegClaims.{GuardsBy, GuardsNothing, GuardsOfLeg, LabelsFit, bars, claimed_by, freed_of, taken, taken_of};
+ghost use Rattle.mesh_rules.specs.Legs.{find_leg};
+ghost use Rattle.share_check.specs.Guards.{GuardsNone};
+ghost use Rattle.leg_table.specs.LegClaims.{GuardsBy, SameFibres, bars, claimed_by};
 ghost use Rattle.leg_table.specs.Tables.{LegsRise};
+ghost use Rattle.leg_labels.specs.LegHolds.{AreHeld, MayClaim, MayClaimNew, fresh_of, held_of, last_put, new_label, with_label, with_new};
 
-use ason_base::{Leg, Lsp, OutOfMemory, Role};
-use leg_table::boxes::BoxedLeg;
-use leg_table::labels::{TakenLabel, taken};
+use ason_base::{Leg, OutOfMemory, Role};
+use leg_table::boxes::{BoxedLeg, LegEdit};
+use leg_table::labels::{TakenLabel, taken_back, taken_in, takes};
 use leg_table::legs::find_leg;
 use link_owner::{ClaimFault, Owner};
 use share_check::Shares;
@@ -67,20 +69,17 @@ fn guard(
     }
 }
 
-/// The leg takes the label. After want of memory nothing has changed.
-pub(crate) fn reserve(
+// The leg takes the label. After want of memory nothing has changed.
+fn reserve(
     owner: &mut Owner,
     shares: &mut Shares,
     alloc: Global,
     leg: &Leg,
     label: &TakenLabel,
 ) -> Result<(), OutOfMemory>
-    requires comes_in { IsTrue (comes_in owner.old.claims label.now.fibre) }
-    requires within { label.now.label ≤ labels_of label.now.fibre owner.old.claims }
+    requires may { MayClaim owner.old leg.now label.now }
     requires new { IsTrue
         (not (has_label owner.old.claims label.now.fibre label.now.label leg.now.lsp)) }
-    requires free { NoClaim (bars leg.now.role label.now.label)
-        (claims_of label.now.fibre owner.old.claims) }
     requires none { GuardsNone shares.old label.now.fibre label.now.label leg.now.lsp }
     ensures ok { OnOk result (owner.new ≡ claimed_by leg.now label.now owner.old) }
     ensures guards { OnOk result (GuardsBy leg.now label.now shares.old shares.new) }
@@ -97,55 +96,67 @@ pub(crate) fn reserve(
     }
 }
 
-// A working leg guards none.
-fn unguard(shares: &mut Shares, leg: &Leg, label: &TakenLabel)
-    requires { is_work leg.now.role ≡ true →
-        GuardsNone shares.old label.now.fibre label.now.label leg.now.lsp }
-    ensures { GuardsJust label.now.fibre label.now.label leg.now.lsp [] shares.old shares.new }
+// The label, if its LSP's leg doesn't take it.
+fn fresh(legs: &[BoxedLeg], leg: &Leg, label: Option<TakenLabel>) -> Option<TakenLabel>
+    requires { LegsRise legs.now }
+    ensures { result ≡ fresh_of (find_leg leg.now.lsp legs.now) label }
 {
-    match leg.role {
-        Role::Work => {}
-        Role::Back => shares.unguard(label.fibre, label.label, leg.lsp),
-    }
-}
-
-// The leg gives up the label that it took, and what it guarded there.
-fn free(owner: &mut Owner, shares: &mut Shares, leg: &Leg)
-    requires claimed { IfSome (taken leg.now)
-        (λ t. IsTrue (has_label owner.old.claims t.fibre t.label leg.now.lsp)) }
-    requires guarded { GuardsOfLeg leg.now shares.old }
-    ensures owner { owner.new ≡ freed_of leg.now.lsp (taken leg.now) owner.old }
-    ensures shares { GuardsNothing leg.now.lsp shares.old shares.new }
-{
-    match taken(leg) {
-        None => {}
-        Some(label) => {
-            owner.free(label.fibre, label.label, leg.lsp);
-            unguard(shares, leg, &label);
+    let label = label?;
+    match find_leg(legs, leg.lsp) {
+        None => Some(label),
+        Some(before) => {
+            if takes(before, &label) {
+                None
+            } else {
+                Some(label)
+            }
         }
     }
 }
 
-/// The label that the LSP's leg took is free again, and is guarded by the LSP no more.
-pub(crate) fn free_label(legs: &[BoxedLeg], owner: &mut Owner, shares: &mut Shares, lsp: Lsp)
-    requires rising { LegsRise legs.now }
-    requires fit { LabelsFit legs.now owner.old shares.old }
-    ensures owner { owner.new ≡ freed_of lsp (taken_of (find_leg lsp legs.now)) owner.old }
-    ensures shares { GuardsNothing lsp shares.old shares.new }
+// The label that the leg takes and its LSP's leg doesn't.
+fn new_label(legs: &[BoxedLeg], leg: &Leg) -> Option<TakenLabel>
+    requires { LegsRise legs.now }
+    ensures { result ≡ new_label (find_leg leg.now.lsp legs.now) leg.now }
 {
-    match find_leg(legs, lsp) {
-        None => {}
-        Some(leg) => free(owner, shares, leg),
+    match fresh(legs, leg, taken_in(leg)) {
+        Some(label) => Some(label),
+        None => fresh(legs, leg, taken_back(leg)),
     }
 }
 
-/// Whether the LSP's leg takes a label.
-pub(crate) fn has_taken(legs: &[BoxedLeg], lsp: Lsp) -> bool
-    requires { LegsRise legs.now }
-    ensures { result ≡ is_some (taken_of (find_leg lsp legs.now)) }
+fn last_put(changes: &[LegEdit]) -> Option<&Leg>
+    ensures { option_copied result ≡ last_put changes.now }
 {
-    match find_leg(legs, lsp) {
-        None => false,
-        Some(leg) => taken(leg).is_some(),
+    match changes.last() {
+        None => None,
+        Some(change) => change.leg(),
     }
+}
+
+/// Reserves the label that the last change takes newly, if there is one. After want of memory nothing has changed.
+pub(crate) fn reserve_new(
+    legs: &[BoxedLeg],
+    owner: &mut Owner,
+    shares: &mut Shares,
+    alloc: Global,
+    changes: &[LegEdit],
+) -> Result<(), OutOfMemory>
+    requires rising { LegsRise legs.now }
+    requires held { AreHeld (held_of legs.now) owner.old shares.old }
+    requires may { MayClaimNew owner.old legs.now (last_put changes.now) }
+    ensures held { OnOk result
+        (AreHeld (with_new legs.now (last_put changes.now) (held_of legs.now)) owner.new shares.new) }
+    ensures marks { owner.new.marks ≡ owner.old.marks }
+    ensures fibres { SameFibres owner.old owner.new }
+    ensures err { OnErr result (owner.new ≡ owner.old) }
+    ensures err_shares { OnErr result (shares.new ≡ shares.old) }
+{
+    let Some(leg) = last_put(changes) else {
+        return Ok(());
+    };
+    let Some(label) = new_label(legs, leg) else {
+        return Ok(());
+    };
+    reserve(owner, shares, alloc, leg, &label)
 }

@@ -1,13 +1,12 @@
 //! The labels that a leg may take, and whether other legs keep its labels busy.
 
 ghost use Rattle.std.specs.Prelude.{◌≡◌, IsTrue};
-ghost use Rattle.mesh_rules.specs.Legs.{is_contended, usable};
-ghost use Rattle.leg_table.specs.Fits.{OwnLegsFit};
+ghost use Rattle.mesh_rules.specs.Legs.{is_contended, label_through, usable};
 ghost use Rattle.leg_table.specs.LegClaims.{AreOfOneNode, ClaimsFit, is_fibre_in};
 ghost use Rattle.leg_table.specs.States.{local_of};
 
 use crate::marking::is_lit_over;
-use ason_base::{Fibre, LabelSet, Leg, RiskSet, Role};
+use ason_base::{Fibre, Label, LabelSet, Leg, RiskSet, Role};
 use leg_table::NodeTables;
 use link_owner::Owner;
 use share_check::Shares;
@@ -22,7 +21,6 @@ pub fn usable(
     risks: &RiskSet,
     f: Fibre,
 ) -> LabelSet
-    requires legs { OwnLegsFit tables.now }
     requires node { AreOfOneNode tables.now owner.now shares.now }
     requires comes_in { IsTrue (is_fibre_in (local_of tables.now) f) }
     ensures { result ≡ usable (local_of tables.now) tables.now.legs role risks.now f }
@@ -46,4 +44,17 @@ pub fn is_contended(tables: &NodeTables, owner: &Owner, leg: &Leg) -> bool
 {
     tables.rises();
     is_lit_over(owner, leg)
+}
+
+/// The label with which an LSP goes on: of these the least where the node converts, at another one the label that came.
+pub fn label_through(tables: &NodeTables, labels: &LabelSet, label: Label) -> Option<Label>
+    ensures { result ≡ label_through (local_of tables.now) labels.now label }
+{
+    if tables.node().convert {
+        labels.least()
+    } else if labels.has(label) {
+        Some(label)
+    } else {
+        None
+    }
 }

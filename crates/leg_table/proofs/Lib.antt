@@ -3,7 +3,6 @@ mod CallIndexes
 mod CallsByLsp
 mod Halved
 mod IndexChanges
-pub mod LeftLabels
 pub mod LegOrder
 mod LspIndex
 mod LspOrder

@@ -1,6 +1,6 @@
 -- Which labels the legs of a node take and use, the claims and the marks of its owner that they have, and the risks
 -- that they guard (RFC 4872, section 9).
-use Rattle.std.specs.Prelude.{◌≡◌, ◌≤◌, ◌⊎◌, ◌&&◌, ◌||◌, ◌++◌, ℕ, Bool, true, false, List, [], ◌∷◌, map, Option, Some, None, IfSome, IsSome, IsTrue, if◌then◌else◌}
+use Rattle.std.specs.Prelude.{◌≡◌, ◌==◌, ◌≤◌, ◌⊎◌, ◌&&◌, ◌||◌, ◌++◌, ℕ, Bool, true, false, List, [], ◌∷◌, map, Option, Some, None, IsTrue, if◌then◌else◌}
 use Rattle.std.specs.List.{AllByRecursion, list_any}
 use Rattle.ason_base.specs.Labels.{has}
 use Rattle.ason_base.specs.Lsps.{same_fibre, same_lsp}
@@ -12,14 +12,14 @@ use Rattle.ason_base.specs.declared.ids.Fibre.{Fibre}
 use Rattle.ason_base.specs.declared.ids.Lsp.{Lsp}
 use Rattle.ason_base.specs.declared.risks.Risk.{Risk}
 use Rattle.ason_base.specs.declared.tables.Leg.{Leg}
-use Rattle.link_owner.specs.Claims.{NoClaim, works_on}
+use Rattle.link_owner.specs.Claims.{works_on}
 use Rattle.link_owner.specs.Claims as claims
 use Rattle.link_owner.specs.Marks.{has_fibre, is_lit}
-use Rattle.link_owner.specs.Owners.{OwnerState, claim_added, claims_of, comes_in, has_label, label_freed, labels_of}
+use Rattle.link_owner.specs.Owners.{OwnerState, claim_added, claims_of, comes_in, has_label, labels_of}
 use Rattle.link_owner.specs.declared.claims.Claim.{Claim}
 use Rattle.link_owner.specs.declared.claims.ClaimKind.{ClaimKind}
 use Rattle.link_owner.specs.declared.claims.ClaimKind.TheVariants.{Working, Backup}
-use Rattle.mesh_rules.specs.Legs.{find_leg, is_at, is_beyond_asked, is_contended, is_marked, is_work, leg_changed, reserved, reverse, usable, uses}
+use Rattle.mesh_rules.specs.Legs.{find_leg, is_contended, is_marked, is_work, leg_changed, reverse, reverse_of, takes, usable, uses, with_leg, without_leg}
 use Rattle.mesh_rules.specs.LocalNodes.{LocalNode, fibre_in, own_link}
 use Rattle.mesh_rules.specs.LocalNodes as local
 use Rattle.mesh_rules.specs.declared.changes.LegChange.{LegChange}
@@ -29,24 +29,28 @@ use Rattle.leg_table.specs.States.{learnt_rows, local_of}
 use Rattle.leg_table.specs.Tables.{LegTable}
 use Rattle.leg_table.specs.declared.labels.TakenLabel.{TakenLabel}
 
--- The label that a leg takes
+-- The labels that a leg takes
 
 abbrev pub taken_over : Option Fibre → Option ℕ → Option TakenLabel
 taken_over None x = None
 taken_over (Some f) None = None
 taken_over (Some f) (Some x) = Some (record { fibre = f; label = x })
 
--- the label in of a leg beyond Asked, and the fibre that it is on
-abbrev pub taken : Leg → Option TakenLabel
-taken g = if is_beyond_asked g.phase then taken_over g.in_fibre g.in_label else None
+-- its label in, and the fibre that it is on
+abbrev pub taken_in : Leg → Option TakenLabel
+taken_in g = taken_over g.in_fibre g.in_label
 
-abbrev pub taken_of : Option Leg → Option TakenLabel
-taken_of None = None
-taken_of (Some g) = taken g
+-- its back label in, on the fibre that comes back from its next node
+abbrev pub taken_back : Leg → Option TakenLabel
+taken_back g = taken_over (reverse_of g.out_fibre) g.back_in
 
--- it is this one; a leg that goes one way takes no other
-abbrev pub takes_in : Fibre → ℕ → Leg → Bool
-takes_in f x g = is_beyond_asked g.phase && is_at g.in_fibre g.in_label f x
+abbrev pub is_this : TakenLabel → Fibre → ℕ → Bool
+is_this t f x = same_fibre t.fibre f && t.label == x
+
+-- the LSP's leg, if it has one, takes the label
+abbrev pub takes_of : Fibre → ℕ → Option Leg → Bool
+takes_of f x None = false
+takes_of f x (Some g) = takes f x g
 
 -- Claims of legs
 
@@ -66,7 +70,7 @@ bars Back x c = works_on x c
 -- how the leg has the label, if it takes it
 abbrev pub kind_here : Fibre → ℕ → Option Leg → Option ClaimKind
 kind_here f x None = None
-kind_here f x (Some g) = if takes_in f x g then Some (claim_kind g.role) else None
+kind_here f x (Some g) = if takes f x g then Some (claim_kind g.role) else None
 
 -- the leg of the claim's LSP takes the label, and has it in this way
 abbrev pub IsClaimOfLeg : List Leg → Fibre → Claim → Type 0
@@ -86,10 +90,10 @@ pub record ClaimsFit (legs : List Leg) (o : OwnerState) : Type 0 where
   -- each claim is one of a leg
   pub each : (f : Fibre) → AllByRecursion (IsClaimOfLeg legs f) (claims_of f o.claims)
   -- each label that a leg takes is claimed by its LSP
-  pub all : (f : Fibre) (x : ℕ) (l : Lsp) (g : Leg) → find_leg l legs ≡ Some g → IsTrue (takes_in f x g) →
+  pub all : (f : Fibre) (x : ℕ) (l : Lsp) (g : Leg) → find_leg l legs ≡ Some g → IsTrue (takes f x g) →
       IsTrue (has_label o.claims f x l)
   -- and is a label of its fibre
-  pub within : (f : Fibre) (x : ℕ) (l : Lsp) (g : Leg) → find_leg l legs ≡ Some g → IsTrue (takes_in f x g) →
+  pub within : (f : Fibre) (x : ℕ) (l : Lsp) (g : Leg) → find_leg l legs ≡ Some g → IsTrue (takes f x g) →
       x ≤ labels_of f o.claims
   pub marks : MarksFit legs o
 
@@ -121,20 +125,11 @@ GuardsBy g t before after = GuardsJust t.fibre t.label g.lsp (guarded_risks g) b
 -- the leg takes the label, and guards the risk there
 abbrev pub guards_here : Fibre → ℕ → Risk → Option Leg → Bool
 guards_here f x q None = false
-guards_here f x q (Some g) = takes_in f x g && has_risk (guarded_risks g) q
-
--- the leg's LSP guards just what the leg does
-abbrev pub GuardsOfLeg : Leg → List Guard → Type 0
-GuardsOfLeg g s = (f : Fibre) (x : ℕ) (q : Risk) → is_guarded s f x g.lsp q ≡ guards_here f x q (Some g)
+guards_here f x q (Some g) = takes f x g && has_risk (guarded_risks g) q
 
 -- the risks that are guarded are exactly those that backups record, each on the label that the backup takes
 pub record GuardsFit (legs : List Leg) (s : List Guard) : Type 0 where
   pub each : (f : Fibre) (x : ℕ) (l : Lsp) (q : Risk) → is_guarded s f x l q ≡ guards_here f x q (find_leg l legs)
-
--- the LSP guards no risk on any label, and all others guard what they did
-abbrev pub GuardsNothing : Lsp → List Guard → List Guard → Type 0
-GuardsNothing l before after = (f : Fibre) (x : ℕ) (m : Lsp) (q : Risk) →
-    is_guarded after f x m q ≡ (if same_lsp l m then false else is_guarded before f x m q)
 
 -- the claims, the marks and the guards are those of the legs
 pub record LabelsFit (legs : List Leg) (o : OwnerState) (s : List Guard) : Type 0 where
@@ -170,71 +165,59 @@ pub record SameFibres (o after : OwnerState) : Type 0 where
   pub labels : (f : Fibre) → labels_of f after.claims ≡ labels_of f o.claims
   pub marked : (f : Fibre) → has_fibre after.marks f ≡ has_fibre o.marks f
 
--- the claim of the LSP on the label, if it has one, is freed
-abbrev pub freed_of : Lsp → Option TakenLabel → OwnerState → OwnerState
-freed_of l None o = o
-freed_of l (Some t) o = record o { claims = label_freed t.fibre t.label l o.claims }
-
 -- Changes of legs
 
--- a leg, whose LSP took no label, takes one that is usable for it; a backup isn't Armed or Live yet
+-- the LSP's leg takes the label, in the same role and with the same risks
+pub record Took (legs : List Leg) (g : Leg) (f : Fibre) (x : ℕ) : Type 0 where
+  pub before : Leg
+  pub there : find_leg g.lsp legs ≡ Some before
+  pub role : before.role ≡ g.role
+  pub risks : before.risks ≡ g.risks
+  pub took : takes f x before ≡ true
+
+-- each label that the leg takes its LSP's leg takes
+abbrev pub TakesNoMore : List Leg → Leg → Type 0
+TakesNoMore legs g = (f : Fibre) (x : ℕ) → takes f x g ≡ true → Took legs g f x
+
+-- its LSP's leg doesn't take the label, and it is usable for the leg
 pub record MayTake (p : LocalNode) (legs : List Leg) (g : Leg) (t : TakenLabel) : Type 0 where
-  pub first : g.phase ≡ reserved g.role
-  pub fresh : taken_of (find_leg g.lsp legs) ≡ None
+  pub fresh : takes_of t.fibre t.label (find_leg g.lsp legs) ≡ false
   pub comes_in : IsTrue (is_fibre_in p t.fibre)
   pub usable : IsTrue (has (usable p legs g.role g.risks t.fibre) t.label)
 
--- a leg keeps the label that it has
-pub record MayKeep (legs : List Leg) (g : Leg) (t : TakenLabel) : Type 0 where
+-- the leg takes one label more than its LSP's leg, which was usable by the legs that its rule read
+pub record TakesOneMore (p : LocalNode) (read legs : List Leg) (g : Leg) : Type 0 where
+  pub label : TakenLabel
+  pub new : takes label.fibre label.label g ≡ true
+  pub may : MayTake p read g label
+  pub rest : (f : Fibre) (x : ℕ) → takes f x g ≡ true → (is_this label f x ≡ true) ⊎ Took legs g f x
+
+-- just the last change may take a label more
+abbrev pub MayBePut : LocalNode → List Leg → List Leg → Leg → List LegChange → Type 0
+MayBePut p read legs g [] = TakesNoMore legs g ⊎ TakesOneMore p read legs g
+MayBePut p read legs g (c ∷ cs) = TakesNoMore legs g
+
+-- the changes of one answer, each in its turn; its rule read these legs
+abbrev pub MayFollow : LocalNode → List Leg → List Leg → List LegChange → Type 0
+MayFollow p read legs [] = Unit {0}
+MayFollow p read legs (Goes l ∷ cs) = MayFollow p read (without_leg l legs) cs
+MayFollow p read legs (Put g ∷ cs) = MayBePut p read legs g cs × MayFollow p read (with_leg g legs) cs
+
+abbrev pub MayBeMade : LocalNode → List Leg → List LegChange → Type 0
+MayBeMade p legs cs = MayFollow p legs legs cs
+
+-- the LSP's leg, which stands, takes the same labels, in the same role and with the same risks
+pub record StaysAs (legs : List Leg) (g : Leg) : Type 0 where
   pub before : Leg
   pub there : find_leg g.lsp legs ≡ Some before
-  pub keeps : taken before ≡ Some t
   pub role : before.role ≡ g.role
   pub risks : before.risks ≡ g.risks
+  pub same : (f : Fibre) (x : ℕ) → takes f x before ≡ takes f x g
 
-abbrev pub MayHave : LocalNode → List Leg → Leg → TakenLabel → Type 0
-MayHave p legs g t = MayTake p legs g t ⊎ MayKeep legs g t
-
-abbrev pub MayBePut : LocalNode → List Leg → Leg → Type 0
-MayBePut p legs g = IfSome (taken g) (MayHave p legs g)
-
-abbrev pub MayBeFirst : LocalNode → List Leg → LegChange → Type 0
-MayBeFirst p legs (Goes l) = Unit {0}
-MayBeFirst p legs (Put g) = MayBePut p legs g
-
-abbrev pub TakesNone : LegChange → Type 0
-TakesNone (Goes l) = Unit {0}
-TakesNone (Put g) = taken g ≡ None
-
--- the same, by the owner: no claim keeps the leg from the label
-pub record MayClaim (o : OwnerState) (legs : List Leg) (g : Leg) (t : TakenLabel) : Type 0 where
-  pub first : g.phase ≡ reserved g.role
-  pub fresh : taken_of (find_leg g.lsp legs) ≡ None
-  pub comes_in : IsTrue (comes_in o.claims t.fibre)
-  pub within : t.label ≤ labels_of t.fibre o.claims
-  pub free : NoClaim (bars g.role t.label) (claims_of t.fibre o.claims)
-
-abbrev pub MayEnter : OwnerState → List Leg → LegChange → Type 0
-MayEnter o legs (Goes l) = Unit {0}
-MayEnter o legs (Put g) = IfSome (taken g) (λ t. MayClaim o legs g t ⊎ MayKeep legs g t)
-
-abbrev pub MayAllEnter : OwnerState → List Leg → List LegChange → Type 0
-MayAllEnter o legs [] = Unit {0}
-MayAllEnter o legs (c ∷ cs) = MayEnter o legs c × AllByRecursion TakesNone cs
-
--- of the changes of one answer just the first may take a label, or keep one
-abbrev pub MayBeMade : LocalNode → List Leg → List LegChange → Type 0
-MayBeMade p legs [] = Unit {0}
-MayBeMade p legs (c ∷ cs) = MayBeFirst p legs c × AllByRecursion TakesNone cs
-
--- the LSP's leg, which stands, keeps its label, or takes none before and after
-abbrev pub StaysAs : List Leg → Leg → Option TakenLabel → Type 0
-StaysAs legs g None = IsSome (find_leg g.lsp legs) × (taken_of (find_leg g.lsp legs) ≡ None)
-StaysAs legs g (Some t) = MayKeep legs g t
-
+-- a leg that goes takes none
 abbrev pub MayStay : List Leg → LegChange → Type 0
-MayStay legs (Goes l) = taken_of (find_leg l legs) ≡ None
-MayStay legs (Put g) = StaysAs legs g (taken g)
+MayStay legs (Goes l) = (f : Fibre) (x : ℕ) → takes_of f x (find_leg l legs) ≡ false
+MayStay legs (Put g) = StaysAs legs g
 
 -- each in its turn
 abbrev pub MayAllStay : List Leg → List LegChange → Type 0

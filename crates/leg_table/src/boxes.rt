@@ -1,9 +1,10 @@
 //! Legs in boxes: where one comes or goes, a list of these moves the boxes behind it, and no leg.
 
 ghost use Rattle.std.specs.Prelude.{◌≡◌, IfOk};
+ghost use Rattle.std.specs.Option.{option_copied};
 ghost use Rattle.mesh_rules.specs.declared.changes.LegChange.TheVariants as changes;
 ghost use Rattle.mesh_rules.specs.Legs.{with_phase};
-ghost use Rattle.leg_table.specs.Edits.{change_of};
+ghost use Rattle.leg_table.specs.Edits.{change_of, leg_put};
 ghost use Rattle.leg_table.specs.Tables.{with_back_labels, with_labels};
 
 use ason_base::{Copied, Label, Leg, Lsp, OutOfMemory, Phase};
@@ -115,6 +116,16 @@ impl LegEdit {
         Ok(LegEdit {
             change: BoxedChange::Put(leg),
         })
+    }
+
+    /// The leg that is put; none where one goes.
+    pub fn leg(&self) -> Option<&Leg>
+        ensures { option_copied result ≡ leg_put self.now }
+    {
+        match &self.change {
+            BoxedChange::Goes(_) => None,
+            BoxedChange::Put(leg) => Some(leg.leg()),
+        }
     }
 
     pub fn into_change(self) -> BoxedChange

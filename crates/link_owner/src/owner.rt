@@ -104,10 +104,9 @@ impl Owner {
         self.fibres[place].hold(l, lsp)
     }
 
-    /// Takes the LSP's claim off.
+    /// Takes the LSP's claim off, if it has one.
     pub fn free(&mut self, f: Fibre, l: Label, lsp: Lsp)
-        requires comes_in { IsTrue (comes_in self.old.claims f) }
-        requires there { IsTrue (has_label self.old.claims f l lsp) }
+        requires { IsTrue (comes_in self.old.claims f) }
         ensures { self.new ≡ record self.old { claims = label_freed f l lsp self.old.claims } }
     {
         let place = self.place(f);

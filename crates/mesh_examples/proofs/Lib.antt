@@ -6,6 +6,7 @@ mod BackByReport
 mod BackupPartlyRepaired
 mod BareWithReports
 mod BothArmed
+mod BothWays
 mod BusyAtOnce
 mod ComesToRest
 pub mod Contended
@@ -43,3 +44,5 @@ mod TurnsAtOnce
 mod UnknownPrimary
 mod WaitEnds
 mod WaitOver
+mod WayBackRefused
+mod WayBackTaken

@@ -5,7 +5,9 @@ use Rattle.std.specs.Prelude.{◌&&◌, length, map, Option, Some, None}
 use Rattle.ason_base.specs.Network.{Network}
 use Rattle.ason_base.specs.declared.calls.CallState.{CallState}
 use Rattle.ason_base.specs.declared.calls.Cause.{Cause}
+use Rattle.ason_base.specs.declared.calls.LegRow.{LegRow}
 use Rattle.ason_base.specs.declared.calls.Phase.{Phase}
+use Rattle.ason_base.specs.declared.calls.Role.{Role}
 use Rattle.ason_base.specs.declared.commands.Command.TheVariants.{Fail, Protect, Release, Repair, Retry, Revert, Setup}
 use Rattle.ason_base.specs.declared.commands.Group.TheVariants.{Link, Srlg}
 use Rattle.ason_base.specs.declared.ids.CallNo.{CallNo}
@@ -64,6 +66,11 @@ sets_up k from to via backup = Post (Setup (call k) (node from) (node to) true f
 -- an unprotected call between two nodes, over this route
 abbrev pub sets_up_alone : ℕ → ℕ → ℕ → List Step → MeshEvent
 sets_up_alone k from to via = Post (Setup (call k) (node from) (node to) false false (Some via) None)
+
+-- a two-way call between two nodes, over this route, protected or not
+abbrev pub sets_up_both : ℕ → ℕ → ℕ → Bool → List Step → Option (List Step) → MeshEvent
+sets_up_both k from to protected via backup =
+    Post (Setup (call k) (node from) (node to) protected true (Some via) backup)
 
 abbrev pub protects : ℕ → ℕ → MeshEvent
 protects k from = Post (Protect (call k) (node from))
@@ -177,6 +184,22 @@ seen t s = record {
   known = map (λ n. length (known_rows (local_node t n.id) (s.nodes n.id.0))) t.nodes;
   down = map (λ n. length (s.nodes n.id.0).down) t.nodes;
   mail = map (λ l. (length (s.mail l.low.0 l.high.0), length (s.mail l.high.0 l.low.0))) t.links;
+}
+
+-- the row of a leg at a node: by which link and label it comes in, and goes out, and its labels for the way back
+abbrev pub row : Lsp → Role → ℕ → Phase → Option LinkId → Option ℕ → Option LinkId → Option ℕ → Option ℕ → Option ℕ →
+    LegRow
+row l role n phase in_link in_label out_link out_label back_in back_out = record {
+  lsp = l;
+  node = node n;
+  role = role;
+  phase = phase;
+  in_link = in_link;
+  in_label = in_label;
+  out_link = out_link;
+  out_label = out_label;
+  back_in = back_in;
+  back_out = back_out;
 }
 
 -- a call that waits, after so many ticks

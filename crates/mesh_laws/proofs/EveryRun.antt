@@ -8,23 +8,24 @@ use Rattle.mesh_laws.specs.Laws.{EveryRunKeepsTheLaws, LawsHold}
 use Rattle.mesh_laws.proofs.alone.Law.{every_activation_admitted}
 use Rattle.mesh_laws.proofs.alone.Runs.{run-first}
 use Rattle.mesh_laws.proofs.contends.Law.{no_contend}
+use Rattle.mesh_laws.proofs.crossing.Law.{no_backups_cross}
 use Rattle.mesh_laws.proofs.hops.Beside.{every_backup_beside}
 use Rattle.mesh_laws.proofs.hops.Joined.{every_call_joined}
 use Rattle.mesh_laws.proofs.hops.Laws.{every_hop}
 use Rattle.mesh_laws.proofs.hops.NodeLabels.{every_leg_keeps}
 use Rattle.mesh_laws.proofs.hops.Recorded.{every_backup_records}
 use Rattle.mesh_laws.proofs.hops.ReportedFibres.{every_report_of_route}
-use Rattle.mesh_laws.proofs.hops.Safe.{every_run_safe}
 use Rattle.mesh_laws.proofs.hops.Wavelengths.{every_call_keeps}
 use Rattle.mesh_laws.proofs.reports.Desks.{every_desk_tells}
 use Rattle.mesh_laws.proofs.reports.Laws.{every_report_tells}
 use Rattle.mesh_laws.proofs.nodes.CallsStand.{every_call_stands, every_call_stands_until_released}
 use Rattle.mesh_laws.proofs.hops.Ordered.{every_known, every_ordered, every_tidy}
-use Rattle.mesh_laws.proofs.nodes.Laws.{every_call, every_label, every_learnt_row, every_live}
+use Rattle.mesh_laws.proofs.nodes.Laws.{every_back, every_call, every_label, every_learnt_row, every_live}
 use Rattle.mesh_laws.proofs.surveyed.Calm.{calm_shown}
 use Rattle.mesh_laws.proofs.surveyed.Law.{every_contend_listed}
 use Rattle.mesh_laws.proofs.rest.Rests.{every_run_ends, every_run_rests}
 use Rattle.mesh_laws.proofs.restoration.Law.{every_hit_call}
+use Rattle.mesh_laws.proofs.safe.Law.{every_run_safe}
 use Rattle.mesh_laws.proofs.sent.Law.{every_list, every_sent}
 
 pub laws_hold : EveryRunKeepsTheLaws
@@ -33,8 +34,10 @@ laws_hold t events run =
     record {
       labels = every_label t events run;
       labelled = every_live t events run;
+      backs = every_back t events run;
       sent = every_sent t events run;
       heard = every_list t events run;
+      crossing = no_backups_cross t events run;
       kept = every_leg_keeps t events run;
       calls = every_call t events run;
       tidy = every_tidy t events run;

@@ -1,11 +1,13 @@
 pub mod EveryRun
 pub mod alone
 pub mod contends
+pub mod crossing
 pub mod hops
 pub mod kept
 pub mod nodes
 pub mod reports
 pub mod restoration
 pub mod rest
+pub mod safe
 pub mod sent
 pub mod surveyed

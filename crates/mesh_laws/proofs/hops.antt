@@ -8,6 +8,7 @@ pub mod Labels
 pub mod FollowedBy
 pub mod InParts
 pub mod GivenRoutes
+pub mod GoingUp
 pub mod GivenBackups
 pub mod LegKinds
 pub mod LegChanges
@@ -21,6 +22,8 @@ pub mod NoticeRule
 pub mod NodeLabels
 pub mod Wavelengths
 pub mod Notices
+pub mod Ways
+pub mod KnownSteps
 pub mod OrderedSteps
 pub mod Ordered
 pub mod OtherLsps
@@ -37,6 +40,7 @@ pub mod Taken
 pub mod TakenBackRule
 pub mod TearRule
 pub mod Views
+pub mod WayBack
 pub mod Paired
 pub mod Planned
 pub mod TakenSteps
@@ -58,5 +62,5 @@ pub mod Run
 pub mod Law
 pub mod NamedPhases
 pub mod Laws
-pub mod Safe
 pub mod Joined
+pub mod JoinedLegs

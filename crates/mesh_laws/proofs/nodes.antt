@@ -1,5 +1,6 @@
 pub mod ActivationKeeps
 pub mod AnswerKeeps
+pub mod BackLabels
 pub mod BackedCalls
 pub mod CallKeeps
 pub mod CallParts
@@ -11,7 +12,9 @@ pub mod CallSteps
 pub mod CallsHold
 pub mod SetupsHold
 pub mod CallsStand
+pub mod ChosenLabels
 pub mod ClosedLegs
+pub mod ConnectedLegs
 pub mod Decides
 pub mod Facts
 pub mod Laws

@@ -12,8 +12,8 @@ pub mod LegsHear
 pub mod May
 pub mod MessagesHear
 pub mod PathsHear
-pub mod Plain
 pub mod Run
+pub mod SendsOver
 pub mod Sound
 pub mod Standing
 pub mod Steps

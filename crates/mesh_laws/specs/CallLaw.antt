@@ -20,7 +20,7 @@ use Rattle.ason_base.specs.Network.{Network}
 use Rattle.mesh_rules.specs.declared.events.MeshEvent.{MeshEvent}
 use Rattle.mesh_rules.specs.Calls.{is_bare, is_turned, names}
 use Rattle.mesh_rules.specs.Legs.{find_leg, is_closing, leg_of}
-use Rattle.mesh_rules.specs.Pairs.{beside_lsp}
+use Rattle.mesh_rules.specs.Pairs.{beside_lsp, is_two_way}
 use Rattle.mesh_rules.specs.State.{NodeState}
 use Rattle.mesh_rules.specs.Turns.{has_any}
 use Rattle.mesh_rules.specs.Machine.{start}
@@ -77,6 +77,9 @@ pub record FitsLegs (n : ℕ) (next : ℕ) (legs : List Leg) (c : CallRec) : Typ
   -- the backup's Path names the working LSP
   pub guards : (w b : Lsp) (g : Leg) → c.work ≡ Some w → c.back ≡ Some b → find_leg b legs ≡ Some g →
       GuardsWork w b g.path_role
+  -- and the backup is two-way just where the working LSP is
+  pub ways : (w b : Lsp) (g h : Leg) → c.work ≡ Some w → c.back ≡ Some b → find_leg w legs ≡ Some g →
+      find_leg b legs ≡ Some h → is_two_way h ≡ is_two_way g
   pub reports : IsTrue (fits_reports c.state (has_any c.work_reports) (has_any c.back_reports))
 
 -- The legs of a call

@@ -38,7 +38,7 @@ pub record IsHitBy (t : Network) (s : Mesh) (g : Group) (c : CallRec) : Type 0 w
   pub leads : leg.out_fibre ≡ Some fibre
   pub on_link : IsTrue (is_on_link t g fibre.link)
 
--- The call's backup has the label of this fibre, which comes in at this node.
+-- The call's backup takes the label of this fibre, which comes in at this node, on its way there or back.
 pub record TakesLabel (s : Mesh) (c : CallRec) (n : NodeId) (f : Fibre) (x : ℕ) : Type 0 where
   pub back : Lsp
   pub named : c.back ≡ Some back

@@ -15,11 +15,11 @@ use Rattle.ason_base.specs.Lsps.{same_lsp}
 use Rattle.ason_base.specs.Network.{Network, find_link, other_end}
 use Rattle.mesh_rules.specs.declared.events.MeshEvent.{MeshEvent}
 use Rattle.mesh_rules.specs.LocalNodes.{fibre_in, fibre_out}
-use Rattle.mesh_rules.specs.Legs.{find_leg, is_beyond_asked, reserved}
+use Rattle.mesh_rules.specs.Legs.{find_leg, is_beyond_asked, is_closing, reserved}
 use Rattle.ason_base.specs.Routes.{makes_route}
 use Rattle.mesh_rules.specs.Machine.{Mesh, start}
 use Rattle.mesh_rules.specs.Events.{IsRun, after, route_of}
-use Rattle.mesh_laws.specs.HopShapes.{Shape, leg_kind, msg_kind}
+use Rattle.mesh_laws.specs.HopShapes.{HasLetGo, IsTorn, Removal, Shape, leg_kind, msg_kind, phase_kind}
 
 -- The legs and messages of one LSP
 
@@ -69,6 +69,15 @@ EachLabel Q (PathTear l e k ∷ ms) = EachLabel Q ms
 EachLabel Q (PathErr l e at gone code ∷ ms) = EachLabel Q ms
 EachLabel Q (Notify l e at k code ∷ ms) = EachLabel Q ms
 
+-- the label for the way back of each Path among these messages
+abbrev pub EachUpstream : (Option ℕ → Type 0) → List Msg → Type 0
+EachUpstream Q [] = Unit {0}
+EachUpstream Q (Path l e k route set up r ∷ ms) = Q up × EachUpstream Q ms
+EachUpstream Q (Resv l e k x ∷ ms) = EachUpstream Q ms
+EachUpstream Q (PathTear l e k ∷ ms) = EachUpstream Q ms
+EachUpstream Q (PathErr l e at gone code ∷ ms) = EachUpstream Q ms
+EachUpstream Q (Notify l e at k code ∷ ms) = EachUpstream Q ms
+
 -- the legs of an LSP of this role at two neighbours, and its messages between them, have a shape of the table
 abbrev pub HasShape : Mesh → Role → Lsp → NodeId → NodeId → Type 0
 HasShape s r l u d =
@@ -90,6 +99,14 @@ pub record HopFits (s : Mesh) (r : Role) (l : Lsp) (link : LinkSpec) (u d : Node
   -- while d is beyond Asked, a Resv on its way up has d's label in, and u sent that label on
   pub answers : (g h : Leg) → leg_at s l u ≡ Some g → leg_at s l d ≡ Some h → IsTrue (is_beyond_asked h.phase) →
       EachLabel (λ x. (h.in_label ≡ Some x) × IsTrue (has g.sent x)) (mail_between s l d u)
+  -- until d is torn, its back label out is u's back label in; both have none where the LSP is one-way
+  pub back : (g h : Leg) → leg_at s l u ≡ Some g → leg_at s l d ≡ Some h → is_closing h.phase ≡ false →
+      h.back_out ≡ g.back_in
+  -- a Path on its way down has u's back label in as its label for the way back
+  pub upstream : (g : Leg) → leg_at s l u ≡ Some g → EachUpstream (λ up. up ≡ g.back_in) (mail_between s l u d)
+  -- where u is torn with a label out and d has let go, the message that says so is on its way up
+  pub confirmed : (g : Leg) (x : ℕ) → leg_at s l u ≡ Some g → IsTorn r (phase_kind g.phase) → g.out_label ≡ Some x →
+      HasLetGo r (leg_kind (leg_at s l d)) → Contains (map msg_kind (mail_between s l d u)) Removal
 
 -- The hop of one step of a route: its link is there, and the LSP's legs and messages at its ends fit.
 pub record StepFits (t : Network) (s : Mesh) (r : Role) (l : Lsp) (hop : Step) : Type 0 where

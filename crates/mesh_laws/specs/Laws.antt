@@ -14,7 +14,8 @@ use Rattle.mesh_laws.specs.HeardLaw.{ListsAreLawful}
 use Rattle.mesh_laws.specs.HopLaw.{HasOneLegEach, LspFits}
 use Rattle.mesh_laws.specs.JoinedLaw.{CallsAreJoined}
 use Rattle.mesh_laws.specs.KnownLaw.{KnownFibresComeIn}
-use Rattle.mesh_laws.specs.LabelLaw.{LabelsAreShared, LegsKeepLabels, LiveLegsAreLabelled, SentLabelsAreShared}
+use Rattle.mesh_laws.specs.LabelLaw.{LabelsAreShared, LegsHaveBackLabels, LegsKeepLabels, LiveLegsAreLabelled}
+use Rattle.mesh_laws.specs.LabelLaw.{NoneCross, SentLabelsAreShared}
 use Rattle.mesh_laws.specs.LearntLaw.{LearntRowsAreTrue}
 use Rattle.mesh_laws.specs.OrderLaw.{CallsAreOrdered}
 use Rattle.mesh_laws.specs.ReportLaw.{DesksTell, ReportsAreOfRoutes, ReportsTell}
@@ -32,10 +33,14 @@ pub record LawsHold (t : Network) (events : List MeshEvent) : Type 0 where
   -- most one backup that uses it is activated; a Live leg has its labels; and each call fits its legs and its reports
   pub labels : (n : ℕ) → LabelsAreShared ((after t start events).nodes n).legs
   pub labelled : (n : ℕ) → LiveLegsAreLabelled ((after t start events).nodes n).legs
+  -- the leg of a two-way LSP has a label for each fibre of the way back, as long as it isn't torn, and another leg none
+  pub backs : (n : ℕ) → LegsHaveBackLabels ((after t start events).nodes n).legs
   -- a label that is sent on a fibre is one LSP's, or backups' whose primaries have over a topology no risk in common
   pub sent : (n : ℕ) → SentLabelsAreShared t ((after t start events).nodes n).legs
   -- and so is one that is about to be sent, at each cut of the list of messages that give it
   pub heard : ListsAreLawful t events
+  -- of two backups that cross on a link with one label at most one is activated
+  pub crossing : NoneCross (after t start events)
   -- a leg at a node that doesn't convert has one label, and its label in is one of its link's
   pub kept : (n : NodeId) → LegsKeepLabels t n ((after t start events).nodes n.0).legs
   pub calls : (n : ℕ) → CallsFit n ((after t start events).nodes n)

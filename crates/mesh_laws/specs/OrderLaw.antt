@@ -6,30 +6,41 @@ use Rattle.ason_base.specs.declared.ids.Lsp.{Lsp}
 use Rattle.ason_base.specs.declared.ids.NodeId.{NodeId}
 use Rattle.ason_base.specs.declared.steps.Step.{Step}
 use Rattle.ason_base.specs.declared.tables.CallRec.{CallRec}
+use Rattle.ason_base.specs.declared.tables.Leg.{Leg}
 use Rattle.ason_base.specs.Network.{Network}
 use Rattle.mesh_rules.specs.declared.events.MeshEvent.{MeshEvent}
 use Rattle.mesh_rules.specs.declared.events.MeshEvent.TheVariants.{Post}
 use Rattle.mesh_rules.specs.Machine.{start}
 use Rattle.mesh_rules.specs.Events.{IsRun, after, route_of}
+use Rattle.mesh_rules.specs.Legs.{find_leg}
+use Rattle.mesh_rules.specs.Pairs.{is_two_way}
+use Rattle.mesh_rules.specs.State.{NodeState}
 
 -- the command is posted in one of these events
 abbrev pub WasPosted : Command → List MeshEvent → Type 0
 WasPosted c [] = ⊥
 WasPosted c (e ∷ events) = (e ≡ Post c) ⊎ WasPosted c events
 
--- the call at node n is that of a setup from there: of its number, to its egress, protected where it says so, with the
--- backup route that it gives; and where it gives a route its working LSP was sent on it. o: the route of each LSP.
-pub record IsOrdered (o : Lsp → Option (List Step)) (events : List MeshEvent) (n : ℕ) (c : CallRec) : Type 0 where
+-- the call at node n is that of a setup from there: of its number, to its egress, protected where it says so, with
+-- the backup route that it gives; where it gives a route its working LSP was sent on it; and its working LSP is
+-- two-way just where it says so. o: the route of each LSP; legs: those of the node.
+pub record IsOrdered (o : Lsp → Option (List Step)) (events : List MeshEvent) (n : ℕ) (legs : List Leg)
+    (c : CallRec) : Type 0 where
   pub from : NodeId
   pub both : Bool
   pub via : Option (List Step)
   pub here : from.0 ≡ n
   pub posted : WasPosted (Setup c.call from c.egress c.protected both via c.backup) events
   pub over : (l : Lsp) (route : List Step) → c.work ≡ Some l → via ≡ Some route → o l ≡ Some route
+  pub ways : (l : Lsp) (g : Leg) → c.work ≡ Some l → find_leg l legs ≡ Some g → is_two_way g ≡ both
+
+-- at node n, which keeps s
+abbrev pub AreOrdered : Network → List MeshEvent → ℕ → NodeState → Type 0
+AreOrdered t events n s = All (IsOrdered (route_of t start events) events n s.legs) s.calls
 
 abbrev pub CallsAreOrdered : Network → List MeshEvent → Type 0
 CallsAreOrdered t events =
-    (n : ℕ) → All (IsOrdered (route_of t start events) events n) ((after t start events).nodes n).calls
+    (n : ℕ) → AreOrdered t events n ((after t start events).nodes n)
 
 -- over every network and every run, at each node
 abbrev pub EveryCallIsOrdered : Type 0

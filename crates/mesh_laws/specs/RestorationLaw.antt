@@ -20,11 +20,11 @@ use Rattle.mesh_rules.specs.Machine.{start}
 use Rattle.mesh_rules.specs.Quiet.{IsQuiet}
 use Rattle.mesh_rules.specs.State.{NodeState}
 use Rattle.mesh_laws.specs.AloneLaw.{Alone}
-use Rattle.mesh_laws.specs.JoinedLaw.{IsJoined, IsLive}
+use Rattle.mesh_laws.specs.JoinedLaw.{IsJoinedFor, IsLive}
 
 -- What is hit
 
--- the fibres of the link are physically down, where these groups have failed
+-- both fibres of the link are physically down, where these groups have failed
 abbrev pub is_link_cut : List Group → Option LinkSpec → Bool
 is_link_cut failed None = false
 is_link_cut failed (Some l) = is_cut failed l
@@ -54,10 +54,11 @@ abbrev pub carrier : CallRec → Option Lsp
 carrier c = if is_turned c.state then c.back else c.work
 
 -- A call is restored: where its working LSP is hit it turned to its backup. Hit or not, the LSP that carries it is
--- cross-connected from end to end, and none of its fibres is physically down.
+-- cross-connected from end to end, both ways where the call is two-way, and none of its fibres is physically down,
+-- there or back.
 pub record IsRestored (t : Network) (events : List MeshEvent) (c : CallRec) : Type 0 where
   pub turned : IsTrue (is_hit t events c.work) → c.state ≡ Turned
-  pub joined : IsJoined t events IsLive c.egress (carrier c)
+  pub joined : IsJoinedFor t events IsLive c (carrier c)
   pub up : is_hit t events (carrier c) ≡ false
 
 -- Where since a calm state one group alone failed, each desk is empty and no message is under way, each call that is

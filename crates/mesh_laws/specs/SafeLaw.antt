@@ -1,5 +1,5 @@
 -- In every state of every run no wavelength of a fibre is cross-connected for two LSPs.
-use Rattle.std.specs.Prelude.{◌≡◌, ◌⊎◌, ℕ, List, Option, Some, None}
+use Rattle.std.specs.Prelude.{◌≡◌, ◌⊎◌, ℕ, List, Option, Some, None, IsTrue}
 use Rattle.std.specs.List.{Contains}
 use Rattle.ason_base.specs.declared.ids.Fibre.{Fibre}
 use Rattle.ason_base.specs.declared.ids.NodeId.{NodeId}
@@ -7,6 +7,7 @@ use Rattle.ason_base.specs.declared.calls.Phase.TheVariants.{Live}
 use Rattle.ason_base.specs.declared.tables.Leg.{Leg}
 use Rattle.ason_base.specs.Network.{Network, receiver_of, sender_of}
 use Rattle.mesh_rules.specs.declared.events.MeshEvent.{MeshEvent}
+use Rattle.mesh_rules.specs.Legs.{sends, takes}
 use Rattle.mesh_rules.specs.Machine.{Mesh, start}
 use Rattle.mesh_rules.specs.Events.{IsRun, after}
 
@@ -15,13 +16,12 @@ abbrev pub StandsAt : Mesh → Option NodeId → Leg → Type 0
 StandsAt s None g = ⊥
 StandsAt s (Some n) g = Contains (s.nodes n.0).legs g
 
--- A Live leg has this label of this fibre: as its label in at the node into which the fibre leads, or as its label out
--- at the node from which it leads.
+-- A Live leg has this label of this fibre: it takes it at the node into which the fibre leads, or sends it at the node
+-- from which it leads, on the way there or on the way back.
 pub record Connects (t : Network) (s : Mesh) (f : Fibre) (x : ℕ) (g : Leg) : Type 0 where
   pub live : g.phase ≡ Live
   pub at_an_end :
-      (StandsAt s (receiver_of t f) g × (g.in_fibre ≡ Some f) × (g.in_label ≡ Some x)) ⊎
-      (StandsAt s (sender_of t f) g × (g.out_fibre ≡ Some f) × (g.out_label ≡ Some x))
+      (StandsAt s (receiver_of t f) g × IsTrue (takes f x g)) ⊎ (StandsAt s (sender_of t f) g × IsTrue (sends f x g))
 
 -- all that is connected for one label of one fibre is of one LSP
 abbrev pub IsSafe : Network → Mesh → Type 0

@@ -1,6 +1,6 @@
 -- Of the rows of a table: which calls the failure of each risk group would hit, and which two calls would contend for a
 -- label if two groups failed (shared risk link groups: RFC 4202, section 2.3).
-use Rattle.std.specs.Prelude.{◌==◌, ◌&&◌, ◌++◌, ℕ, nat_lt, Bool, true, false, not, List, [], ◌∷◌, map, filter, flat_map, Option, Some, None, if◌then◌else◌}
+use Rattle.std.specs.Prelude.{◌==◌, ◌&&◌, ◌||◌, ◌++◌, ℕ, nat_lt, Bool, true, false, not, List, [], ◌∷◌, map, filter, flat_map, Option, Some, None, if◌then◌else◌}
 use Rattle.std.specs.List.{list_any}
 use Rattle.ason_base.specs.InOrder.{in_order}
 use Rattle.ason_base.specs.Lsps.{is_lsp}
@@ -49,11 +49,18 @@ abbrev pub is_guarded_row : List LegRow → CallRow → Bool
 is_guarded_row legs c =
     list_any (λ r. is_lsp c.back r.lsp && (r.node.0 == c.ingress.0 && is_beyond_asked r.phase)) legs
 
--- its backup has this label of the fibre that comes in over this link at this node
+-- this label of this link
+abbrev pub is_link_label : Option LinkId → Option ℕ → LinkId → ℕ → Bool
+is_link_label link label k x = is_link link k && is_label label x
+
+-- the leg takes this label of the fibre that comes in over this link at its node: as its label in where it comes in
+-- over the link, as its back label in where it goes out over it
+abbrev pub row_takes : LinkId → ℕ → LegRow → Bool
+row_takes k x r = is_link_label r.in_link r.in_label k x || is_link_label r.out_link r.back_in k x
+
+-- its backup takes this label of the fibre that comes in over this link at this node
 abbrev pub takes_at : List LegRow → NodeId → LinkId → ℕ → CallRow → Bool
-takes_at legs n k x c =
-    list_any (λ r. is_lsp c.back r.lsp
-    && (r.node.0 == n.0 && (is_beyond_asked r.phase && (is_link r.in_link k && is_label r.in_label x)))) legs
+takes_at legs n k x c = list_any (λ r. is_lsp c.back r.lsp && (r.node.0 == n.0 && row_takes k x r)) legs
 
 -- What a group hits
 
@@ -101,14 +108,21 @@ on_label t calls legs g h l forward x =
     (filter (may_turn_to t legs h (end_of l forward) l.id x) calls))
     (filter (may_turn_to t legs g (end_of l forward) l.id x) calls)
 
-abbrev pub label_in : Option ℕ → List ℕ
-label_in None = []
-label_in (Some x) = x ∷ []
+abbrev pub listed : Option ℕ → List ℕ
+listed None = []
+listed (Some x) = x ∷ []
+
+-- the label, if there is one and it is of this link
+abbrev pub link_label : LinkId → Option LinkId → Option ℕ → List ℕ
+link_label k link label = if is_link link k then listed label else []
+
+-- the labels that the leg takes of the fibre that comes in over this link at its node
+abbrev pub row_labels : LinkId → LegRow → List ℕ
+row_labels k r = link_label k r.in_link r.in_label ++ link_label k r.out_link r.back_in
 
 -- the labels that rows show of this fibre, rising
 abbrev pub labels_at : List LegRow → NodeId → LinkId → List ℕ
-labels_at legs n k =
-    in_order nat_lt (flat_map (λ r. if r.node.0 == n.0 && is_link r.in_link k then label_in r.in_label else []) legs)
+labels_at legs n k = in_order nat_lt (flat_map (λ r. if r.node.0 == n.0 then row_labels k r else []) legs)
 
 -- on each label of a fibre, rising
 abbrev pub over_fibre : Network → List CallRow → List LegRow → Group → Group → LinkSpec → Bool → List Contend

@@ -8,7 +8,7 @@ ghost use Rattle.mesh_laws.specs.HeardLaw.{EveryListIsLawful};
 ghost use Rattle.mesh_laws.specs.HopLaw.{EveryHopHasAShape};
 ghost use Rattle.mesh_laws.specs.JoinedLaw.{EveryCallIsJoined};
 ghost use Rattle.mesh_laws.specs.KnownLaw.{EveryKnownFibreComesIn};
-ghost use Rattle.mesh_laws.specs.LabelLaw.{EveryLabelIsShared, EveryLegKeepsLabels, EveryLiveLegIsLabelled, EverySentLabelIsShared};
+ghost use Rattle.mesh_laws.specs.LabelLaw.{EveryLabelIsShared, EveryLegHasBackLabels, EveryLegKeepsLabels, EveryLiveLegIsLabelled, EverySentLabelIsShared, NoBackupsCross};
 ghost use Rattle.mesh_laws.specs.Laws.{EveryRunKeepsTheLaws};
 ghost use Rattle.mesh_laws.specs.LearntLaw.{EveryLearntRowIsTrue, EveryNodeCanSearch};
 ghost use Rattle.mesh_laws.specs.NodeLaw.{EveryNodeSharesLawfully};
@@ -27,38 +27,47 @@ ghost use Rattle.mesh_laws.specs.WavelengthLaw.{EveryCallKeepsItsWavelengths};
 /// Labels, at each node. A label of a fibre is taken by one leg alone, or by backups whose
 /// primaries have no risk in common, at most one of them Armed, Live or Falling (`labels`); a Live
 /// leg has a label in exactly where it has a fibre in, and a label out exactly where it has a fibre
-/// out (`labelled`); a leg with a label in and a label out has one label where the node doesn't
+/// out (`labelled`). The leg of a two-way LSP has a back label in exactly where it has a fibre out,
+/// and until it is torn a back label out exactly where it has a fibre in; that of a one-way LSP has
+/// neither (`backs`). A leg with a label in and a label out has one label where the node doesn't
 /// convert, and its label in is one of the labels of its fibre's link (`kept`). A label is sent on a
 /// fibre by one leg alone, or by backups whose primaries, over a topology, have no risk in common;
 /// torn legs count too (`sent`). At each cut of the list of messages from the fibre's other end, two
 /// LSPs that may send one label once what comes before the cut has been taken are such backups, and
-/// a message that a leg will ignore counts too (`heard`).
+/// a message that a leg will ignore counts too (`heard`). Of two backups that go over one link in
+/// opposite directions, a label of one of its fibres being of both, at most one is Armed or Live at
+/// the node to which its Path comes over the link (`crossing`).
 ///
 /// Calls, at each node. The state of each call that begins there fits its legs, each of which is of
-/// one call, and its reports (`calls`). A cause is kept in blocked, bare and stuck alone; ticks are
-/// counted in turned alone, while no fibre of the working LSP is reported down; a protected call
-/// that is bare has a cause (`tidy`). The call is that of a posted setup from there, of its number,
-/// to its egress, protected where the setup says so and with the backup route that it gives; where
-/// the setup gives a route, its working LSP was sent on that (`ordered`). Over each event that is
-/// enabled, a call that is neither asking nor blocked stands with its number, its egress and its
-/// working LSP, and with its backup where it is guarded, turning, turned or stuck, which it is then
-/// after the event too, unless the event carries out its release (`stand`); so it does over any
-/// events with which the run goes on, none of which carries out its release (`until`). Each fibre
-/// that is reported of an LSP of a call is of the LSP's route (`reported`), and each fibre that a
-/// node knows to be down comes in there (`known`).
+/// one call, and its reports, and its backup is two-way just where its working LSP is (`calls`). A
+/// cause is kept in blocked, bare and stuck alone; ticks are counted in turned alone, while no
+/// fibre of the working LSP is reported down; a protected call that is bare has a cause (`tidy`).
+/// The call is that of a posted setup from there, of its number, to its egress, protected where the
+/// setup says so and with the backup route that it gives; where the setup gives a route, its
+/// working LSP was sent on that; and its working LSP is two-way just where the setup says so
+/// (`ordered`). Over each event that is enabled, a call that is neither asking nor blocked stands
+/// with its number, its egress and its working LSP, and with its backup where it is guarded,
+/// turning, turned or stuck, which it is then after the event too, unless the event carries out its
+/// release (`stand`); so it does over any events with which the run goes on, none of which carries
+/// out its release (`until`). Each fibre that is reported of an LSP of a call is of the LSP's route
+/// (`reported`), and each fibre that a node knows to be down comes in there (`known`).
 ///
 /// LSPs. Each hop of each LSP, its legs at both ends with the messages between them, has a shape of
-/// the table, and each leg names the end of its LSP's route as its egress; Notifies go up these
-/// hops alone, and each names the node that it comes from or one beyond it (`hops`). No label of a
-/// fibre is cross-connected for two LSPs (`safe`). Each call that is neither asking nor blocked is
-/// joined: its working LSP is Live at each node of its route, each label out being the next node's
-/// label in; the backup of a guarded or a stuck call is joined so, Held at each node, or still Live
-/// where the call went back and the Path that takes the activation back hasn't come; that of a
-/// turned call is joined Live at each node, and that of a turning call Held, Armed or Live
-/// (`joined`). Along the routes of these LSPs the wavelength changes at converting nodes alone, and
-/// is on each link one of those of the link (`wavelengths`). The route of each backup leads from
-/// end to end, has no risk in common with that of the working LSP which its call has, or had, and
-/// shares no node with it between the ends (`beside`).
+/// the table, and each leg names the end of its LSP's route as its egress; the back label out of a
+/// leg that isn't torn is the back label in of the one before it, which the Paths on their way to
+/// it bear; where a leg is torn with a label out and the next node has let go, the message that
+/// says so is on its way; Notifies go up these hops alone, and each names the node that it comes
+/// from or one beyond it (`hops`). No label of a fibre is cross-connected for two LSPs, on their
+/// way there or back (`safe`). Each call that is neither asking nor blocked is joined: its working
+/// LSP is Live at each node of its route, each label out being the next node's label in; the backup
+/// of a guarded or a stuck call is joined so, Held at each node, or still Live where the call went
+/// back and the Path that takes the activation back hasn't come; that of a turned call is joined
+/// Live at each node, and that of a turning call Held, Armed or Live. These LSPs of a two-way call
+/// have a back label in at each node but the egress, which is the next node's back label out, and
+/// those of a one-way call have none (`joined`). Along the routes of these LSPs the wavelength
+/// changes at converting nodes alone, and is on each link one of those of the link (`wavelengths`).
+/// The route of each backup leads from end to end, has no risk in common with that of the working
+/// LSP which its call has, or had, and shares no node with it between the ends (`beside`).
 ///
 /// Links. What a node learnt of them are rows of the network (`learnt`); over a topology routes can
 /// be asked of what it knows (`searchable`). Over a topology the leg of a backup, at any node,
@@ -76,7 +85,7 @@ ghost use Rattle.mesh_laws.specs.WavelengthLaw.{EveryCallKeepsItsWavelengths};
 /// empty, each call is restored whose ingress has its backup Held, Armed or Live: where a fibre of
 /// its working LSP is physically down it turned to its backup, and the LSP that carries it, the
 /// backup where it turned and else the working LSP, is joined, Live at each node of its route, and
-/// none of its fibres is physically down (`restored`).
+/// none of its fibres is physically down, there or back (`restored`).
 ///
 /// Rest, over a topology. Of the events of a run that take a message or handle an item of a desk
 /// there are at most so many for each post and each tick (`rests`). So after a run only so many can
@@ -90,8 +99,10 @@ ghost use Rattle.mesh_laws.specs.WavelengthLaw.{EveryCallKeepsItsWavelengths};
 pub fn every_run()
     ensures labels { EveryLabelIsShared }
     ensures labelled { EveryLiveLegIsLabelled }
+    ensures backs { EveryLegHasBackLabels }
     ensures sent { EverySentLabelIsShared }
     ensures heard { EveryListIsLawful }
+    ensures crossing { NoBackupsCross }
     ensures kept { EveryLegKeepsLabels }
     ensures calls { EveryCallFitsItsLegs }
     ensures tidy { EveryCallIsTidy }

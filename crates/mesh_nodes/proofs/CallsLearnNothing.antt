@@ -5,10 +5,11 @@ use Rattle.ason_base.specs.Codes.{busy_code}
 use Rattle.ason_base.specs.Risks.{unknown_link}
 use Rattle.ason_base.specs.declared.calls.CallState.{CallState}
 use Rattle.ason_base.specs.declared.calls.CallState.TheVariants.{Asking, Bare, Blocked, Guarded, Pairing, Stuck, Turned, Turning}
-use Rattle.ason_base.specs.declared.calls.Cause.TheVariants.{Code, Full, Spent}
+use Rattle.ason_base.specs.declared.calls.Cause.TheVariants.{Code}
 use Rattle.ason_base.specs.declared.ids.Fibre.{Fibre}
 use Rattle.ason_base.specs.declared.ids.Lsp.{Lsp}
 use Rattle.ason_base.specs.declared.codes.ErrCode.{ErrCode}
+use Rattle.ason_base.specs.declared.messages.PathRole.TheVariants.{Work}
 use Rattle.ason_base.specs.declared.ids.NodeId.{NodeId}
 use Rattle.ason_base.specs.declared.network.LinkSpec.{LinkSpec}
 use Rattle.ason_base.specs.declared.steps.Step.{Step}
@@ -19,17 +20,17 @@ use Rattle.mesh_rules.specs.declared.limits.TheConstants.{LAST_NUMBER}
 use Rattle.mesh_rules.specs.CallSteps.{call_answered, call_contended, call_refused, call_turned}
 use Rattle.mesh_rules.specs.Calls.{guarded, is_asking, is_bare, is_pairing, is_stuck, is_turned, is_turning, stuck, turned}
 use Rattle.mesh_rules.specs.Changes.{Answer, changes_calls, followed_by, nothing}
-use Rattle.mesh_rules.specs.FirstLegs.{first_link, is_full}
+use Rattle.mesh_rules.specs.FirstLegs.{first_link, is_full, lacks_first_back}
 use Rattle.mesh_rules.specs.KnownRows.{known_rows}
 use Rattle.mesh_rules.specs.LeastRoutes.{Trip, least_trip}
 use Rattle.mesh_rules.specs.Legs.{is_contended, is_held, is_in_use, is_work, leg_of}
 use Rattle.mesh_rules.specs.LocalNodes.{LocalNode}
-use Rattle.mesh_rules.specs.Pairs.{backup_route, over_backup, pair, pair_over, route_from}
+use Rattle.mesh_rules.specs.Pairs.{backup_route, guarding, is_two_way, over_backup, pair, pair_over, route_from}
 use Rattle.mesh_rules.specs.Protects.{protect_with, protects}
 use Rattle.mesh_rules.specs.Releases.{release_with, releases, tears}
 use Rattle.mesh_rules.specs.Reports.{call_reported, with_report}
 use Rattle.mesh_rules.specs.Retries.{retries, retry_with}
-use Rattle.mesh_rules.specs.Setups.{SetupRequest, admitted_setup, begins, is_order_here, is_spent, new_call, over_first, over_found, refused_setup, setup_with}
+use Rattle.mesh_rules.specs.Setups.{SetupRequest, admitted_setup, is_order_here, is_spent, new_call, over_first, over_found, setup_with}
 use Rattle.mesh_rules.specs.State.{NodeState}
 use Rattle.mesh_rules.specs.Turns.{decide, decided, go_back, has_any, turn}
 use Rattle.mesh_nodes.proofs.Cases.{if_cases}
@@ -91,7 +92,9 @@ pair-none p s c w =
     over route None = (refl, refl)
     over route (Some out) =
         if_cases LearnsNothing (nat_lt LAST_NUMBER s.lsp) _ _ (λ e. (refl, refl))
-        (λ e. if_cases LearnsNothing (is_full s) _ _ (λ e. (refl, refl)) (λ e. (refl, refl)))
+        (λ e. if_cases LearnsNothing (is_full s) _ _ (λ e. (refl, refl))
+        (λ e. if_cases LearnsNothing (lacks_first_back p s (is_two_way w) (guarding p w) out) _ _ (λ e. (refl, refl))
+        (λ e. (refl, refl))))
 
     along : (o : Option (List Step)) → LearnsNothing (pair_over p s c w o)
     along None = (refl, refl)
@@ -135,9 +138,10 @@ call_reported-none s l down f (Some c) = decide-none s.legs (with_report c l dow
 admitted_setup-none : (p : LocalNode) (s : NodeState) (w : SetupRequest) (out : LinkSpec) (route : List Step) →
     LearnsNothing (admitted_setup p s w out route)
 admitted_setup-none p s w out route =
-    either-one (is_spent s) (refused_setup w Spent)
-    (cond (is_full s) (refused_setup w Full) (begins p s w out route)) (refl, refl)
-    (either-one (is_full s) (refused_setup w Full) (begins p s w out route) (refl, refl) (refl, refl))
+    if_cases LearnsNothing (is_spent s) _ _ (λ e. (refl, refl))
+    (λ e. if_cases LearnsNothing (is_full s) _ _ (λ e. (refl, refl))
+    (λ e. if_cases LearnsNothing (lacks_first_back p s w.both (Work w.protected) out) _ _ (λ e. (refl, refl))
+    (λ e. (refl, refl))))
 
 over_first-none : (p : LocalNode) (s : NodeState) (w : SetupRequest) (route : List Step) (o : Option LinkSpec) →
     LearnsNothing (over_first p s w route o)

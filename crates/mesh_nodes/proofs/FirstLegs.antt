@@ -53,7 +53,6 @@ module _ (p : LocalNode) (s : NodeState) (legs : List Leg) (W : Type 0) (place :
     in_label = λ beyond. absurd (cc beyond);
     out_label = λ beyond. absurd (cc beyond);
     bare = λ e. refl;
-    one_way = refl;
     number = λ e. after.number;
     leaves = λ e. begins.away;
     short = λ e. begins.short;

@@ -2,7 +2,9 @@
 use Rattle.std.proofs.Common.{◌≡◌, ◌≤◌, ◌<◌, ◌+◌, ℕ, Bool, true, false, cond, not, nat_eq, List, [], ◌∷◌, ◌++◌, length, refl, ap, ◌∙◌, arith}
 use Rattle.std.specs.Prelude.{◌&&◌, Option, Some, None, IfSome}
 use Rattle.ason_base.specs.declared.calls.Cause.{Cause}
-use Rattle.ason_base.specs.declared.calls.Cause.TheVariants.{NoRoute, Spent, Full, Unset}
+use Rattle.ason_base.specs.Codes.{label_code}
+use Rattle.ason_base.specs.declared.calls.Cause.TheVariants.{Code, NoRoute, Spent, Full, Unset}
+use Rattle.ason_base.specs.declared.messages.PathRole.TheVariants.{Work}
 use Rattle.ason_base.specs.declared.calls.CallState.TheVariants.{Asking}
 use Rattle.ason_base.specs.declared.commands.Command.TheVariants.{Setup, Release, Protect, Retry, Revert, Fail, Repair}
 use Rattle.ason_base.specs.declared.commands.DeskItem.TheVariants.{Order, Alarm, Clear}
@@ -20,7 +22,7 @@ use Rattle.mesh_rules.specs.declared.limits.TheConstants.{MOST_LEGS}
 use Rattle.mesh_rules.specs.declared.neighbours.Neighbour.{Neighbour}
 use Rattle.mesh_rules.specs.Calls.{find_call, is_bare, without_call}
 use Rattle.mesh_rules.specs.Changes.{changes_calls, followed_by, nothing}
-use Rattle.mesh_rules.specs.FirstLegs.{first_link, is_full}
+use Rattle.mesh_rules.specs.FirstLegs.{first_link, is_full, lacks_first_back}
 use Rattle.mesh_rules.specs.KnownRows.{known_rows}
 use Rattle.mesh_rules.specs.LeastRoutes.{Trip, least_trip}
 use Rattle.mesh_rules.specs.Legs.{closed, find_leg, following, leg_of, with_leg}
@@ -88,7 +90,9 @@ module _ (p : LocalNode) (s : NodeState) (w : SetupRequest) (W : Type 0) (place 
   admitted-fits hop out route first =
       if_cases (AnswerFits p s W) (is_spent s) _ _ (λ e. refused-fits Spent)
       (λ e. if_cases (AnswerFits p s W) (is_full s) _ _ (λ f. refused-fits Full)
-      (λ f. begins-fits hop out route first (below (length s.legs) f)))
+      (λ f. if_cases (AnswerFits p s W) (lacks_first_back p s w.both (Work w.protected) out) _ _
+      (λ h. refused-fits (Code label_code))
+      (λ h. begins-fits hop out route first (below (length s.legs) f))))
 
   over-fits : (hop : Step) (route : List Step) (o : Option LinkSpec) → first_link p (hop ∷ route) ≡ o →
       AnswerFits p s W (over_first p s w (hop ∷ route) o)
@@ -116,7 +120,7 @@ setup-fits p s w W None place fits =
     (λ e.
     let to_other = both_right (nat_eq w.from.0 p.id.0) _ e in
     let rest = both_right (not (nat_eq w.egress.0 p.id.0)) _ to_other in
-    new_call-fits p s w W place fits (not-true _ (both_left _ _ to_other)) (both_right (not w.both) _ rest) w.via)
+    new_call-fits p s w W place fits (not-true _ (both_left _ _ to_other)) rest w.via)
     (λ e. nothing-fits p s W fits)
 
 -- Release

@@ -79,7 +79,6 @@ later-fits p a b g le fits = record {
   in_label = fits.in_label;
   out_label = fits.out_label;
   bare = fits.bare;
-  one_way = fits.one_way;
   number = λ e. let small : g.lsp.lsp < a = fits.number e in omega arith;
   leaves = fits.leaves;
   short = fits.short;
@@ -145,7 +144,6 @@ closed-fits p next g fits = record {
   in_label = λ beyond. let torn = closed-phase g.phase g.role in absurd (cc (beyond, torn));
   out_label = λ beyond. let torn = closed-phase g.phase g.role in absurd (cc (beyond, torn));
   bare = λ e. refl;
-  one_way = fits.one_way;
   number = fits.number;
   leaves = fits.leaves;
   short = fits.short;
@@ -172,7 +170,6 @@ connected-fits p next g label x fits labelled out = record {
   in_label = λ beyond. labelled;
   out_label = λ beyond. sym out;
   bare = λ e. absurd (let beyond = reserved-beyond g.role in cc (beyond, e));
-  one_way = fits.one_way;
   number = fits.number;
   leaves = fits.leaves;
   short = fits.short;
@@ -194,7 +191,6 @@ phase-fits p next f g fits beyond later = record {
   in_label = λ e. fits.in_label beyond;
   out_label = λ e. fits.out_label beyond;
   bare = λ e. absurd (cc (later, e));
-  one_way = fits.one_way;
   number = fits.number;
   leaves = fits.leaves;
   short = fits.short;

@@ -1,5 +1,5 @@
 -- Labels at their fibres, and the labels that a leg takes.
-use Rattle.std.proofs.Common.{◌≡◌, ◌∙◌, ℕ, Bool, true, false, nat_eq, refl, ap, arith, inl, inr}
+use Rattle.std.proofs.Common.{◌≡◌, ℕ, Bool, true, false, nat_eq, refl, ap, arith, inl, inr}
 use Rattle.std.specs.Prelude.{◌⊎◌, ◌&&◌, ◌||◌, Option, Some, None}
 use Rattle.ason_base.specs.declared.ids.Fibre.{Fibre}
 use Rattle.ason_base.specs.declared.tables.Leg.{Leg}
@@ -78,13 +78,8 @@ pub label_in-taken : (g : Leg) (f : Fibre) (x : ℕ) → is_at g.in_fibre g.in_l
 label_in-taken g f x e =
     or-first (is_at g.in_fibre g.in_label f x) (is_at (reverse_of g.out_fibre) g.back_in f x) e
 
--- and no other, where it has none for the way back
-pub one_way-takes : (g : Leg) (f : Fibre) (x : ℕ) → g.back_in ≡ None → takes f x g ≡ is_at g.in_fibre g.in_label f x
-one_way-takes g f x none =
-    ap (λ y. is_at g.in_fibre g.in_label f x || is_at (reverse_of g.out_fibre) y f x) none
-    ∙ ap (λ b. is_at g.in_fibre g.in_label f x || b) (none-at (reverse_of g.out_fibre) f x)
-    ∙ go (is_at g.in_fibre g.in_label f x)
-  where
-    go : (b : Bool) → (b || false) ≡ b
-    go true = refl
-    go false = refl
+-- it takes its back label in
+pub back_in-taken : (g : Leg) (f : Fibre) (x : ℕ) → is_at (reverse_of g.out_fibre) g.back_in f x ≡ true →
+    takes f x g ≡ true
+back_in-taken g f x e =
+    or-second (is_at g.in_fibre g.in_label f x) (is_at (reverse_of g.out_fibre) g.back_in f x) e

@@ -36,7 +36,7 @@ use Rattle.mesh_rules.specs.Messages.{arrival, on_message}
 use Rattle.mesh_rules.specs.Notifies.{Notice, notice_passed, notice_told, notify_with}
 use Rattle.mesh_rules.specs.Orders.{on_item, on_order}
 use Rattle.mesh_rules.specs.PathErrs.{PathFailure, err_passed, path_err_with, removed}
-use Rattle.mesh_rules.specs.Paths.{PathRequest, admitted, at_egress, checks, first_failure, first_path, in_transit, is_active, judged, path_with}
+use Rattle.mesh_rules.specs.Paths.{PathRequest, admitted, at_egress, checks, first_failure, first_path, in_transit, is_active, judged, offered_labels, path_with, risks_here}
 use Rattle.mesh_rules.specs.Pairs.{route_from}
 use Rattle.mesh_rules.specs.Reports.{fibre_into, reported, reported_on}
 use Rattle.mesh_rules.specs.Resvs.{answered, is_expected, labels_left, passed_back, resv_with}
@@ -54,21 +54,21 @@ at_egress-none : (p : LocalNode) (m : PathRequest) (link : LinkSpec) (risks : Li
 at_egress-none p m link risks offered None = (refl, refl)
 at_egress-none p m link risks offered (Some x) = (refl, refl)
 
-in_transit-none : (p : LocalNode) (m : PathRequest) (link : LinkSpec) (risks : List Risk) (route : List Step)
-    (offered : List ℕ) (o : Option LinkSpec) → LearnsNothing (in_transit p m link risks route offered o)
-in_transit-none p m link risks route offered None = (refl, refl)
-in_transit-none p m link risks route offered (Some out) = (refl, refl)
+in_transit-none : (p : LocalNode) (s : NodeState) (m : PathRequest) (link : LinkSpec) (route : List Step)
+    (o : Option LinkSpec) → LearnsNothing (in_transit p s m link route o)
+in_transit-none p s m link route None = (refl, refl)
+in_transit-none p s m link route (Some out) = (refl, refl)
 
-admitted-none : (p : LocalNode) (m : PathRequest) (link : LinkSpec) (risks : List Risk) (offered : List ℕ)
-    (route : List Step) → LearnsNothing (admitted p m link risks offered route)
-admitted-none p m link risks offered [] = at_egress-none p m link risks offered (least offered)
-admitted-none p m link risks offered (hop ∷ route) =
-    in_transit-none p m link risks route offered (own_link p hop.link)
+admitted-none : (p : LocalNode) (s : NodeState) (m : PathRequest) (link : LinkSpec) (route : List Step) →
+    LearnsNothing (admitted p s m link route)
+admitted-none p s m link [] =
+    at_egress-none p m link (risks_here p s m) (offered_labels p s m link) (least (offered_labels p s m link))
+admitted-none p s m link (hop ∷ route) = in_transit-none p s m link route (own_link p hop.link)
 
 judged-none : (p : LocalNode) (s : NodeState) (m : PathRequest) (link : LinkSpec) (o : Option ErrCode) →
     LearnsNothing (judged p s m link o)
 judged-none p s m link (Some code) = (refl, refl)
-judged-none p s m link None = admitted-none p m link _ _ m.route
+judged-none p s m link None = admitted-none p s m link m.route
 
 first_path-none : (p : LocalNode) (s : NodeState) (m : PathRequest) (o : Option LinkSpec) →
     LearnsNothing (first_path p s m o)
@@ -214,7 +214,8 @@ clear-none p s f =
 
 message-none : (p : LocalNode) (s : NodeState) (u : NodeId) (m : Msg) → LearnsNothing (on_message p s u m)
 message-none p s u (Path l e k route set up r) =
-    path-none p s (record { arrival = arrival l e u k; route = route; set = set; role = r }) (find_leg l s.legs)
+    path-none p s (record { arrival = arrival l e u k; route = route; set = set; upstream = up; role = r })
+    (find_leg l s.legs)
 message-none p s u (Resv l e k x) = resv-none p s (arrival l e u k) x (find_leg l s.legs)
 message-none p s u (PathTear l e k) = tear-none p (arrival l e u k) (find_leg l s.legs)
 message-none p s u (PathErr l e at gone code) =

@@ -216,6 +216,7 @@ messages-fit p s u (Path l e k route set up r) place fits =
           arrival l e u k;
       route = route;
       set = set;
+      upstream = up;
       role = r;
     }) (CanBePassedOn (Path l e k route set up r)) (λ w. w) place fits
 messages-fit p s u (Resv l e k x) place fits =

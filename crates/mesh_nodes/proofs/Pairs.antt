@@ -4,7 +4,8 @@ use Rattle.std.specs.Prelude.{Option, Some, None, is_some}
 use Rattle.ason_base.specs.Risks.{unknown_link}
 use Rattle.ason_base.specs.Writable.{IsWritableRole}
 use Rattle.ason_base.specs.declared.calls.Cause.{Cause}
-use Rattle.ason_base.specs.declared.calls.Cause.TheVariants.{Full, NoBackup, Spent}
+use Rattle.ason_base.specs.Codes.{label_code}
+use Rattle.ason_base.specs.declared.calls.Cause.TheVariants.{Code, Full, NoBackup, Spent}
 use Rattle.ason_base.specs.declared.ids.Fibre.{Fibre}
 use Rattle.ason_base.specs.declared.ids.NodeId.{NodeId}
 use Rattle.ason_base.specs.declared.messages.PathRole.TheVariants.{Back}
@@ -14,10 +15,10 @@ use Rattle.ason_base.specs.declared.tables.CallRec.{CallRec}
 use Rattle.ason_base.specs.declared.tables.Leg.{Leg}
 use Rattle.mesh_rules.specs.declared.limits.TheConstants.{LAST_NUMBER, MOST_LEGS, MOST_LINKS_OF_ROUTE}
 use Rattle.mesh_rules.specs.Calls.{pairing, unbacked}
-use Rattle.mesh_rules.specs.FirstLegs.{first_link, is_full}
+use Rattle.mesh_rules.specs.FirstLegs.{first_link, is_full, lacks_first_back}
 use Rattle.mesh_rules.specs.KnownRows.{known_rows}
 use Rattle.mesh_rules.specs.LocalNodes.{LocalNode}
-use Rattle.mesh_rules.specs.Pairs.{admitted_backup, backup_lsp, backup_route, begins_backup, beside_lsp, leaves_bare, over_backup, over_fibre, pair, pair_over, route_from}
+use Rattle.mesh_rules.specs.Pairs.{guarding, is_two_way, admitted_backup, backup_lsp, backup_route, begins_backup, beside_lsp, leaves_bare, over_backup, over_fibre, pair, pair_over, route_from}
 use Rattle.mesh_rules.specs.State.{NodeState}
 use Rattle.mesh_nodes.specs.Kept.{CallFits, LegFits, NodeFits}
 use Rattle.mesh_nodes.specs.LocalNodes.{LocalNodeFits}
@@ -85,7 +86,9 @@ module _ (p : LocalNode) (s : NodeState) (legs : List Leg) (c : CallRec) (w : Le
   admitted-fits hop route out found =
       if_cases (AnswerFits p (record s { legs = legs }) W) (nat_lt LAST_NUMBER s.lsp) _ _ (λ e. bare-fits Spent)
       (λ e. if_cases (AnswerFits p (record s { legs = legs }) W) (is_full s) _ _ (λ f. bare-fits Full)
-      (λ f. begins-fits hop route out found (below (length s.legs) f)))
+      (λ f. if_cases (AnswerFits p (record s { legs = legs }) W)
+      (lacks_first_back p s (is_two_way w) (guarding p w) out) _ _ (λ h. bare-fits (Code label_code))
+      (λ h. begins-fits hop route out found (below (length s.legs) f))))
 
   over-fits : (route : List Step) (o : Option LinkSpec) → first_link p route ≡ o →
       AnswerFits p (record s { legs = legs }) W (over_backup p s c w route o)

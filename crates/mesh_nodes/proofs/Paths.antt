@@ -14,7 +14,7 @@ use Rattle.ason_base.specs.declared.steps.Step.{Step}
 use Rattle.mesh_rules.specs.declared.limits.TheConstants.{MOST_LEGS, MOST_LINKS_OF_ROUTE}
 use Rattle.mesh_rules.specs.Changes.{nothing}
 use Rattle.mesh_rules.specs.Legs.{is_work}
-use Rattle.mesh_rules.specs.Paths.{PathRequest, admitted, at_egress, checks, egress_leg, first_failure, first_path, in_transit, is_active, is_for_work, is_none, is_primary_unknown, judged, leads_on, offered_labels, risks_here, role_of, set_on, transit_leg}
+use Rattle.mesh_rules.specs.Paths.{PathRequest, admitted, at_egress, back_label, checks, egress_leg, first_failure, first_path, in_transit, is_active, is_for_work, is_none, is_primary_unknown, judged, lacks_back, leads_on, link_on, offered_labels, risks_here, role_of, set_on, transit_leg}
 use Rattle.mesh_rules.specs.LocalNodes.{LocalNode, fibre_in, is_link_there, leads, own_link}
 use Rattle.mesh_rules.specs.State.{NodeState}
 use Rattle.mesh_rules.specs.KnownRows.{known_rows}
@@ -79,7 +79,6 @@ module _ (p : LocalNode) (s : NodeState) (m : PathRequest) (link : LinkSpec) (W 
     in_label = λ beyond. refl;
     out_label = λ beyond. refl;
     bare = λ e. absurd (let beyond = reserved-beyond (role_of m.role) in cc (beyond, e));
-    one_way = refl;
     number = away m.arrival.lsp.ingress.0 p.id.0 (m.arrival.lsp.lsp < s.lsp) far;
     leaves = away m.arrival.lsp.ingress.0 p.id.0 (nat_eq m.arrival.egress.0 p.id.0 ≡ false) far;
     short = λ e. omega arith;
@@ -96,10 +95,11 @@ module _ (p : LocalNode) (s : NodeState) (m : PathRequest) (link : LinkSpec) (W 
       go true = some_labels out.labels labelled
       go false = some_offered offered some
 
-  transit-leg-fits : (risks : List Risk) (k : LinkId) (out : LinkSpec) (route : List Step) (offered : List ℕ) →
+  transit-leg-fits : (risks : List Risk) (k : LinkId) (out : LinkSpec) (route : List Step) (offered : List ℕ)
+      (back : Option ℕ) →
       own_link p k ≡ Some out → nat_eq m.arrival.egress.0 p.id.0 ≡ false → is_none (least offered) ≡ false →
-      LegFits p s.lsp (transit_leg p m link risks out route offered)
-  transit-leg-fits risks k out route offered found on some = record {
+      LegFits p s.lsp (transit_leg p m link risks out route offered back)
+  transit-leg-fits risks k out route offered back found on some = record {
     prev = rw far refl;
     in_fibre = refl;
     next_node = rw on refl;
@@ -110,7 +110,6 @@ module _ (p : LocalNode) (s : NodeState) (m : PathRequest) (link : LinkSpec) (W 
     in_label = λ beyond. absurd (cc beyond);
     out_label = λ beyond. absurd (cc beyond);
     bare = λ e. refl;
-    one_way = refl;
     number = away m.arrival.lsp.ingress.0 p.id.0 (m.arrival.lsp.lsp < s.lsp) far;
     leaves = λ e. on;
     short = away m.arrival.lsp.ingress.0 p.id.0 (length route < MOST_LINKS_OF_ROUTE) far;
@@ -135,33 +134,39 @@ module _ (p : LocalNode) (s : NodeState) (m : PathRequest) (link : LinkSpec) (W 
     few = omega arith;
   }
 
-  in_transit-fits : (risks : List Risk) (k : LinkId) (route : List Step) (offered : List ℕ) (o : Option LinkSpec) →
+  in_transit-fits : (k : LinkId) (route : List Step) (o : Option LinkSpec) →
       own_link p k ≡ o → length s.legs < MOST_LEGS → nat_eq m.arrival.egress.0 p.id.0 ≡ false →
-      is_none (least offered) ≡ false →
-      (W → (length route ≤ 64) × IsWritableRole m.role) → AnswerFits p s W (in_transit p m link risks route offered o)
-  in_transit-fits risks k route offered None found room on some short = nothing-fits p s W fits
-  in_transit-fits risks k route offered (Some out) found room on some short = record {
+      is_none (least (offered_labels p s m link)) ≡ false →
+      (W → (length route ≤ 64) × IsWritableRole m.role) → AnswerFits p s W (in_transit p s m link route o)
+  in_transit-fits k route None found room on some short = nothing-fits p s W fits
+  in_transit-fits k route (Some out) found room on some short = record {
     kept = record {
       legs =
-          legs-more p s.lsp s.lsp (transit_leg p m link risks out route offered) s.legs (omega arith) fits.legs room
-          (transit-leg-fits risks k out route offered found on some);
+          legs-more p s.lsp s.lsp
+          (transit_leg p m link (risks_here p s m) out route (offered_labels p s m link) (back_label p s m out)) s.legs
+          (omega arith) fits.legs room
+          (transit-leg-fits (risks_here p s m) k out route (offered_labels p s m link) (back_label p s m out) found on
+          some);
       calls = fits.calls;
       first = fits.first;
       numbers = fits.numbers;
     };
     near = (end-near p k out found, tt);
-    written = λ w. ((set-some out offered (own-is p k out place found).labelled some, (short w).0, (short w).1), tt);
+    written = λ w. (
+      (set-some out (offered_labels p s m link) (own-is p k out place found).labelled some, (short w).0, (short w).1),
+      tt,
+    );
     few = omega arith;
   }
 
-  admitted-fits : (risks : List Risk) (offered : List ℕ) (route : List Step) → leads_on p m.arrival route ≡ true →
-      length s.legs < MOST_LEGS →
-      is_none (least offered) ≡ false →
-      (W → (length route ≤ 64) × IsWritableRole m.role) → AnswerFits p s W (admitted p m link risks offered route)
-  admitted-fits risks offered [] on room some short =
-      at_egress-fits risks offered (least offered) room (flip p.id.0 m.arrival.egress.0 true on)
-  admitted-fits risks offered (hop ∷ route) on room some short =
-      in_transit-fits risks hop.link route offered (own_link p hop.link) refl room
+  admitted-fits : (route : List Step) → leads_on p m.arrival route ≡ true → length s.legs < MOST_LEGS →
+      is_none (least (offered_labels p s m link)) ≡ false →
+      (W → (length route ≤ 64) × IsWritableRole m.role) → AnswerFits p s W (admitted p s m link route)
+  admitted-fits [] on room some short =
+      at_egress-fits (risks_here p s m) (offered_labels p s m link) (least (offered_labels p s m link)) room
+      (flip p.id.0 m.arrival.egress.0 true on)
+  admitted-fits (hop ∷ route) on room some short =
+      in_transit-fits hop.link route (own_link p hop.link) refl room
       (flip p.id.0 m.arrival.egress.0 false (not-true (nat_eq p.id.0 m.arrival.egress.0)
       (both_left _ (nat_eq hop.node.0 p.id.0 && (not (nat_eq hop.link.0 m.arrival.link.0)
       && is_link_there (own_link p hop.link))) on)))
@@ -171,20 +176,21 @@ module _ (p : LocalNode) (s : NodeState) (m : PathRequest) (link : LinkSpec) (W 
       AnswerFits p s W (judged p s m link (first_failure (checks p s m link)))
   judged-fits short =
       go (nat_le MOST_LEGS (length s.legs)) (leads_on p m.arrival m.route) (is_primary_unknown (known_rows p s) m.role)
-      (has_fibre s.down (fibre_in link p.id)) (is_none (least (offered_labels p s m link))) refl refl refl refl refl
+      (has_fibre s.down (fibre_in link p.id)) (is_none (least (offered_labels p s m link)))
+      (lacks_back p s m (link_on p m.route)) refl refl refl refl refl refl
     where
-      go : (a b d k c : Bool) → nat_le MOST_LEGS (length s.legs) ≡ a → leads_on p m.arrival m.route ≡ b →
+      go : (a b d k c w : Bool) → nat_le MOST_LEGS (length s.legs) ≡ a → leads_on p m.arrival m.route ≡ b →
           is_primary_unknown (known_rows p s) m.role ≡ d → has_fibre s.down (fibre_in link p.id) ≡ k →
-          is_none (least (offered_labels p s m link)) ≡ c →
+          is_none (least (offered_labels p s m link)) ≡ c → lacks_back p s m (link_on p m.route) ≡ w →
           AnswerFits p s W (judged p s m link (first_failure (checks p s m link)))
-      go true b d k c e f h i g = rw e (refused-fits _)
-      go false false d k c e f h i g = rw (e, f) (refused-fits _)
-      go false true true k c e f h i g = rw (e, f, h) (refused-fits _)
-      go false true false true c e f h i g = rw (e, f, h, i) (refused-fits _)
-      go false true false false true e f h i g = rw (e, f, h, i, g) (refused-fits _)
-      go false true false false false e f h i g =
-          rw (e, f, h, i, g)
-          (admitted-fits (risks_here p s m) (offered_labels p s m link) m.route f (below (length s.legs) e) g short)
+      go true b d k c w e f h i g j = rw e (refused-fits _)
+      go false false d k c w e f h i g j = rw (e, f) (refused-fits _)
+      go false true true k c w e f h i g j = rw (e, f, h) (refused-fits _)
+      go false true false true c w e f h i g j = rw (e, f, h, i) (refused-fits _)
+      go false true false false true w e f h i g j = rw (e, f, h, i, g) (refused-fits _)
+      go false true false false false true e f h i g j = rw (e, f, h, i, g, j) (refused-fits _)
+      go false true false false false false e f h i g j =
+          rw (e, f, h, i, g, j) (admitted-fits m.route f (below (length s.legs) e) g short)
 
 pub first-fits : (p : LocalNode) (s : NodeState) (m : PathRequest) (W : Type 0) (o : Option LinkSpec) →
     own_link p m.arrival.link ≡ o →

@@ -29,9 +29,8 @@ pub record LegFits (p : LocalNode) (next : ℕ) (g : Leg) : Type 0 where
   -- beyond Asked a label in where there is a fibre in, and a label out where there is a fibre out
   pub in_label : IsTrue (is_beyond_asked g.phase) → is_some g.in_label ≡ is_some g.in_fibre
   pub out_label : IsTrue (is_beyond_asked g.phase) → is_some g.out_label ≡ is_some g.out_fibre
-  -- a leg that isn't beyond Asked has no label in, and none has one for the way back
+  -- a leg that isn't beyond Asked has no label in
   pub bare : is_beyond_asked g.phase ≡ false → g.in_label ≡ None
-  pub one_way : g.back_in ≡ None
   -- an LSP that begins here has a number that was given out, ends elsewhere, and goes on over at most 62 links
   pub number : g.lsp.ingress.0 ≡ p.id.0 → g.lsp.lsp < next
   pub leaves : g.lsp.ingress.0 ≡ p.id.0 → g.egress.0 == p.id.0 ≡ false

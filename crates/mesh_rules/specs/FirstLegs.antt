@@ -1,7 +1,7 @@
 -- An LSP at the node where it begins: its leg, and the Path that asks for it (RFC 2205, section 3.1.3). p is the node; s
 -- is what it keeps.
-use Rattle.std.specs.Prelude.{◌==◌, ◌&&◌, nat_lt, nat_le, Bool, List, [], ◌∷◌, length, Option, Some, None, if◌then◌else◌}
-use Rattle.ason_base.specs.Labels.{up_to}
+use Rattle.std.specs.Prelude.{◌==◌, ◌&&◌, nat_lt, nat_le, Bool, true, false, ℕ, List, [], ◌∷◌, length, Option, Some, None, if◌then◌else◌}
+use Rattle.ason_base.specs.Labels.{least, up_to}
 use Rattle.ason_base.specs.declared.ids.Lsp.{Lsp}
 use Rattle.ason_base.specs.declared.ids.NodeId.{NodeId}
 use Rattle.ason_base.specs.declared.steps.Step.{Step}
@@ -22,15 +22,18 @@ use Rattle.mesh_rules.specs.State.{NodeState}
 use Rattle.mesh_rules.specs.Changes.{Answer, nothing, to_node}
 use Rattle.mesh_rules.specs.KnownRows.{known_rows}
 use Rattle.mesh_rules.specs.LocalNodes.{LocalNode, own_link, fibre_out}
-use Rattle.mesh_rules.specs.Paths.{recorded, role_of}
+use Rattle.mesh_rules.specs.Legs.{reverse, usable}
+use Rattle.mesh_rules.specs.Paths.{is_none, recorded, role_of}
 
--- an LSP that is asked for: over which link it leaves, over which steps it goes on from there, and for what
+-- an LSP that is asked for: over which link it leaves, over which steps it goes on from there, for what, and of a
+-- two-way LSP the label on which it comes back over that link
 pub record NewLsp : Type 0 where
   pub lsp : Lsp
   pub egress : NodeId
   pub out : LinkSpec
   pub route : List Step
   pub role : PathRole
+  pub back : Option ℕ
 
 -- its leg here; a backup's records the risks of its primary
 abbrev pub first_leg : LocalNode → List TeRow → NewLsp → Leg
@@ -50,14 +53,24 @@ first_leg p rows n = record {
   phase = Asked;
   in_label = None;
   out_label = None;
-  back_in = None;
+  back_in = n.back;
   back_out = None;
 }
 
--- a Path with every label of the first link
+-- a two-way LSP comes back over its first link on the least label that is usable for it there (RFC 3473, section 3)
+abbrev pub first_back : LocalNode → NodeState → Bool → PathRole → LinkSpec → Option ℕ
+first_back p s false r out = None
+first_back p s true r out =
+    least (usable p s.legs (role_of r) (recorded (known_rows p s) r) (reverse (fibre_out out p.id)))
+
+-- it is to be two-way, and there is no such label
+abbrev pub lacks_first_back : LocalNode → NodeState → Bool → PathRole → LinkSpec → Bool
+lacks_first_back p s both r out = both && is_none (first_back p s both r out)
+
+-- a Path with every label of the first link, and for the way back the leg's back label in
 abbrev pub first_path : LocalNode → NewLsp → Out
 first_path p n =
-    to_node (other_end n.out p.id) (Path n.lsp n.egress n.out.id n.route (up_to n.out.labels) None n.role)
+    to_node (other_end n.out p.id) (Path n.lsp n.egress n.out.id n.route (up_to n.out.labels) n.back n.role)
 
 -- the LSP is asked for: a leg and a Path; its call is put in place, and these numbers are given out next
 abbrev pub asks_for : LocalNode → NodeState → NewLsp → CallRec → NextNumbers → Answer

@@ -20,7 +20,7 @@ arrival l e u k = record { lsp = l; egress = e; from = u; link = k }
 
 abbrev pub on_message : LocalNode → NodeState → NodeId → Msg → Answer
 on_message p s u (Path l e k route set up r) =
-    on_path p s (record { arrival = arrival l e u k; route = route; set = set; role = r })
+    on_path p s (record { arrival = arrival l e u k; route = route; set = set; upstream = up; role = r })
 on_message p s u (Resv l e k x) = on_resv p s (arrival l e u k) x
 on_message p s u (PathTear l e k) = on_tear p s (arrival l e u k)
 on_message p s u (PathErr l e at gone code) =

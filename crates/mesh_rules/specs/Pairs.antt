@@ -1,15 +1,17 @@
 -- A backup LSP is asked for beside a call's working LSP, which stands (RFC 4872, section 8). p is the node; s is what it
 -- keeps; w is the leg of the working LSP, which begins here.
-use Rattle.std.specs.Prelude.{ℕ, ◌+◌, nat_lt, false, List, [], ◌∷◌, drop, Option, Some, None, is_some, if◌then◌else◌}
+use Rattle.std.specs.Prelude.{ℕ, ◌+◌, nat_lt, Bool, false, List, [], ◌∷◌, drop, Option, Some, None, is_some, if◌then◌else◌}
 use Rattle.ason_base.specs.Risks.{unknown_link}
 use Rattle.ason_base.specs.declared.ids.Fibre.{Fibre}
 use Rattle.ason_base.specs.declared.ids.Lsp.{Lsp}
 use Rattle.ason_base.specs.declared.ids.NodeId.{NodeId}
 use Rattle.ason_base.specs.declared.steps.Step.{Step}
 use Rattle.ason_base.specs.declared.network.LinkSpec.{LinkSpec}
+use Rattle.ason_base.specs.declared.messages.PathRole.{PathRole}
 use Rattle.ason_base.specs.declared.messages.PathRole.TheVariants.{Back}
 use Rattle.ason_base.specs.declared.calls.Cause.{Cause}
-use Rattle.ason_base.specs.declared.calls.Cause.TheVariants.{Full, NoBackup, Spent}
+use Rattle.ason_base.specs.Codes.{label_code}
+use Rattle.ason_base.specs.declared.calls.Cause.TheVariants.{Code, Full, NoBackup, Spent}
 use Rattle.ason_base.specs.declared.tables.CallRec.{CallRec}
 use Rattle.ason_base.specs.declared.tables.Leg.{Leg}
 use Rattle.mesh_rules.specs.declared.limits.TheConstants.{LAST_NUMBER}
@@ -17,7 +19,7 @@ use Rattle.mesh_rules.specs.declared.changes.CallChange.TheVariants as call
 use Rattle.mesh_rules.specs.State.{NodeState}
 use Rattle.mesh_rules.specs.Changes.{Answer, changes_calls}
 use Rattle.mesh_rules.specs.Calls.{pairing, unbacked}
-use Rattle.mesh_rules.specs.FirstLegs.{NewLsp, asks_for, first_link, is_full}
+use Rattle.mesh_rules.specs.FirstLegs.{NewLsp, asks_for, first_back, first_link, is_full, lacks_first_back}
 use Rattle.mesh_rules.specs.KnownRows.{known_rows}
 use Rattle.mesh_rules.specs.LeastRoutes.{Trip, least_backup}
 use Rattle.mesh_rules.specs.LocalNodes.{LocalNode}
@@ -51,14 +53,23 @@ leaves_bare c cause = changes_calls (call.Put (unbacked c cause) ∷ [])
 abbrev pub beside_lsp : Lsp → ℕ → Lsp
 beside_lsp w n = record { ingress = w.ingress; tunnel = w.tunnel; lsp = n }
 
--- the backup LSP: its Path names the working LSP and bears that one's route
+-- a leg that begins here is two-way where it has a back label in
+abbrev pub is_two_way : Leg → Bool
+is_two_way w = is_some w.back_in
+
+-- the role of a backup's Path: it names the working LSP and bears that one's route
+abbrev pub guarding : LocalNode → Leg → PathRole
+guarding p w = Back false w.lsp.lsp (route_from p w)
+
+-- the backup LSP, two-way where the working LSP is
 abbrev pub backup_lsp : LocalNode → NodeState → Leg → LinkSpec → List Step → NewLsp
 backup_lsp p s w out route = record {
   lsp = beside_lsp w.lsp s.lsp;
   egress = w.egress;
   out = out;
   route = route;
-  role = Back false w.lsp.lsp (route_from p w);
+  role = guarding p w;
+  back = first_back p s (is_two_way w) (guarding p w) out;
 }
 
 abbrev pub begins_backup : LocalNode → NodeState → CallRec → Leg → LinkSpec → List Step → Answer
@@ -69,7 +80,9 @@ begins_backup p s c w out route =
 abbrev pub admitted_backup : LocalNode → NodeState → CallRec → Leg → LinkSpec → List Step → Answer
 admitted_backup p s c w out route =
     if nat_lt LAST_NUMBER s.lsp then leaves_bare c Spent
-    else (if is_full s then leaves_bare c Full else begins_backup p s c w out route)
+    else (if is_full s then leaves_bare c Full
+    else (if lacks_first_back p s (is_two_way w) (guarding p w) out then leaves_bare c (Code label_code)
+    else begins_backup p s c w out route))
 
 abbrev pub over_backup : LocalNode → NodeState → CallRec → Leg → List Step → Option LinkSpec → Answer
 over_backup p s c w route None = leaves_bare c NoBackup

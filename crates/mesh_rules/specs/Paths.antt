@@ -1,6 +1,6 @@
 -- A Path where no leg of its LSP stands (RFC 2205, section 3.1.3; RFC 3473, section 2).
 use Rattle.std.specs.Prelude.{ℕ, ◌==◌, ◌&&◌, nat_le, Bool, true, false, not, List, [], ◌∷◌, length, drop, Option, Some, None, is_some, if◌then◌else◌}
-use Rattle.ason_base.specs.Codes.{down_code, full_code, route_code, primary_code, set_code}
+use Rattle.ason_base.specs.Codes.{down_code, full_code, label_code, route_code, primary_code, set_code}
 use Rattle.ason_base.specs.Labels.{up_to, meet, least}
 use Rattle.ason_base.specs.Lsps.{has_fibre}
 use Rattle.ason_base.specs.Risks.{route_risks, unknown_link}
@@ -26,7 +26,7 @@ use Rattle.mesh_rules.specs.KnownRows.{known_rows}
 use Rattle.mesh_rules.specs.Changes.{Answer, nothing, sends, puts, to_node}
 use Rattle.ason_base.specs.Network.{other_end}
 use Rattle.mesh_rules.specs.LocalNodes.{LocalNode, own_link, is_link_there, leads, fibre_in, fibre_out}
-use Rattle.mesh_rules.specs.Legs.{find_leg, reserved, usable}
+use Rattle.mesh_rules.specs.Legs.{find_leg, label_through, reserved, reverse, usable}
 
 -- what a Path asks for: of which LSP and from where it came, over which steps from here, with which labels, and for
 -- what
@@ -34,6 +34,8 @@ pub record PathRequest : Type 0 where
   pub arrival : Arrival
   pub route : List Step
   pub set : List ℕ
+  -- of a two-way LSP the label on which the sender receives (RFC 3473, section 3)
+  pub upstream : Option ℕ
   pub role : PathRole
 
 -- The role of a Path
@@ -78,9 +80,29 @@ leads_on p a (hop ∷ route) =
 abbrev pub offered_labels : LocalNode → NodeState → PathRequest → LinkSpec → List ℕ
 offered_labels p s m link = meet m.set (usable p s.legs (role_of m.role) (risks_here p s m) (fibre_in link p.id))
 
+-- of the labels that are usable on the fibre from the next node, the one that the node takes for the way back of a
+-- two-way LSP: the label that came, or at a node that converts the least
+abbrev pub back_through : LocalNode → List ℕ → Option ℕ → Option ℕ
+back_through p labels None = None
+back_through p labels (Some x) = label_through p labels x
+
+abbrev pub back_label : LocalNode → NodeState → PathRequest → LinkSpec → Option ℕ
+back_label p s m out =
+    back_through p (usable p s.legs (role_of m.role) (risks_here p s m) (reverse (fibre_out out p.id))) m.upstream
+
 abbrev pub is_none : Option ℕ → Bool
 is_none None = true
 is_none (Some x) = false
+
+-- a way back is asked for, and there is no label for it
+abbrev pub lacks_back : LocalNode → NodeState → PathRequest → Option LinkSpec → Bool
+lacks_back p s m None = false
+lacks_back p s m (Some out) = is_some m.upstream && is_none (back_label p s m out)
+
+-- the link of the route's first step
+abbrev pub link_on : LocalNode → List Step → Option LinkSpec
+link_on p [] = None
+link_on p (hop ∷ route) = own_link p hop.link
 
 -- one reason to refuse a Path
 pub record Check : Type 0 where
@@ -93,7 +115,8 @@ first_failure [] = None
 first_failure (c ∷ checks) = if c.fails then Some c.code else first_failure checks
 
 -- in this order: the node keeps all the legs that it can; the route doesn't lead on from here; a link of the primary's
--- route isn't known; the fibre that the Path came by is known to be down; no label that was offered is usable
+-- route isn't known; the fibre that the Path came by is known to be down; no label that was offered is usable; none is
+-- usable for the way back
 abbrev pub checks : LocalNode → NodeState → PathRequest → LinkSpec → List Check
 checks p s m link =
     record { fails = nat_le MOST_LEGS (length s.legs); code = full_code }
@@ -101,6 +124,7 @@ checks p s m link =
     ∷ record { fails = is_primary_unknown (known_rows p s) m.role; code = primary_code }
     ∷ record { fails = has_fibre s.down (fibre_in link p.id); code = down_code }
     ∷ record { fails = is_none (least (offered_labels p s m link)); code = set_code }
+    ∷ record { fails = lacks_back p s m (link_on p m.route); code = label_code }
     ∷ []
 
 -- a PathErr of this node with Path_State_Removed (RFC 3473, section 4.4)
@@ -128,7 +152,7 @@ asked_leg p m link risks offered = record {
   in_label = None;
   out_label = None;
   back_in = None;
-  back_out = None;
+  back_out = m.upstream;
 }
 
 abbrev pub egress_leg : LocalNode → PathRequest → LinkSpec → List Risk → List ℕ → ℕ → Leg
@@ -139,12 +163,13 @@ egress_leg p m link risks offered x =
 abbrev pub set_on : LocalNode → LinkSpec → List ℕ → List ℕ
 set_on p out offered = if p.convert then up_to out.labels else offered
 
-abbrev pub transit_leg : LocalNode → PathRequest → LinkSpec → List Risk → LinkSpec → List Step → List ℕ → Leg
-transit_leg p m link risks out route offered = record (asked_leg p m link risks offered) {
+abbrev pub transit_leg : LocalNode → PathRequest → LinkSpec → List Risk → LinkSpec → List Step → List ℕ → Option ℕ → Leg
+transit_leg p m link risks out route offered back = record (asked_leg p m link risks offered) {
   next = Some (other_end out p.id);
   out_fibre = Some (fibre_out out p.id);
   sent = set_on p out offered;
   route = route;
+  back_in = back;
 }
 
 -- What is answered
@@ -156,22 +181,28 @@ at_egress p m link risks offered (Some x) =
     puts (egress_leg p m link risks offered x)
     (to_node m.arrival.from (Resv m.arrival.lsp m.arrival.egress link.id x) ∷ [])
 
--- the Path goes on over the first step's link, without that step
-abbrev pub in_transit : LocalNode → PathRequest → LinkSpec → List Risk → List Step → List ℕ → Option LinkSpec → Answer
-in_transit p m link risks route offered None = nothing
-in_transit p m link risks route offered (Some out) =
-    puts (transit_leg p m link risks out route offered)
+-- the Path goes on over the first step's link, without that step, with the label for the way back that was taken here
+abbrev pub passed_on : LocalNode → PathRequest → LinkSpec → List Risk → LinkSpec → List Step → List ℕ → Option ℕ →
+    Answer
+passed_on p m link risks out route offered back =
+    puts (transit_leg p m link risks out route offered back)
     (to_node (other_end out p.id) (Path m.arrival.lsp m.arrival.egress out.id route
-    (set_on p out offered) None m.role) ∷ [])
+    (set_on p out offered) back m.role) ∷ [])
 
-abbrev pub admitted : LocalNode → PathRequest → LinkSpec → List Risk → List ℕ → List Step → Answer
-admitted p m link risks offered [] = at_egress p m link risks offered (least offered)
-admitted p m link risks offered (hop ∷ route) = in_transit p m link risks route offered (own_link p hop.link)
+abbrev pub in_transit : LocalNode → NodeState → PathRequest → LinkSpec → List Step → Option LinkSpec → Answer
+in_transit p s m link route None = nothing
+in_transit p s m link route (Some out) =
+    passed_on p m link (risks_here p s m) out route (offered_labels p s m link) (back_label p s m out)
+
+abbrev pub admitted : LocalNode → NodeState → PathRequest → LinkSpec → List Step → Answer
+admitted p s m link [] =
+    at_egress p m link (risks_here p s m) (offered_labels p s m link) (least (offered_labels p s m link))
+admitted p s m link (hop ∷ route) = in_transit p s m link route (own_link p hop.link)
 
 -- it is refused, no leg is made and the sender is told why; or it is admitted
 abbrev pub judged : LocalNode → NodeState → PathRequest → LinkSpec → Option ErrCode → Answer
 judged p s m link (Some code) = sends (error_to m.arrival.from p m.arrival code ∷ [])
-judged p s m link None = admitted p m link (risks_here p s m) (offered_labels p s m link) m.route
+judged p s m link None = admitted p s m link m.route
 
 -- the link leads from the sender to this node, the ingress is another node, and no backup is activated that has no leg
 -- here

@@ -9,14 +9,15 @@ use Rattle.ason_base.specs.declared.messages.PathRole.TheVariants.{Work}
 use Rattle.ason_base.specs.declared.calls.CallState.{CallState}
 use Rattle.ason_base.specs.declared.calls.CallState.TheVariants.{Asking, Blocked}
 use Rattle.ason_base.specs.declared.calls.Cause.{Cause}
-use Rattle.ason_base.specs.declared.calls.Cause.TheVariants.{Unset, NoRoute, Spent, Full}
+use Rattle.ason_base.specs.Codes.{label_code}
+use Rattle.ason_base.specs.declared.calls.Cause.TheVariants.{Unset, NoRoute, Spent, Full, Code}
 use Rattle.ason_base.specs.declared.tables.CallRec.{CallRec}
 use Rattle.mesh_rules.specs.declared.limits.TheConstants.{LAST_NUMBER}
 use Rattle.mesh_rules.specs.declared.changes.CallChange.TheVariants as call
 use Rattle.mesh_rules.specs.State.{NodeState}
 use Rattle.mesh_rules.specs.Changes.{Answer, nothing, changes_calls}
 use Rattle.mesh_rules.specs.Calls.{find_call}
-use Rattle.mesh_rules.specs.FirstLegs.{NewLsp, asks_for, first_link, is_full}
+use Rattle.mesh_rules.specs.FirstLegs.{NewLsp, asks_for, first_back, first_link, is_full, lacks_first_back}
 use Rattle.mesh_rules.specs.KnownRows.{known_rows}
 use Rattle.mesh_rules.specs.LeastRoutes.{Trip, least_trip}
 use Rattle.mesh_rules.specs.LocalNodes.{LocalNode, is_link_there}
@@ -56,7 +57,14 @@ next_lsp p s = record { ingress = p.id; tunnel = s.tunnel; lsp = s.lsp }
 -- the working LSP that a setup asks for
 abbrev pub working_lsp : LocalNode → NodeState → SetupRequest → LinkSpec → List Step → NewLsp
 working_lsp p s w out route =
-    record { lsp = next_lsp p s; egress = w.egress; out = out; route = route; role = Work w.protected }
+    record {
+      lsp = next_lsp p s;
+      egress = w.egress;
+      out = out;
+      route = route;
+      role = Work w.protected;
+      back = first_back p s w.both (Work w.protected) out;
+    }
 
 -- it is asked for, in a tunnel of its own, and the call waits
 abbrev pub begins : LocalNode → NodeState → SetupRequest → LinkSpec → List Step → Answer
@@ -70,7 +78,10 @@ is_spent s = nat_lt LAST_NUMBER s.lsp || nat_lt LAST_NUMBER s.tunnel
 
 abbrev pub admitted_setup : LocalNode → NodeState → SetupRequest → LinkSpec → List Step → Answer
 admitted_setup p s w out route =
-    if is_spent s then refused_setup w Spent else (if is_full s then refused_setup w Full else begins p s w out route)
+    if is_spent s then refused_setup w Spent
+    else (if is_full s then refused_setup w Full
+    else (if lacks_first_back p s w.both (Work w.protected) out then refused_setup w (Code label_code)
+    else begins p s w out route))
 
 -- a route that is given may be followed from here
 abbrev pub is_followable : LocalNode → Option (List Step) → Bool
@@ -90,10 +101,9 @@ abbrev pub new_call : LocalNode → NodeState → SetupRequest → Option (List 
 new_call p s w None = over_found p s w (least_trip (known_rows p s) p.id w.egress)
 new_call p s w (Some route) = over_first p s w route (first_link p route)
 
--- it comes from this ingress to another node, isn't two-way, and its backup route can be followed from here
+-- it comes from this ingress to another node, and its backup route can be followed from here
 abbrev pub is_order_here : LocalNode → SetupRequest → Bool
-is_order_here p w =
-    w.from.0 == p.id.0 && (not (w.egress.0 == p.id.0) && (not w.both && is_followable p w.backup))
+is_order_here p w = w.from.0 == p.id.0 && (not (w.egress.0 == p.id.0) && is_followable p w.backup)
 
 -- a setup whose call number is known changes nothing, nor does one that isn't an order for this node
 abbrev pub setup_with : LocalNode → NodeState → SetupRequest → Option CallRec → Answer

@@ -69,10 +69,10 @@ answered-may n a fits (i, may, is) = subst (Fine n.place n.state.legs) (sym is) 
   where
     by_input : (i : Input) → Fine n.place n.state.legs (answer_to n i)
     by_input (Message u m) =
-        message-may n.place n.state n.state.lsp u m fits.place fits.state.legs.each fits.state.calls.each
+        message-may n.place n.state u m fits.place fits.state.legs.each
     by_input (Desk item) =
-        item-may n.place n.state n.state.lsp item fits.place fits.state.legs.each fits.state.calls.each
-    by_input Tick = tick-may n.place n.state n.state.lsp fits.place fits.state.legs.each fits.state.calls.each
+        item-may n.place n.state item fits.place fits.state.legs.each fits.state.calls.each
+    by_input Tick = tick-may n.place n.state
     by_input (Learn row) =
         if_cases (Fine n.place n.state.legs) (has_row (known_rows n.place n.state) row.link) nothing (learns row)
         (λ known. (tt, tt)) (λ none. (tt, tt))

@@ -63,7 +63,8 @@ fn follow_resv(
         (answered_here parts.now.tables.now parts.now.calls.now leg.now)) }
 {
     let backup = backup_beside(alloc, parts.tables, sought_by_resv(parts.calls, leg))?;
-    answer_resv(alloc, change, &ingress_of(parts), leg, backup.as_ref())
+    let ingress = ingress_of(parts);
+    answer_resv(alloc, change, &ingress, parts.shares, leg, backup.as_ref())
 }
 
 // A Resv at a leg that isn't Armed.

@@ -3,10 +3,8 @@
 ghost use Rattle.std.specs.Prelude.{◌≡◌, IfOk, OnOk};
 ghost use Rattle.std.specs.Option.{option_copied};
 ghost use Rattle.mesh_rules.specs.Changes.{followed_by};
-ghost use Rattle.mesh_nodes.specs.LocalNodes.{LocalNodeFits};
 ghost use Rattle.mesh_nodes.specs.Routes.{AreSearchable};
 ghost use Rattle.leg_table.specs.Fits.{TablesFit};
-ghost use Rattle.leg_table.specs.States.{local_of};
 ghost use Rattle.call_control.specs.Rules.{answered_here, protect_here, setup_here};
 ghost use Rattle.call_control.specs.Searches.{IsBackupFor};
 ghost use Rattle.node_rules.specs.Nodes.{answer_to};
@@ -55,36 +53,50 @@ pub(crate) fn ingress_of<'a>(parts: &NodeParts<'a>) -> IngressParts<'a>
 // A setup, over the least route from here where none is given.
 fn on_setup(
     alloc: Global,
-    tables: &NodeTables,
-    calls: &Calls,
+    parts: &NodeParts<'_>,
     request: &SetupRequest<'_>,
 ) -> Result<Change, OutOfMemory>
-    requires links { LocalNodeFits (local_of tables.now) }
-    requires rows { CanSearch tables.now }
-    ensures { IfOk result (λ c. c ≡ setup_here tables.now calls.now request.now) }
+    requires tables { TablesFit parts.now.tables.now parts.now.owner.now parts.now.shares.now }
+    requires rows { CanSearch parts.now.tables.now }
+    ensures { IfOk result
+        (λ c. c ≡ setup_here parts.now.tables.now parts.now.calls.now request.now) }
 {
-    let route = if seeks_route(tables, calls, request) {
+    let tables = parts.tables;
+    let route = if seeks_route(tables, parts.calls, request) {
         least_route(alloc, tables.rows(), tables.node().id, request.egress)?
     } else {
         None
     };
-    set_up(alloc, tables, calls, request, route.as_ref())
+    set_up(
+        alloc,
+        &ingress_of(parts),
+        parts.shares,
+        request,
+        route.as_ref(),
+    )
 }
 
 fn on_protect(
     alloc: Global,
-    tables: &NodeTables,
-    calls: &Calls,
+    parts: &NodeParts<'_>,
     number: CallNo,
     from: NodeId,
 ) -> Result<Change, OutOfMemory>
-    requires links { LocalNodeFits (local_of tables.now) }
-    requires rows { CanSearch tables.now }
-    ensures { IfOk result (λ c. c ≡ protect_here tables.now calls.now number from) }
+    requires tables { TablesFit parts.now.tables.now parts.now.owner.now parts.now.shares.now }
+    requires rows { CanSearch parts.now.tables.now }
+    ensures { IfOk result
+        (λ c. c ≡ protect_here parts.now.tables.now parts.now.calls.now number from) }
 {
-    let sought = sought_by_protect(tables, calls, number, from);
-    let backup = backup_beside(alloc, tables, sought)?;
-    protect(alloc, tables, calls, number, from, backup.as_ref())
+    let sought = sought_by_protect(parts.tables, parts.calls, number, from);
+    let backup = backup_beside(alloc, parts.tables, sought)?;
+    protect(
+        alloc,
+        &ingress_of(parts),
+        parts.shares,
+        number,
+        from,
+        backup.as_ref(),
+    )
 }
 
 fn on_order(alloc: Global, parts: &NodeParts<'_>, command: &Command) -> Result<Change, OutOfMemory>
@@ -114,10 +126,10 @@ fn on_order(alloc: Global, parts: &NodeParts<'_>, command: &Command) -> Result<C
                 via,
                 backup,
             };
-            on_setup(alloc, tables, calls, &request)
+            on_setup(alloc, parts, &request)
         }
         Command::Release { call, from } => release(alloc, tables, calls, *call, *from),
-        Command::Protect { call, from } => on_protect(alloc, tables, calls, *call, *from),
+        Command::Protect { call, from } => on_protect(alloc, parts, *call, *from),
         Command::Retry { call, from } => retry(alloc, &ingress_of(parts), *call, *from),
         Command::Revert { call, from } => revert_change(alloc, tables, calls, *call, *from),
         Command::Fail { .. } | Command::Repair { .. } => Ok(Change::nothing(alloc)),

@@ -22,7 +22,7 @@ pub path-legs : (t : LegTable) (u : NodeId) (m : Msg) → LocalNodeFits (local_o
 path-legs t u (Path l e k route set up r) links fits = go (find_leg l t.legs) refl
   where
     m : PathRequest
-    m = record { arrival = arrival l e u k; route = route; set = set; role = r }
+    m = record { arrival = arrival l e u k; route = route; set = set; upstream = up; role = r }
 
     go : (o : Option Leg) → find_leg l t.legs ≡ o → OwnLegsFit (legs_after t (path_unless t m o))
     go None found =

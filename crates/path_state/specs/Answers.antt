@@ -1,6 +1,6 @@
 -- What a Path of an LSP that has no leg, and a PathTear, do at a node of these tables.
-use Rattle.std.specs.Prelude.{◌≡◌, ℕ, Bool, List, [], ◌∷◌, Option, Some, None, IsTrue, drop, if◌then◌else◌}
-use Rattle.ason_base.specs.Codes.{set_code}
+use Rattle.std.specs.Prelude.{◌≡◌, ℕ, ◌&&◌, Bool, false, List, [], ◌∷◌, Option, Some, None, IsTrue, drop, is_some, if◌then◌else◌}
+use Rattle.ason_base.specs.Codes.{label_code, set_code}
 use Rattle.ason_base.specs.Labels.{least}
 use Rattle.ason_base.specs.Lsps.{has_fibre}
 use Rattle.ason_base.specs.declared.codes.ErrCode.{ErrCode}
@@ -19,10 +19,10 @@ use Rattle.ason_base.specs.declared.tables.Leg.{Leg}
 use Rattle.mesh_rules.specs.declared.arrivals.Arrival.{Arrival}
 use Rattle.mesh_rules.specs.Changes.{Answer, nothing, sends}
 use Rattle.mesh_rules.specs.Messages.{arrival}
-use Rattle.mesh_rules.specs.Paths.{PathRequest, admitted, asked_leg, at_egress, checks, error_to, first_failure, first_path, in_transit, is_none, is_primary_unknown, judged, offered_labels, risks_here}
+use Rattle.mesh_rules.specs.Paths.{PathRequest, asked_leg, at_egress, back_label, checks, error_to, first_failure, first_path, is_none, is_primary_unknown, judged, link_on, offered_labels, passed_on, risks_here}
 use Rattle.mesh_rules.specs.KnownRows.{known_rows}
-use Rattle.mesh_rules.specs.Legs.{find_leg}
-use Rattle.mesh_rules.specs.LocalNodes.{fibre_in, own_link}
+use Rattle.mesh_rules.specs.Legs.{find_leg, reverse}
+use Rattle.mesh_rules.specs.LocalNodes.{fibre_in, fibre_out, own_link}
 use Rattle.mesh_rules.specs.Tears.{on_tear}
 use Rattle.leg_table.specs.Fits.{legs_after}
 use Rattle.leg_table.specs.LegClaims.{is_fibre_in}
@@ -32,6 +32,26 @@ use Rattle.leg_table.specs.Tables.{LegTable}
 -- the labels of the Path's set that are usable on the fibre of this link that comes in
 abbrev pub offered_here : LegTable → PathRequest → LinkSpec → List ℕ
 offered_here t m link = offered_labels (local_of t) (legs_state t) m link
+
+-- the label that is taken for the way back over this link
+abbrev pub back_over : LegTable → PathRequest → LinkSpec → Option ℕ
+back_over t m out = back_label (local_of t) (legs_state t) m out
+
+-- the same, as far as the Path goes on over a link
+abbrev pub back_on : LegTable → PathRequest → Option LinkSpec → Option ℕ
+back_on t m None = None
+back_on t m (Some out) = back_over t m out
+
+abbrev pub back_here : LegTable → PathRequest → Option ℕ
+back_here t m = back_on t m (link_on (local_of t) m.route)
+
+-- the Path goes on over a link and asks for a way back, and there is no label for it
+abbrev pub lacks_way : PathRequest → Option LinkSpec → Option ℕ → Bool
+lacks_way m None back = false
+lacks_way m (Some out) back = is_some m.upstream && is_none back
+
+abbrev pub lacks_way_back : LegTable → PathRequest → Option ℕ → Bool
+lacks_way_back t m back = lacks_way m (link_on (local_of t) m.route) back
 
 -- the risks of the Path's primary, as the node knows them
 abbrev pub recorded_here : LegTable → PathRequest → List Risk
@@ -68,28 +88,43 @@ is_down_here t link = has_fibre t.down (fibre_in link t.node.id)
 abbrev pub comes_over : LegTable → LinkSpec → Bool
 comes_over t link = is_fibre_in (local_of t) (fibre_in link t.node.id)
 
+-- the other direction of the fibre of this link that goes out is one of the node's own links
+abbrev pub comes_back : LegTable → LinkSpec → Bool
+comes_back t out = is_fibre_in (local_of t) (reverse (fibre_out out t.node.id))
+
 abbrev pub refused_here : LegTable → Arrival → ErrCode → Answer
 refused_here t a code = sends (error_to a.from (local_of t) a code ∷ [])
 
 abbrev pub ended_here : LegTable → PathRequest → LinkSpec → List Risk → List ℕ → Answer
 ended_here t m link risks offered = at_egress (local_of t) m link risks offered (least offered)
 
--- the Path that goes on over this link
-abbrev pub path_on : PathRequest → LinkSpec → List Step → List ℕ → Msg
-path_on m out route set = Path m.arrival.lsp m.arrival.egress out.id route set None m.role
+-- the Path that goes on over this link from the leg
+abbrev pub path_on : PathRequest → LinkSpec → Leg → Msg
+path_on m out g = Path m.arrival.lsp m.arrival.egress out.id g.route g.sent g.back_in m.role
+
+abbrev pub passed_over : LegTable → PathRequest → LinkSpec → List Risk → List ℕ → Option ℕ → Option LinkSpec → Answer
+passed_over t m link risks offered back None = nothing
+passed_over t m link risks offered back (Some out) =
+    passed_on (local_of t) m link risks out (drop 1 m.route) offered back
 
 -- it goes on over the node's link of this number, without its first step
-abbrev pub passed_here : LegTable → PathRequest → LinkSpec → List Risk → List ℕ → LinkId → Answer
-passed_here t m link risks offered k =
-    in_transit (local_of t) m link risks (drop 1 m.route) offered (own_link (local_of t) k)
+abbrev pub passed_here : LegTable → PathRequest → LinkSpec → List Risk → List ℕ → Option ℕ → LinkId → Answer
+passed_here t m link risks offered back k = passed_over t m link risks offered back (own_link (local_of t) k)
 
-abbrev pub admitted_here : LegTable → PathRequest → LinkSpec → List Risk → List ℕ → Answer
-admitted_here t m link risks offered = admitted (local_of t) m link risks offered m.route
+abbrev pub admitted_along : LegTable → PathRequest → LinkSpec → List Risk → List ℕ → Option ℕ → List Step → Answer
+admitted_along t m link risks offered back [] = ended_here t m link risks offered
+admitted_along t m link risks offered back (hop ∷ route) = passed_here t m link risks offered back hop.link
 
--- it is refused where no label is left, and else admitted
-abbrev pub labelled_here : LegTable → PathRequest → LinkSpec → List Risk → List ℕ → Answer
-labelled_here t m link risks offered =
-    if is_none (least offered) then refused_here t m.arrival set_code else admitted_here t m link risks offered
+-- it ends here, or goes on
+abbrev pub admitted_here : LegTable → PathRequest → LinkSpec → List Risk → List ℕ → Option ℕ → Answer
+admitted_here t m link risks offered back = admitted_along t m link risks offered back m.route
+
+-- it is refused where no label is left, there or for the way back, and else admitted
+abbrev pub labelled_here : LegTable → PathRequest → LinkSpec → List Risk → List ℕ → Option ℕ → Answer
+labelled_here t m link risks offered back =
+    if is_none (least offered) then refused_here t m.arrival set_code
+    else (if lacks_way_back t m back then refused_here t m.arrival label_code
+    else admitted_here t m link risks offered back)
 
 -- a Path of an LSP whose leg stands makes none
 abbrev pub path_unless : LegTable → PathRequest → Option Leg → Answer
@@ -102,7 +137,7 @@ path_here t m = path_unless t m (find_leg m.arrival.lsp t.legs)
 -- a message of another kind does nothing
 abbrev pub path_answer : LegTable → NodeId → Msg → Answer
 path_answer t u (Path l e k route set up r) =
-    path_here t (record { arrival = arrival l e u k; route = route; set = set; role = r })
+    path_here t (record { arrival = arrival l e u k; route = route; set = set; upstream = up; role = r })
 path_answer t u (Resv l e k x) = nothing
 path_answer t u (PathTear l e k) = nothing
 path_answer t u (PathErr l e at gone code) = nothing

@@ -1,36 +1,38 @@
 //! A Path where no leg of its LSP stands (RFC 2205, section 3.1.3; RFC 3473, section 2).
 
 ghost use Rattle.std.specs.Prelude.{◌≡◌, ◌≤◌, false, IfErr, IfOk, IsTrue, OnOk};
-ghost use Rattle.mesh_rules.specs.Paths.{is_active, leads_on, recorded, role_of, set_on};
+ghost use Rattle.std.specs.Option.{option_copied};
+ghost use Rattle.mesh_rules.specs.Paths.{is_active, leads_on, link_on, recorded, role_of, set_on};
 ghost use Rattle.mesh_nodes.specs.LocalNodes.{LocalNodeFits};
 ghost use Rattle.leg_table.specs.Fits.{TablesFit};
 ghost use Rattle.leg_table.specs.States.{local_of};
-ghost use Rattle.path_state.specs.Answers.{IsUnknownFor, admitted_here, asked_here, comes_over, ended_here, first_here, is_down_here, is_unknown_here, judged_here, known_here, labelled_here, offered_here, passed_here, path_answer, path_here, path_on, recorded_here, refused_here};
+ghost use Rattle.path_state.specs.Answers.{IsUnknownFor, admitted_here, asked_here, back_here, back_over, comes_back, comes_over, ended_here, first_here, is_down_here, is_unknown_here, judged_here, known_here, labelled_here, lacks_way_back, offered_here, passed_here, path_answer, path_here, path_on, recorded_here, refused_here};
 
-use ason_base::codes::{DOWN, FULL, PRIMARY, ROUTE, SET};
+use ason_base::codes::{DOWN, FULL, LABEL, PRIMARY, ROUTE, SET};
 use ason_base::routes::other_end;
 use ason_base::{
-    Copied, ErrCode, LabelSet, Leg, LinkSpec, Lsp, Msg, NodeId, OutOfMemory, PathRole, Phase,
-    RiskFault, RiskSet, Role, Step, Steps,
+    Copied, ErrCode, Label, LabelSet, Leg, LinkSpec, Lsp, Msg, NodeId, OutOfMemory, PathRole,
+    Phase, RiskFault, RiskSet, Role, Step, Steps,
 };
-use leg_labels::usable;
+use leg_labels::{label_through, usable};
 use leg_table::one_leg::reserved;
 use leg_table::{Change, NodeTables};
 use link_owner::Owner;
 use mesh_rules::Arrival;
 use mesh_rules::limits::MOST_LEGS;
-use mesh_rules::links::{fibre_in, fibre_out, leads};
+use mesh_rules::links::{fibre_in, fibre_out, leads, reverse};
 use share_check::Shares;
 use std::alloc::Global;
 use std::marker::Model;
 
 /// What a Path asks for: of which LSP and from where it came, over which steps from here, with
-/// which labels, and for what.
+/// which labels, with which label for the way back of a two-way LSP, and for what.
 #[derive(Drop)]
 struct PathRequest<'a> {
     arrival: Arrival,
     route: &'a Steps,
     set: &'a LabelSet,
+    upstream: Option<Label>,
     role: &'a PathRole,
 }
 
@@ -43,6 +45,7 @@ impl<'a> Model for PathRequest<'a> {
       arrival = m.arrival;
       route = m.route.now;
       set = m.set.now;
+      upstream = m.upstream;
       role = m.role.now;
     } };
 }
@@ -106,6 +109,54 @@ fn offered_labels(
     request.set.meet(&labels)
 }
 
+// The label for the way back over this link, by which the Path goes on.
+fn back_over(
+    tables: &NodeTables,
+    owner: &Owner,
+    shares: &Shares,
+    request: &PathRequest<'_>,
+    out: &LinkSpec,
+    risks: &RiskSet,
+) -> Option<Label>
+    requires fits { TablesFit tables.now owner.now shares.now }
+    requires link { IsTrue (comes_back tables.now out.now) }
+    requires risks { risks.now ≡ recorded_here tables.now request.now }
+    ensures { result ≡ back_over tables.now request.now out.now }
+{
+    let label = request.upstream?;
+    let fibre = reverse(fibre_out(out, tables.node().id));
+    let labels = usable(tables, owner, shares, role_of(request.role), risks, fibre);
+    label_through(tables, &labels, label)
+}
+
+// The link of the route's first step.
+fn link_on<'a>(tables: &'a NodeTables, route: &Steps) -> Option<&'a LinkSpec>
+    ensures { option_copied result ≡ link_on (local_of tables.now) route.now }
+{
+    match route.items().first() {
+        None => None,
+        Some(&hop) => tables.own(hop.link),
+    }
+}
+
+// The label for the way back, as far as the Path goes on from here and asks for one.
+fn back_label(
+    tables: &NodeTables,
+    owner: &Owner,
+    shares: &Shares,
+    request: &PathRequest<'_>,
+    risks: &RiskSet,
+) -> Option<Label>
+    requires fits { TablesFit tables.now owner.now shares.now }
+    requires risks { risks.now ≡ recorded_here tables.now request.now }
+    ensures { result ≡ back_here tables.now request.now }
+{
+    match link_on(tables, request.route) {
+        None => None,
+        Some(out) => back_over(tables, owner, shares, request, out, risks),
+    }
+}
+
 // Whether the fibre of this link that comes in is known to be down.
 fn is_down(tables: &NodeTables, link: &LinkSpec) -> bool
     ensures { result ≡ is_down_here tables.now link.now }
@@ -133,12 +184,13 @@ fn refuse(
 
 // Legs
 
-// What a leg that a Path makes may have: the labels of the fibre in from which one is taken, and
-// the risks that it records.
+// What a leg that a Path makes may have: the labels of the fibre in from which one is taken, the
+// label for the way back, and the risks that it records.
 #[derive(Drop)]
 struct Offer {
     risks: RiskSet,
     labels: LabelSet,
+    back: Option<Label>,
 }
 
 // The leg that a Path makes, as far as it is the same at each node.
@@ -147,12 +199,11 @@ fn asked_leg(
     tables: &NodeTables,
     request: &PathRequest<'_>,
     link: &LinkSpec,
-    offer: Offer,
+    risks: RiskSet,
+    labels: LabelSet,
 ) -> Result<Leg, OutOfMemory>
-    ensures { IfOk result
-        (λ g. g ≡ asked_here tables.now request.now link.now offer.risks offer.labels) }
+    ensures { IfOk result (λ g. g ≡ asked_here tables.now request.now link.now risks labels) }
 {
-    let Offer { risks, labels } = offer;
     let path_role = request.role.copy(alloc)?;
     Ok(Leg {
         lsp: request.arrival.lsp,
@@ -171,7 +222,7 @@ fn asked_leg(
         in_label: None,
         out_label: None,
         back_in: None,
-        back_out: None,
+        back_out: request.upstream,
     })
 }
 
@@ -186,10 +237,11 @@ fn end_here(
     ensures { IfOk result
         (λ c. c ≡ ended_here tables.now request.now link.now offer.risks offer.labels) }
 {
-    let Some(label) = offer.labels.least() else {
+    let Offer { risks, labels, .. } = offer;
+    let Some(label) = labels.least() else {
         return Ok(Change::nothing(alloc));
     };
-    let mut leg = asked_leg(alloc, tables, request, link, offer)?;
+    let mut leg = asked_leg(alloc, tables, request, link, risks, labels)?;
     leg.phase = reserved(leg.role);
     leg.in_label = Some(label);
     let msg = Msg::Resv {
@@ -212,23 +264,22 @@ fn set_on(tables: &NodeTables, out: &LinkSpec, offered: &LabelSet) -> LabelSet
     }
 }
 
-// The Path that goes on over this link.
+// The Path that goes on over this link from the leg.
 fn path_on(
     alloc: Global,
     request: &PathRequest<'_>,
     out: &LinkSpec,
-    route: &Steps,
-    set: &LabelSet,
+    leg: &Leg,
 ) -> Result<Msg, OutOfMemory>
-    ensures { IfOk result (λ m. m ≡ path_on request.now out.now route.now set.now) }
+    ensures { IfOk result (λ m. m ≡ path_on request.now out.now leg.now) }
 {
     Ok(Msg::Path {
         lsp: request.arrival.lsp,
         egress: request.arrival.egress,
         link: out.id,
-        route: route.copy(alloc)?,
-        set: set.copy(),
-        upstream: None,
+        route: leg.route.copy(alloc)?,
+        set: leg.sent.copy(),
+        upstream: leg.back_in,
         role: request.role.copy(alloc)?,
     })
 }
@@ -243,21 +294,26 @@ fn pass_on(
     offer: Offer,
 ) -> Result<Change, OutOfMemory>
     requires { LocalNodeFits (local_of tables.now) }
-    ensures { IfOk result
-        (λ c. c ≡ passed_here tables.now request.now link.now offer.risks offer.labels hop.link) }
+    ensures { IfOk result (λ c. c ≡
+        passed_here tables.now request.now link.now offer.risks offer.labels offer.back hop.link) }
 {
     let here = tables.node().id;
     let Some(out) = tables.own(hop.link) else {
         return Ok(Change::nothing(alloc));
     };
-    let route = request.route.copy_from(alloc, 1)?;
-    let sent = set_on(tables, out, &offer.labels);
-    let msg = path_on(alloc, request, out, &route, &sent)?;
-    let mut leg = asked_leg(alloc, tables, request, link, offer)?;
+    let Offer {
+        risks,
+        labels,
+        back,
+    } = offer;
+    let sent = set_on(tables, out, &labels);
+    let mut leg = asked_leg(alloc, tables, request, link, risks, labels)?;
     leg.next = Some(other_end(out, here));
     leg.out_fibre = Some(fibre_out(out, here));
+    leg.back_in = back;
     leg.sent = sent;
-    leg.route = route;
+    leg.route = request.route.copy_from(alloc, 1)?;
+    let msg = path_on(alloc, request, out, &leg)?;
     Change::puts(alloc, leg, other_end(out, here), msg)
 }
 
@@ -269,8 +325,8 @@ fn admit(
     offer: Offer,
 ) -> Result<Change, OutOfMemory>
     requires { LocalNodeFits (local_of tables.now) }
-    ensures { IfOk result
-        (λ c. c ≡ admitted_here tables.now request.now link.now offer.risks offer.labels) }
+    ensures { IfOk result (λ c. c ≡
+        admitted_here tables.now request.now link.now offer.risks offer.labels offer.back) }
 {
     match request.route.items().first() {
         None => end_here(alloc, tables, request, link, offer),
@@ -278,7 +334,17 @@ fn admit(
     }
 }
 
-// Where no label is left the Path is refused.
+// Whether the Path goes on from here and asks for a way back, and there is no label for it.
+fn lacks_back(tables: &NodeTables, request: &PathRequest<'_>, back: Option<Label>) -> bool
+    ensures { result ≡ lacks_way_back tables.now request.now back }
+{
+    match link_on(tables, request.route) {
+        None => false,
+        Some(_) => request.upstream.is_some() && back.is_none(),
+    }
+}
+
+// Where no label is left, there or for the way back, the Path is refused.
 fn admit_labelled(
     alloc: Global,
     tables: &NodeTables,
@@ -287,11 +353,13 @@ fn admit_labelled(
     offer: Offer,
 ) -> Result<Change, OutOfMemory>
     requires { LocalNodeFits (local_of tables.now) }
-    ensures { IfOk result
-        (λ c. c ≡ labelled_here tables.now request.now link.now offer.risks offer.labels) }
+    ensures { IfOk result (λ c. c ≡
+        labelled_here tables.now request.now link.now offer.risks offer.labels offer.back) }
 {
     if offer.labels.least().is_none() {
         refuse(alloc, tables, request.arrival, SET)
+    } else if lacks_back(tables, request, offer.back) {
+        refuse(alloc, tables, request.arrival, LABEL)
     } else {
         admit(alloc, tables, request, link, offer)
     }
@@ -320,7 +388,13 @@ fn judge(
         Ok(_) if is_down(tables, link) => refuse(alloc, tables, request.arrival, DOWN),
         Ok(risks) => {
             let labels = offered_labels(tables, owner, shares, request, link, &risks);
-            admit_labelled(alloc, tables, request, link, Offer { risks, labels })
+            let back = back_label(tables, owner, shares, request, &risks);
+            let offer = Offer {
+                risks,
+                labels,
+                back,
+            };
+            admit_labelled(alloc, tables, request, link, offer)
         }
         Err(RiskFault::Unknown(_)) => refuse(alloc, tables, request.arrival, PRIMARY),
         Err(RiskFault::OutOfMemory) => Err(OutOfMemory),
@@ -395,8 +469,8 @@ pub fn path_change(
             link,
             route,
             set,
+            upstream,
             role,
-            ..
         } => {
             let arrival = Arrival {
                 lsp: *lsp,
@@ -408,6 +482,7 @@ pub fn path_change(
                 arrival,
                 route,
                 set,
+                upstream: *upstream,
                 role,
             };
             on_path(alloc, tables, owner, shares, &request)

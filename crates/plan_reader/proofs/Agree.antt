@@ -1,5 +1,5 @@
 -- Bytes have one plan or first fault.
-use Rattle.std.proofs.Common.{◌≡◌, inl, inr, ℕ, List, Option, None, Some, Result, Ok, Err, codes, sym, ap, subst, ◌∙◌}
+use Rattle.std.proofs.Common.{◌≡◌, inl, inr, ℕ, List, Option, None, Some, Result, Ok, Err, codes, sym, ap, subst, ◌∙◌, Bool, true}
 use Rattle.toml.specs.Data.{Data, Members, table}
 use Rattle.ason_base.specs.Network.{Network}
 use Rattle.ason_base.specs.declared.network.LinkSpec.{LinkSpec}
@@ -13,7 +13,7 @@ use Rattle.plan_reader.specs.declared.faults.PlanKind.{PlanKind}
 use Rattle.plan_reader.specs.declared.lines.Line.{Line}
 use Rattle.plan_reader.specs.declared.plan.Plan.{Plan}
 use Rattle.plan_reader.specs.declared.script.Script.{Script}
-use Rattle.plan_reader.specs.Plans.{IsPlanOf, IsPlanOfParts, IsPlanOver, PlanOf, UnlessFault, links_of, network_of, nodes_of, plan_over}
+use Rattle.plan_reader.specs.Plans.{IsSpelled, IsPlanOf, IsPlanOfParts, IsPlanOver, PlanOf, UnlessFault, links_of, network_of, nodes_of, plan_over}
 use Rattle.plan_reader.proofs.Entries.{read_alone}
 
 read_with_alone :
@@ -29,19 +29,19 @@ line_alone (Ok line) a b x y = read_with_alone (bytes_of line) line a b x y
 line_alone (Err k) a b x y = x ∙ sym y
 
 has_line_alone :
-    (t : Network) (names : List (List ℕ)) (before : Script) (d : Data) (a b : Result Script PlanKind)
-    → AddsLine t names before d a → AddsLine t names before d b → a ≡ b
-has_line_alone t names before d a b x y =
-    let same = line_alone (line_of t names before.calls (words_of (text_of d))) x.0 y.0 x.1 y.1 in
+    (w : Bool) (t : Network) (names : List (List ℕ)) (before : Script) (d : Data) (a b : Result Script PlanKind)
+    → AddsLine w t names before d a → AddsLine w t names before d b → a ≡ b
+has_line_alone w t names before d a b x y =
+    let same = line_alone (line_of w t names before.calls (words_of (text_of d))) x.0 y.0 x.1 y.1 in
     x.2 ∙ (ap (put_behind before (words_of (text_of d))) same ∙ sym y.2)
 
 over_alone :
-    (d : Data) (known : NodeList) (links : List LinkSpec) (r s : Result Plan PlanFault) → IsPlanOver d known links r
-    → IsPlanOver d known links s → r ≡ s
-over_alone d known links r s x y =
+    (w : Bool) (d : Data) (known : NodeList) (links : List LinkSpec) (r s : Result Plan PlanFault) → IsPlanOver w d known links r
+    → IsPlanOver w d known links s → r ≡ s
+over_alone w d known links r s x y =
     let t = network_of (ticks_of d) known links in
     let same =
-    read_alone entries.Script (AddsLine t known.names) (has_line_alone t known.names) 1 no_script
+    read_alone entries.Script (AddsLine w t known.names) (has_line_alone w t known.names) 1 no_script
     (elements_at (codes "script") d) x.0 y.0 x.1 y.1 in
     x.2 ∙ (ap (plan_over d known links) same ∙ sym y.2)
 
@@ -51,33 +51,34 @@ then_alone :
 then_alone (Ok a) Next r s alone x y = alone a x y
 then_alone (Err f) Next r s alone x y = x ∙ sym y
 
-nodes_alone : (d : Data) (r s : Result Plan PlanFault) → IsPlanOfParts d r → IsPlanOfParts d s → r ≡ s
-nodes_alone d r s x y =
+nodes_alone : (w : Bool) (d : Data) (r s : Result Plan PlanFault) → IsPlanOfParts w d r → IsPlanOfParts w d s → r ≡ s
+nodes_alone w d r s x y =
     then_alone (nodes_of (elements_at (codes "node") d))
-    (λ known. AndThen (links_of known (elements_at (codes "link") d)) (IsPlanOver d known)) r s
+    (λ known. AndThen (links_of known (elements_at (codes "link") d)) (IsPlanOver w d known)) r s
     (λ known a b.
-    then_alone (links_of known (elements_at (codes "link") d)) (IsPlanOver d known) r s
-    (λ links u v. over_alone d known links r s u v) a b) x y
+    then_alone (links_of known (elements_at (codes "link") d)) (IsPlanOver w d known) r s
+    (λ links u v. over_alone w d known links r s u v) a b) x y
 
-plan_alone : (d : Data) (r s : Result Plan PlanFault) → IsPlanOf d r → IsPlanOf d s → r ≡ s
-plan_alone d r s x y = go (top_kind d) x y
+plan_alone : (w : Bool) (d : Data) (r s : Result Plan PlanFault) → IsPlanOf w d r → IsPlanOf w d s → r ≡ s
+plan_alone w d r s x y = go (top_kind d) x y
   where
-    go : (o : Option PlanKind) → UnlessFault o (IsPlanOfParts d) r → UnlessFault o (IsPlanOfParts d) s → r ≡ s
-    go None a b = nodes_alone d r s a b
+    go : (o : Option PlanKind) → UnlessFault o (IsPlanOfParts w d) r → UnlessFault o (IsPlanOfParts w d) s → r ≡ s
+    go None a b = nodes_alone w d r s a b
     go (Some k) a b = a ∙ sym b
 
-pub plans_agree : (bs : List ℕ) (r s : Result Plan PlanFault) → PlanOf bs r → PlanOf bs s → r ≡ s
-plans_agree bs r s (inl x) (inl y) =
+-- bytes are read as one plan alone, or as one fault
+pub plans_agree : (w : Bool) (bs : List ℕ) (r s : Result Plan PlanFault) → IsSpelled w bs r → IsSpelled w bs s → r ≡ s
+plans_agree w bs r s (inl x) (inl y) =
     let same : x.0 ≡ y.0 = cc (x.2, y.2) in
-    plan_alone (table x.0) r s x.3 (subst (λ (m : Members). IsPlanOf (table m) s) (sym same) y.3)
-plans_agree bs r s (inl x) (inr y) = absurd (cc (x.2, y.0 x.1))
-plans_agree bs r s (inr x) (inl y) = absurd (cc (y.2, x.0 y.1))
-plans_agree bs r s (inr x) (inr y) = x.1 ∙ sym y.1
+    plan_alone w (table x.0) r s x.3 (subst (λ (m : Members). IsPlanOf w (table m) s) (sym same) y.3)
+plans_agree w bs r s (inl x) (inr y) = absurd (cc (x.2, y.0 x.1))
+plans_agree w bs r s (inr x) (inl y) = absurd (cc (y.2, x.0 y.1))
+plans_agree w bs r s (inr x) (inr y) = x.1 ∙ sym y.1
 
 -- bytes spell one plan alone
 pub one_plan : (bs : List ℕ) (p q : Plan) → PlanOf bs (Ok p) → PlanOf bs (Ok q) → p ≡ q
-one_plan bs p q a b = cc (plans_agree bs (Ok p) (Ok q) a b)
+one_plan bs p q a b = cc (plans_agree true bs (Ok p) (Ok q) a b)
 
 -- bytes with a fault spell no plan
 pub no_plan : (bs : List ℕ) (f : PlanFault) (p : Plan) → PlanOf bs (Err f) → PlanOf bs (Ok p) → ⊥
-no_plan bs f p a b = absurd (cc (plans_agree bs (Err f) (Ok p) a b))
+no_plan bs f p a b = absurd (cc (plans_agree true bs (Err f) (Ok p) a b))

@@ -101,15 +101,15 @@ other_stands t names calls before ws line searchable asked fit h = go (command_f
 
 -- a line without fault can be posted behind those before it
 pub line_stands :
-    (t : Network) (names : List (List ℕ)) (calls : CallList) (before : List CallNo) (ws : List (List ℕ)) (line : Line)
-    → is_searchable t ≡ true → WasAsked line → AreFitting t calls before → line_of t names calls ws ≡ Ok line
+    (w : Bool) (t : Network) (names : List (List ℕ)) (calls : CallList) (before : List CallNo) (ws : List (List ℕ)) (line : Line)
+    → is_searchable t ≡ true → WasAsked line → AreFitting t calls before → line_of w t names calls ws ≡ Ok line
     → CanStand t calls before ws line
-line_stands t names calls before ws line searchable asked fit h = go (setup_form ws) refl h
+line_stands w t names calls before ws line searchable asked fit h = go (setup_form w ws) refl h
   where
     go :
-        (o : Option SetupForm) → setup_form ws ≡ o → line_as t names calls ws o ≡ Ok line
+        (o : Option SetupForm) → setup_form w ws ≡ o → line_as t names calls ws o ≡ Ok line
         → CanStand t calls before ws line
     go None e k = other_stands t names calls before ws line searchable asked fit k
     go (Some f) e k =
         posts t calls before ws line (setup_of t names calls ws f)
-        (λ c. setup_posts t names calls before ws f c searchable fit (form_backs_protected ws f e)) k
+        (λ c. setup_posts t names calls before ws f c searchable fit (form_backs_protected w ws f e)) k

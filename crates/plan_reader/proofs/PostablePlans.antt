@@ -21,7 +21,7 @@ use Rattle.plan_reader.specs.PlanTables.{NodeList, elements_at, has_strange, has
 use Rattle.plan_reader.specs.declared.values.Shape.TheVariants.{OfTop}
 use Rattle.plan_reader.specs.PlanTexts.{words_of}
 use Rattle.plan_reader.specs.declared.faults.PlanFault.{PlanFault}
-use Rattle.plan_reader.specs.Plans.{ArePostable, HasNames, IsPlanOf, IsPlanOfParts, IsPlanOver, IsPostable, IsScriptOf, PlanOf, UnlessFault, calls_after_line, calls_after_lines, links_of, network_of, nodes_of, plan_over, plan_with}
+use Rattle.plan_reader.specs.Plans.{ArePostable, HasNames, IsPlanOf, IsPlanOfParts, IsPlanOver, IsPostable, IsScriptOf, IsSpelled, UnlessFault, calls_after_line, calls_after_lines, links_of, network_of, nodes_of, plan_over, plan_with}
 use Rattle.plan_reader.specs.declared.faults.PlanKind.{PlanKind}
 use Rattle.plan_reader.specs.declared.faults.PlanKind.TheVariants as kinds
 use Rattle.plan_reader.proofs.Entries.{kept_as, then_next}
@@ -45,9 +45,9 @@ postable_more t before (l ∷ lines) line are is =
     (are.0, postable_more t (calls_after_line before l) lines line are.1 is)
 
 line_kept :
-    (t : Network) (names : List (List ℕ)) (before after : Script) (ws : List (List ℕ)) → is_searchable t ≡ true
-    → AddsWords t names before ws (Ok after) → ScriptFits t before → ScriptFits t after
-line_kept t names before after ws searchable h fit = go (line_of t names before.calls ws) refl h.0 h.1 h.2
+    (w : Bool) (t : Network) (names : List (List ℕ)) (before after : Script) (ws : List (List ℕ)) → is_searchable t ≡ true
+    → AddsWords w t names before ws (Ok after) → ScriptFits t before → ScriptFits t after
+line_kept w t names before after ws searchable h fit = go (line_of w t names before.calls ws) refl h.0 h.1 h.2
   where
     asked :
         (line : Line) (o : Option (List ℕ)) (r : Result Line PlanKind) → IsReadWith o line r
@@ -58,13 +58,13 @@ line_kept t names before after ws searchable h fit = go (line_of t names before.
     asked line (Some bytes) r (inr x) k = absurd (cc (ap (put_behind before ws) x.2, k))
 
     go :
-        (says : Result Line PlanKind) → line_of t names before.calls ws ≡ says → (r : Result Line PlanKind)
+        (says : Result Line PlanKind) → line_of w t names before.calls ws ≡ says → (r : Result Line PlanKind)
         → IsRead says r → Ok after ≡ put_behind before ws r → ScriptFits t after
     go (Ok line) e r is k =
         let same_line : r ≡ Ok line = asked line (bytes_of line) r is (sym k) in
         let was = subst (λ (q : Result Line PlanKind). IsReadWith (bytes_of line) line q) same_line is in
         let stands =
-        line_stands t names before.calls (calls_after_lines [] before.lines) ws line searchable was fit.fits e in
+        line_stands w t names before.calls (calls_after_lines [] before.lines) ws line searchable was fit.fits e in
         let script : Script = record {
           calls = calls_with_line before.calls ws line;
           lines = before.lines ++ line ∷ [];
@@ -79,11 +79,11 @@ line_kept t names before after ws searchable h fit = go (line_of t names before.
     go (Err fault) e r is k = absurd (cc (ap (put_behind before ws) is, k))
 
 script_fits :
-    (t : Network) (names : List (List ℕ)) (ds : List Data) (script : Script) → is_searchable t ≡ true
-    → IsScriptOf t names ds (Ok script) → ScriptFits t script
-script_fits t names ds script searchable h =
-    kept_as (ScriptFits t) _ (AddsLine t names)
-    (λ before after d. line_kept t names before after (words_of (text_of d)) searchable) 1 no_script ds script h nothing
+    (w : Bool) (t : Network) (names : List (List ℕ)) (ds : List Data) (script : Script) → is_searchable t ≡ true
+    → IsScriptOf w t names ds (Ok script) → ScriptFits t script
+script_fits w t names ds script searchable h =
+    kept_as (ScriptFits t) _ (AddsLine w t names)
+    (λ before after d. line_kept w t names before after (words_of (text_of d)) searchable) 1 no_script ds script h nothing
   where
     nothing : ScriptFits t no_script
     nothing = record { postable = tt; fits = record { below = refl; known = refl; counted = refl; found = none_found } }
@@ -97,7 +97,7 @@ below_all n (m ∷ before) h =
     All-cons (λ m. m.0 < n) m before (ltb-true m.0 n parts.0) (below_all n before parts.1)
 
 -- a plan's parts without fault
-record HasParts (d : Data) (p : Plan) : Type 0 where
+record HasParts (w : Bool) (d : Data) (p : Plan) : Type 0 where
   pub known : NodeList
   pub links : List LinkSpec
   pub script : Script
@@ -105,7 +105,7 @@ record HasParts (d : Data) (p : Plan) : Type 0 where
   pub nodes_read : nodes_of (elements_at (codes "node") d) ≡ Ok known
   pub links_read : links_of known (elements_at (codes "link") d) ≡ Ok links
   pub script_read :
-      IsScriptOf (network_of (ticks_of d) known links) known.names (elements_at (codes "script") d) (Ok script)
+      IsScriptOf w (network_of (ticks_of d) known links) known.names (elements_at (codes "script") d) (Ok script)
   pub plan : plan_with (ticks_of d) known links script ≡ p
 
 counts_pass : (d : Data) → top_kind d ≡ None → has_top_counts d ≡ true
@@ -123,12 +123,12 @@ counts_pass d h =
     go false false false true rest k = refl
     go false false false false rest k = absurd (cc (k))
 
-parts_of_plan : (d : Data) (p : Plan) → IsPlanOf d (Ok p) → HasParts d p
-parts_of_plan d p h = go (top_kind d) refl h
+parts_of_plan : (w : Bool) (d : Data) (p : Plan) → IsPlanOf w d (Ok p) → HasParts w d p
+parts_of_plan w d p h = go (top_kind d) refl h
   where
     Reads : NodeList → List LinkSpec → Result Script PlanFault → Type 0
     Reads known links script =
-        IsScriptOf (network_of (ticks_of d) known links) known.names (elements_at (codes "script") d) script
+        IsScriptOf w (network_of (ticks_of d) known links) known.names (elements_at (codes "script") d) script
 
     over :
         (known : NodeList) (links : List LinkSpec) (script : Result Script PlanFault) → Reads known links script
@@ -137,13 +137,13 @@ parts_of_plan d p h = go (top_kind d) refl h
     over known links (Ok s) is e = (s, is, cc (e))
     over known links (Err f) is e = absurd (cc (e))
 
-    go : (o : Option PlanKind) → top_kind d ≡ o → UnlessFault o (IsPlanOfParts d) (Ok p) → HasParts d p
+    go : (o : Option PlanKind) → top_kind d ≡ o → UnlessFault o (IsPlanOfParts w d) (Ok p) → HasParts w d p
     go None top k =
         let nodes =
         then_next (nodes_of (elements_at (codes "node") d))
-        (λ known. AndThen (links_of known (elements_at (codes "link") d)) (IsPlanOver d known)) p k in
+        (λ known. AndThen (links_of known (elements_at (codes "link") d)) (IsPlanOver w d known)) p k in
         let known = nodes.0 in
-        let links = then_next (links_of known (elements_at (codes "link") d)) (IsPlanOver d known) p nodes.2 in
+        let links = then_next (links_of known (elements_at (codes "link") d)) (IsPlanOver w d known) p nodes.2 in
         let script = over known links.0 links.2.0 links.2.1 links.2.2 in
         record {
           known = known;
@@ -158,29 +158,29 @@ parts_of_plan d p h = go (top_kind d) refl h
     go (Some fault) top k = absurd (cc (k))
 
 topology_of_parts :
-    (d : Data) (p : Plan) (parts : HasParts d p)
+    (w : Bool) (d : Data) (p : Plan) (parts : HasParts w d p)
     → IsTopology (network_of (ticks_of d) parts.known parts.links)
-topology_of_parts d p parts =
+topology_of_parts w d p parts =
     is_topology d (ticks_of d) parts.known parts.links parts.counts parts.nodes_read parts.links_read
 
 script_of_parts :
-    (d : Data) (p : Plan) (parts : HasParts d p)
+    (w : Bool) (d : Data) (p : Plan) (parts : HasParts w d p)
     → ScriptFits (network_of (ticks_of d) parts.known parts.links) parts.script
-script_of_parts d p parts =
+script_of_parts w d p parts =
     let t : Network = network_of (ticks_of d) parts.known parts.links in
-    script_fits t parts.known.names (elements_at (codes "script") d) parts.script
-    (topology_searchable t (topology_of_parts d p parts)) parts.script_read
+    script_fits w t parts.known.names (elements_at (codes "script") d) parts.script
+    (topology_searchable t (topology_of_parts w d p parts)) parts.script_read
 
-pub plan_is_postable : (d : Data) (p : Plan) → IsPlanOf d (Ok p) → ArePostable p.topology [] p.lines
-plan_is_postable d p h =
-    let parts = parts_of_plan d p h in
-    let fit = script_of_parts d p parts in
+pub plan_is_postable : (w : Bool) (d : Data) (p : Plan) → IsPlanOf w d (Ok p) → ArePostable p.topology [] p.lines
+plan_is_postable w d p h =
+    let parts = parts_of_plan w d p h in
+    let fit = script_of_parts w d p parts in
     subst (λ (q : Plan). ArePostable q.topology [] q.lines) parts.plan fit.postable
 
-pub plan_is_named : (d : Data) (p : Plan) → IsPlanOf d (Ok p) → HasNames p
-plan_is_named d p h =
-    let parts = parts_of_plan d p h in
-    let fit = (script_of_parts d p parts).fits in
+pub plan_is_named : (w : Bool) (d : Data) (p : Plan) → IsPlanOf w d (Ok p) → HasNames p
+plan_is_named w d p h =
+    let parts = parts_of_plan w d p h in
+    let fit = (script_of_parts w d p parts).fits in
     subst HasNames parts.plan
     (record {
       nodes = (nodes_fit (elements_at (codes "node") d) parts.known parts.nodes_read).even;
@@ -188,25 +188,25 @@ plan_is_named d p h =
       numbers = below_all (length parts.script.calls.names) (calls_after_lines [] parts.script.lines) fit.below;
     })
 
-plan_finds : (d : Data) (p : Plan) → IsPlanOf d (Ok p) → FindsByName p
-plan_finds d p h =
-    let parts = parts_of_plan d p h in
+plan_finds : (w : Bool) (d : Data) (p : Plan) → IsPlanOf w d (Ok p) → FindsByName p
+plan_finds w d p h =
+    let parts = parts_of_plan w d p h in
     let nodes = nodes_fit (elements_at (codes "node") d) parts.known parts.nodes_read in
     subst FindsByName parts.plan
-    (record { even = nodes.even; nodes = nodes.found; calls = (script_of_parts d p parts).fits.found })
+    (record { even = nodes.even; nodes = nodes.found; calls = (script_of_parts w d p parts).fits.found })
 
-plan_is_valid : (d : Data) (p : Plan) → IsPlanOf d (Ok p) → IsTopology p.topology
-plan_is_valid d p h =
-    let parts = parts_of_plan d p h in
-    subst (λ (q : Plan). IsTopology q.topology) parts.plan (topology_of_parts d p parts)
+plan_is_valid : (w : Bool) (d : Data) (p : Plan) → IsPlanOf w d (Ok p) → IsTopology p.topology
+plan_is_valid w d p h =
+    let parts = parts_of_plan w d p h in
+    subst (λ (q : Plan). IsTopology q.topology) parts.plan (topology_of_parts w d p parts)
 
 -- Plans that bytes spell
 
 -- what holds of the plan of each table
-spelled_has : (Has : Plan → Type 0) → ((d : Data) (p : Plan) → IsPlanOf d (Ok p) → Has p) → (bs : List ℕ)
-    (p : Plan) → PlanOf bs (Ok p) → Has p
-spelled_has Has each bs p (inl spelled) = each (table spelled.0) p spelled.3
-spelled_has Has each bs p (inr fault) = absurd (cc (fault.1))
+spelled_has : (Has : Plan → Type 0) → ((w : Bool) (d : Data) (p : Plan) → IsPlanOf w d (Ok p) → Has p) → (w : Bool)
+    (bs : List ℕ) (p : Plan) → IsSpelled w bs (Ok p) → Has p
+spelled_has Has each w bs p (inl spelled) = each w (table spelled.0) p spelled.3
+spelled_has Has each w bs p (inr fault) = absurd (cc (fault.1))
 
 pub network_valid : EveryNetworkIsATopology
 network_valid = spelled_has (λ p. IsTopology p.topology) plan_is_valid

@@ -26,12 +26,12 @@ all_pass :
 all_pass from to same route backup a b c d e = rw (a, b, c, d, e) refl
 
 over_posts :
-    (t : Network) (calls : CallList) (before : List CallNo) (ws : List (List ℕ)) (protected : Bool) (ids : RouteIds)
+    (t : Network) (calls : CallList) (before : List CallNo) (ws : List (List ℕ)) (f : SetupForm) (ids : RouteIds)
     (from to : NodeId) (c : Command) → is_searchable t ≡ true → AreFitting t calls before
     → is_node_id t.nodes from ≡ true → is_node_id t.nodes to ≡ true
-    → BacksProtected protected (steps_given t from ids.backup) → is_name (word_at ws 1) ≡ true
-    → setup_over t calls ws protected ids from to ≡ Ok c → CanPost t calls before ws c
-over_posts t calls before ws protected ids from to c searchable fit from_known to_known backs named h =
+    → BacksProtected f.protected (steps_given t from ids.backup) → is_name (word_at ws 1) ≡ true
+    → setup_over t calls ws f ids from to ≡ Ok c → CanPost t calls before ws c
+over_posts t calls before ws f ids from to c searchable fit from_known to_known backs named h =
     let via = steps_given t from ids.via in
     let backup = steps_given t from ids.backup in
     let other = passed (from.0 == to.0) _ _ _ h in
@@ -39,12 +39,12 @@ over_posts t calls before ws protected ids from to c searchable fit from_known t
     let few = passed (nat_le MOST_CALLS (length calls.names)) _ _ _ new.1 in
     let routes = both_read (routes_over t from to ids) _ c few.1 in
     let good = good_are t from to via backup routes.0 routes.1 in
-    let same : next_setup calls from to protected routes.0 ≡ c = cc (routes.2) in
-    subst (CanPost t calls before ws) (ap (λ (r : Routes). next_setup calls from to protected r) good.same ∙ same) (
+    let same : next_setup calls from to f routes.0 ≡ c = cc (routes.2) in
+    subst (CanPost t calls before ws) (ap (λ (r : Routes). next_setup calls from to f r) good.same ∙ same) (
       all_pass (is_node_id t.nodes from) (is_node_id t.nodes to) (from.0 == to.0) (has_way t from to via)
-          (has_backup_way t from to protected via backup) from_known to_known other.0
+          (has_backup_way t from to f.protected via backup) from_known to_known other.0
           (way t from to via searchable good.led)
-          (backup_way t from to protected via backup searchable backs good.backed),
+          (backup_way t from to f.protected via backup searchable backs good.backed),
       fresh (length calls.names) before fit.below,
       call_fits t calls before (word_at ws 1) from from_known named new.0 fit,
     )
@@ -62,12 +62,12 @@ setup_posts t names calls before ws f c searchable fit backs h =
   where
     between :
         (ids : RouteIds) → route_ids ws f ≡ Ok ids → is_name (word_at ws 1) ≡ true → (from to : Option NodeId) → node_at t names ws 2 ≡ from
-        → node_at t names ws 3 ≡ to → setup_between t calls ws f.protected ids from to ≡ Ok c
+        → node_at t names ws 3 ≡ to → setup_between t calls ws f ids from to ≡ Ok c
         → CanPost t calls before ws c
     between ids i is None to e g k = absurd (cc (k))
     between ids i is (Some from) None e g k = absurd (cc (k))
     between ids i is (Some from) (Some to) e g k =
-        over_posts t calls before ws f.protected ids from to c searchable fit
+        over_posts t calls before ws f ids from to c searchable fit
         (place_is_known t.nodes (place_of names (word_at ws 2)) from e)
         (place_is_known t.nodes (place_of names (word_at ws 3)) to g)
         (steps_back_protected t from ws f ids backs i) is k

@@ -1,6 +1,6 @@
 -- The routes of a setup: a backup route is that of a protected call, and routes without a fault lead as commands ask.
-use Rattle.std.proofs.Common.{◌≡◌, ◌⊎◌, inl, inr, ℕ, Bool, true, false, ◌||◌, cond, not, List, Ok, refl, sym, ap, ◌∙◌, subst}
-use Rattle.std.specs.Prelude.{Option, Some, None}
+use Rattle.std.proofs.Common.{◌≡◌, ◌+◌, ◌⊎◌, inl, inr, ℕ, Bool, true, false, ◌||◌, cond, not, List, Ok, refl, sym, ap, ◌∙◌, subst}
+use Rattle.std.specs.Prelude.{◌==◌, ◌&&◌, Option, Some, None, codes, length}
 use Rattle.std.proofs.Math.Bool.{or-true}
 use Rattle.ason_base.specs.Network.{Network}
 use Rattle.ason_base.specs.declared.ids.NodeId.{NodeId}
@@ -9,7 +9,7 @@ use Rattle.mesh_rules.specs.Commands.{has_backup_way, has_way, is_searchable}
 use Rattle.plan_reader.specs.declared.forms.SetupForm.{SetupForm}
 use Rattle.plan_reader.specs.declared.setups.RouteIds.{RouteIds}
 use Rattle.plan_reader.specs.declared.setups.Routes.{Routes}
-use Rattle.plan_reader.specs.PlanForms.{form, is_backed_setup, is_protected_setup, is_protected_via, is_unprotected_setup, is_unprotected_via, setup_form}
+use Rattle.plan_reader.specs.PlanForms.{directions_from, form, is_route_word, is_word, routes_from, setup_form}
 use Rattle.plan_reader.specs.PlanSetups.{good_routes, ids_at, is_backed, leads, route_ids, steps_given}
 use Rattle.plan_reader.proofs.Entries.{both_read, passed}
 use Rattle.plan_reader.proofs.SoundNodes.{not_false}
@@ -18,29 +18,43 @@ use Rattle.plan_reader.proofs.SoundNodes.{not_false}
 abbrev pub BacksProtected : {A : Type 0} → Bool → Option A → Type 0
 BacksProtected protected backup = (protected ≡ true) ⊎ (backup ≡ None)
 
-pub form_backs_protected :
-    (ws : List (List ℕ)) (f : SetupForm) → setup_form ws ≡ Some f → BacksProtected f.protected f.backup
-form_backs_protected ws f h =
-    go (is_unprotected_setup ws) (is_unprotected_via ws) (is_protected_setup ws) (is_protected_via ws)
-    (is_backed_setup ws) h
+routes_back : (ws : List (List ℕ)) (k : ℕ) (p both : Bool) (f : SetupForm) → routes_from ws k p both ≡ Some f →
+    BacksProtected f.protected f.backup
+routes_back ws k p both f h =
+    go (length ws == k) (length ws == k + 2 && is_route_word ws k (codes "via"))
+    (length ws == k + 4 && (is_route_word ws k (codes "via") && is_route_word ws (k + 2) (codes "backup"))) p h
   where
     Backs : SetupForm → Type 0
     Backs g = BacksProtected g.protected g.backup
 
-    go :
-        (a b c d e : Bool)
-        → cond a (Some (form false None None))
-        (cond b (Some (form false (Some 6) None))
-        (cond c (Some (form true None None))
-        (cond d (Some (form true (Some 5) None)) (cond e (Some (form true (Some 5) (Some 7))) None)))) ≡ Some f
-        → Backs f
-    go true b c d e k = let same : form false None None ≡ f = cc (k) in subst Backs same (inr refl)
-    go false true c d e k = let same : form false (Some 6) None ≡ f = cc (k) in subst Backs same (inr refl)
-    go false false true d e k = let same : form true None None ≡ f = cc (k) in subst Backs same (inr refl)
-    go false false false true e k = let same : form true (Some 5) None ≡ f = cc (k) in subst Backs same (inr refl)
-    go false false false false true k =
-        let same : form true (Some 5) (Some 7) ≡ f = cc (k) in subst Backs same (inl refl)
-    go false false false false false k = absurd (cc (k))
+    go : (a b c p : Bool) → cond a (Some (form p both None None)) (cond b (Some (form p both (Some (k + 1)) None))
+        (cond (p && c) (Some (form p both (Some (k + 1)) (Some (k + 3)))) None)) ≡ Some f → Backs f
+    go true b c p e = let same : form p both None None ≡ f = cc (e) in subst Backs same (inr refl)
+    go false true c p e = let same : form p both (Some (k + 1)) None ≡ f = cc (e) in subst Backs same (inr refl)
+    go false false true true e =
+        let same : form true both (Some (k + 1)) (Some (k + 3)) ≡ f = cc (e) in subst Backs same (inl refl)
+    go false false true false e = absurd (cc (e))
+    go false false false true e = absurd (cc (e))
+    go false false false false e = absurd (cc (e))
+
+directions_back : (w : Bool) (ws : List (List ℕ)) (k : ℕ) (p : Bool) (f : SetupForm) →
+    directions_from w ws k p ≡ Some f → BacksProtected f.protected f.backup
+directions_back w ws k p f h = go (w && is_word ws k (codes "both")) h
+  where
+    go : (b : Bool) → cond b (routes_from ws (k + 1) p true) (routes_from ws k p false) ≡ Some f →
+        BacksProtected f.protected f.backup
+    go true e = routes_back ws (k + 1) p true f e
+    go false e = routes_back ws k p false f e
+
+pub form_backs_protected : (w : Bool) (ws : List (List ℕ)) (f : SetupForm) → setup_form w ws ≡ Some f →
+    BacksProtected f.protected f.backup
+form_backs_protected w ws f h = go (is_word ws 0 (codes "setup")) (is_word ws 4 (codes "unprotected")) h
+  where
+    go : (a b : Bool) → cond (not a) None (cond b (directions_from w ws 5 false) (directions_from w ws 4 true)) ≡ Some f →
+        BacksProtected f.protected f.backup
+    go false b e = absurd (cc (e))
+    go true true e = directions_back w ws 5 false f e
+    go true false e = directions_back w ws 4 true f e
 
 backup_ids :
     (ws : List (List ℕ)) (f : SetupForm) (ids : RouteIds) → route_ids ws f ≡ Ok ids

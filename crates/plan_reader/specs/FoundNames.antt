@@ -1,9 +1,9 @@
 -- Networks and names of plans that bytes spell.
-use Rattle.std.specs.Prelude.{◌≡◌, ℕ, true, List, Some, Ok, length, slice_get}
+use Rattle.std.specs.Prelude.{◌≡◌, ℕ, Bool, true, List, Some, Ok, length, slice_get}
 use Rattle.ason_base.specs.Network.{IsTopology}
 use Rattle.plan_reader.specs.declared.plan.Plan.{Plan}
 use Rattle.plan_reader.specs.Names.{is_name, place_of}
-use Rattle.plan_reader.specs.Plans.{PlanOf}
+use Rattle.plan_reader.specs.Plans.{IsSpelled}
 
 -- what stands at this place is a name, and is found there
 pub record IsFoundAt (names : List (List ℕ)) (k : ℕ) (text : List ℕ) : Type 0 where
@@ -20,10 +20,11 @@ pub record FindsByName (p : Plan) : Type 0 where
   pub nodes : AreFoundByName p.node_names
   pub calls : AreFoundByName p.call_names
 
--- What holds of each plan
+-- What holds of each plan, where setups may be two-way and where they may not
 
 abbrev pub EveryNetworkIsATopology : Type 0
-EveryNetworkIsATopology = (bs : List ℕ) (p : Plan) → PlanOf bs (Ok p) → IsTopology p.topology
+EveryNetworkIsATopology =
+    (two_way : Bool) (bs : List ℕ) (p : Plan) → IsSpelled two_way bs (Ok p) → IsTopology p.topology
 
 abbrev pub EveryNameIsFound : Type 0
-EveryNameIsFound = (bs : List ℕ) (p : Plan) → PlanOf bs (Ok p) → FindsByName p
+EveryNameIsFound = (two_way : Bool) (bs : List ℕ) (p : Plan) → IsSpelled two_way bs (Ok p) → FindsByName p

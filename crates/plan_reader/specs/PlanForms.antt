@@ -1,5 +1,5 @@
 -- Which words make a line of a script.
-use Rattle.std.specs.Prelude.{ℕ, ◌==◌, ◌&&◌, ◌||◌, Bool, false, true, List, length, codes, Option, Some, None, if◌then◌else◌}
+use Rattle.std.specs.Prelude.{◌+◌, ℕ, ◌==◌, ◌&&◌, ◌||◌, Bool, false, true, List, length, codes, Option, Some, None, if◌then◌else◌, not}
 use Rattle.ason_base.specs.declared.commands.DisturbKind.{DisturbKind}
 use Rattle.ason_base.specs.declared.commands.DisturbKind.TheVariants as disturbs
 use Rattle.ason_base.specs.Numerals.{is_numeral}
@@ -25,43 +25,38 @@ are_numbers_word ws k = are_numbers (word_at ws k)
 
 -- Setups
 
--- `setup NAME FROM TO unprotected`
-abbrev pub is_unprotected_setup : List (List ℕ) → Bool
-is_unprotected_setup ws = begins ws (codes "setup") 5 && is_word ws 4 (codes "unprotected")
+-- whether a setup's call is protected, whether it is two-way, and the places of the words that give its routes
+abbrev pub form : Bool → Bool → Option ℕ → Option ℕ → SetupForm
+form protected both via backup = record { protected = protected; both = both; via = via; backup = backup }
 
--- `setup NAME FROM TO unprotected via L,..`
-abbrev pub is_unprotected_via : List (List ℕ) → Bool
-is_unprotected_via ws =
-    begins ws (codes "setup") 7
-    && (is_word ws 4 (codes "unprotected") && (is_word ws 5 (codes "via") && are_numbers_word ws 6))
+-- this word, and behind it `L,..`
+abbrev pub is_route_word : List (List ℕ) → ℕ → List ℕ → Bool
+is_route_word ws k text = is_word ws k text && are_numbers_word ws (k + 1)
 
--- `setup NAME FROM TO`
-abbrev pub is_protected_setup : List (List ℕ) → Bool
-is_protected_setup ws = begins ws (codes "setup") 4
-
--- `setup NAME FROM TO via L,..`
-abbrev pub is_protected_via : List (List ℕ) → Bool
-is_protected_via ws = begins ws (codes "setup") 6 && (is_word ws 4 (codes "via") && are_numbers_word ws 5)
-
--- `setup NAME FROM TO via L,.. backup L,..`
-abbrev pub is_backed_setup : List (List ℕ) → Bool
-is_backed_setup ws =
-    begins ws (codes "setup") 8
-    && (is_word ws 4 (codes "via")
-    && (are_numbers_word ws 5 && (is_word ws 6 (codes "backup") && are_numbers_word ws 7)))
-
-abbrev pub form : Bool → Option ℕ → Option ℕ → SetupForm
-form protected via backup = record { protected = protected; via = via; backup = backup }
-
--- whether a setup's call is protected, and the places of the words that give its routes; none of another line
-abbrev pub setup_form : List (List ℕ) → Option SetupForm
-setup_form ws =
-    if is_unprotected_setup ws then Some (form false None None)
-    else if is_unprotected_via ws then Some (form false (Some 6) None)
-    else if is_protected_setup ws then Some (form true None None)
-    else if is_protected_via ws then Some (form true (Some 5) None)
-    else if is_backed_setup ws then Some (form true (Some 5) (Some 7))
+-- `[via L,..]` from this place on to the end, or of a protected call `via L,.. backup L,..`
+abbrev pub routes_from : List (List ℕ) → ℕ → Bool → Bool → Option SetupForm
+routes_from ws k protected both =
+    if length ws == k then Some (form protected both None None)
+    else if length ws == k + 2 && is_route_word ws k (codes "via")
+    then Some (form protected both (Some (k + 1)) None)
+    else if protected && (length ws == k + 4
+    && (is_route_word ws k (codes "via") && is_route_word ws (k + 2) (codes "backup")))
+    then Some (form protected both (Some (k + 1)) (Some (k + 3)))
     else None
+
+-- `[both]` at this place, and then the routes
+abbrev pub directions_from : Bool → List (List ℕ) → ℕ → Bool → Option SetupForm
+directions_from two_way ws k protected =
+    if two_way && is_word ws k (codes "both") then routes_from ws (k + 1) protected true
+    else routes_from ws k protected false
+
+-- `setup NAME FROM TO [unprotected] [both] ..`, where calls may be two-way, and else without the word `both`; none of
+-- another line
+abbrev pub setup_form : Bool → List (List ℕ) → Option SetupForm
+setup_form two_way ws =
+    if not (is_word ws 0 (codes "setup")) then None
+    else if is_word ws 4 (codes "unprotected") then directions_from two_way ws 5 false
+    else directions_from two_way ws 4 true
 
 -- Other commands
 

@@ -1,5 +1,5 @@
 -- The script of a plan: which lines there are, and what each says or its first fault.
-use Rattle.std.specs.Prelude.{◌≡◌, ◌⊎◌, ℕ, ◌++◌, List, [], ◌∷◌, Option, Some, None, Result, Ok, Err, if◌then◌else◌}
+use Rattle.std.specs.Prelude.{◌≡◌, ◌⊎◌, ℕ, ◌++◌, List, [], ◌∷◌, Option, Some, None, Result, Ok, Err, if◌then◌else◌, Bool}
 use Rattle.toml.specs.Data.{Data}
 use Rattle.ason_base.specs.Network.{Network}
 use Rattle.ason_base.specs.declared.commands.Command.{Command}
@@ -67,9 +67,9 @@ abbrev pub line_as :
 line_as t names calls ws None = other_line t names calls ws
 line_as t names calls ws (Some form) = posted (setup_of t names calls ws form)
 
--- what a line says, or its first fault
-abbrev pub line_of : Network → List (List ℕ) → CallList → List (List ℕ) → Result Line PlanKind
-line_of t names calls ws = line_as t names calls ws (setup_form ws)
+-- what a line says, or its first fault; a setup may be two-way or not
+abbrev pub line_of : Bool → Network → List (List ℕ) → CallList → List (List ℕ) → Result Line PlanKind
+line_of two_way t names calls ws = line_as t names calls ws (setup_form two_way ws)
 
 abbrev pub no_script : Script
 no_script = record { calls = no_calls; lines = [] }
@@ -111,10 +111,11 @@ IsRead (Ok line) r = IsReadWith (bytes_of line) line r
 IsRead (Err kind) r = r ≡ Err kind
 
 -- a line of these words behind those before it, or its first fault
-abbrev pub AddsWords : Network → List (List ℕ) → Script → List (List ℕ) → Result Script PlanKind → Type 0
-AddsWords t names before ws r =
-    (line : Result Line PlanKind) × IsRead (line_of t names before.calls ws) line × (r ≡ put_behind before ws line)
+abbrev pub AddsWords : Bool → Network → List (List ℕ) → Script → List (List ℕ) → Result Script PlanKind → Type 0
+AddsWords two_way t names before ws r =
+    (line : Result Line PlanKind) × IsRead (line_of two_way t names before.calls ws) line
+    × (r ≡ put_behind before ws line)
 
 -- a line behind those before it, or its first fault
-abbrev pub AddsLine : Network → List (List ℕ) → Script → Data → Result Script PlanKind → Type 0
-AddsLine t names before d r = AddsWords t names before (words_of (text_of d)) r
+abbrev pub AddsLine : Bool → Network → List (List ℕ) → Script → Data → Result Script PlanKind → Type 0
+AddsLine two_way t names before d r = AddsWords two_way t names before (words_of (text_of d)) r

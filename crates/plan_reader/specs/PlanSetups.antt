@@ -1,5 +1,5 @@
 -- The setups of a script: what each says or its first fault.
-use Rattle.std.specs.Prelude.{ℕ, ◌==◌, ◌||◌, nat_le, Bool, false, true, not, List, [], ◌∷◌, length, Option, Some, None, Result, Ok, Err, option_map, unwrap_or, if◌then◌else◌}
+use Rattle.std.specs.Prelude.{ℕ, ◌==◌, ◌||◌, nat_le, Bool, true, not, List, [], ◌∷◌, length, Option, Some, None, Result, Ok, Err, option_map, unwrap_or, if◌then◌else◌}
 use Rattle.ason_base.specs.Network.{Network, find_link}
 use Rattle.ason_base.specs.declared.ids.NodeId.{NodeId}
 use Rattle.ason_base.specs.declared.steps.Step.{Step}
@@ -77,31 +77,32 @@ abbrev pub node_at : Network → List (List ℕ) → List (List ℕ) → ℕ →
 node_at t names ws k = node_named names t.nodes (word_at ws k)
 
 -- the setup of the next call
-abbrev pub next_setup : CallList → NodeId → NodeId → Bool → Routes → Command
-next_setup calls from to protected routes =
-    Setup (record { 0 = length calls.names }) from to protected false routes.via routes.backup
+abbrev pub next_setup : CallList → NodeId → NodeId → SetupForm → Routes → Command
+next_setup calls from to form routes =
+    Setup (record { 0 = length calls.names }) from to form.protected form.both routes.via routes.backup
 
 abbrev pub setup_over :
-    Network → CallList → List (List ℕ) → Bool → RouteIds → NodeId → NodeId → Result Command PlanKind
-setup_over t calls ws protected ids from to =
+    Network → CallList → List (List ℕ) → SetupForm → RouteIds → NodeId → NodeId → Result Command PlanKind
+setup_over t calls ws form ids from to =
     if from.0 == to.0 then Err kinds.Same
     else if has_name calls.names (word_at ws 1) then Err kinds.Call
     else if nat_le MOST_CALLS (length calls.names) then Err kinds.Count
-    else and_then (routes_over t from to ids) (λ routes. Ok (next_setup calls from to protected routes))
+    else and_then (routes_over t from to ids) (λ routes. Ok (next_setup calls from to form routes))
 
 abbrev pub setup_between :
-    Network → CallList → List (List ℕ) → Bool → RouteIds → Option NodeId → Option NodeId → Result Command PlanKind
-setup_between t calls ws protected ids None to = Err kinds.Node
-setup_between t calls ws protected ids (Some from) None = Err kinds.Node
-setup_between t calls ws protected ids (Some from) (Some to) = setup_over t calls ws protected ids from to
+    Network → CallList → List (List ℕ) → SetupForm → RouteIds → Option NodeId → Option NodeId →
+    Result Command PlanKind
+setup_between t calls ws form ids None to = Err kinds.Node
+setup_between t calls ws form ids (Some from) None = Err kinds.Node
+setup_between t calls ws form ids (Some from) (Some to) = setup_over t calls ws form ids from to
 
 abbrev pub setup_with :
-    Network → List (List ℕ) → CallList → List (List ℕ) → Bool → RouteIds → Result Command PlanKind
-setup_with t names calls ws protected ids =
+    Network → List (List ℕ) → CallList → List (List ℕ) → SetupForm → RouteIds → Result Command PlanKind
+setup_with t names calls ws form ids =
     if not (is_name (word_at ws 1)) then Err kinds.Name
-    else setup_between t calls ws protected ids (node_at t names ws 2) (node_at t names ws 3)
+    else setup_between t calls ws form ids (node_at t names ws 2) (node_at t names ws 3)
 
 -- a setup of this form, or its first fault
 abbrev pub setup_of : Network → List (List ℕ) → CallList → List (List ℕ) → SetupForm → Result Command PlanKind
 setup_of t names calls ws form =
-    and_then (route_ids ws form) (λ ids. setup_with t names calls ws form.protected ids)
+    and_then (route_ids ws form) (λ ids. setup_with t names calls ws form ids)

@@ -1,5 +1,5 @@
 -- What plan bytes spell, or their first fault.
-use Rattle.std.specs.Prelude.{◌≡◌, ◌<◌, ◌≤◌, ◌⊎◌, ℕ, All, fold, length, true, false, List, [], ◌∷◌, ◌++◌, codes, Option, Some, None, Result, Ok, Err}
+use Rattle.std.specs.Prelude.{◌≡◌, ◌<◌, ◌≤◌, ◌⊎◌, ℕ, All, fold, length, true, false, List, [], ◌∷◌, ◌++◌, codes, Option, Some, None, Result, Ok, Err, Bool}
 use Rattle.std.specs.Str.{IsUtf8}
 use Rattle.toml.specs.Data.{Data, Members, table}
 use Rattle.toml.specs.Parse.{parse_document}
@@ -36,8 +36,9 @@ nodes_of ds = read_all Node with_node 1 no_nodes ds
 abbrev pub links_of : NodeList → List Data → Result (List LinkSpec) PlanFault
 links_of known ds = read_all Link (with_link known) 1 [] ds
 
-abbrev pub IsScriptOf : Network → List (List ℕ) → List Data → Result Script PlanFault → Type 0
-IsScriptOf t names ds r = AreRead PlanEntry.Script (AddsLine t names) 1 no_script ds r
+-- where the script's setups may be two-way, or may not
+abbrev pub IsScriptOf : Bool → Network → List (List ℕ) → List Data → Result Script PlanFault → Type 0
+IsScriptOf two_way t names ds r = AreRead PlanEntry.Script (AddsLine two_way t names) 1 no_script ds r
 
 abbrev pub network_of : ℕ → NodeList → List LinkSpec → Network
 network_of wait known links = record { wait = wait; nodes = known.nodes; links = links }
@@ -55,40 +56,48 @@ abbrev pub plan_over : Data → NodeList → List LinkSpec → Result Script Pla
 plan_over d known links script = and_then script (λ s. Ok (plan_with (ticks_of d) known links s))
 
 -- the plan of these nodes and links with the script of the table, or the script's first fault
-abbrev pub IsPlanOver : Data → NodeList → List LinkSpec → Result Plan PlanFault → Type 0
-IsPlanOver d known links r =
+abbrev pub IsPlanOver : Bool → Data → NodeList → List LinkSpec → Result Plan PlanFault → Type 0
+IsPlanOver two_way d known links r =
     (script : Result Script PlanFault)
-    × IsScriptOf (network_of (ticks_of d) known links) known.names (elements_at (codes "script") d) script
+    × IsScriptOf two_way (network_of (ticks_of d) known links) known.names (elements_at (codes "script") d) script
     × (r ≡ plan_over d known links script)
 
 -- the plan of the nodes, the links and the script of the table, or their first fault
-abbrev pub IsPlanOfParts : Data → Result Plan PlanFault → Type 0
-IsPlanOfParts d r =
+abbrev pub IsPlanOfParts : Bool → Data → Result Plan PlanFault → Type 0
+IsPlanOfParts two_way d r =
     AndThen (nodes_of (elements_at (codes "node") d))
-    (λ known. AndThen (links_of known (elements_at (codes "link") d)) (IsPlanOver d known)) r
+    (λ known. AndThen (links_of known (elements_at (codes "link") d)) (IsPlanOver two_way d known)) r
 
 abbrev pub UnlessFault : Option PlanKind → (Result Plan PlanFault → Type 0) → Result Plan PlanFault → Type 0
 UnlessFault None Is r = Is r
 UnlessFault (Some kind) Is r = r ≡ Err (record { entry = Top; kind = kind })
 
 -- the plan, or its first fault: the top, then the nodes, the links and the script lines, each in order
-abbrev pub IsPlanOf : Data → Result Plan PlanFault → Type 0
-IsPlanOf d r = UnlessFault (top_kind d) (IsPlanOfParts d) r
+abbrev pub IsPlanOf : Bool → Data → Result Plan PlanFault → Type 0
+IsPlanOf two_way d r = UnlessFault (top_kind d) (IsPlanOfParts two_way d) r
 
 abbrev pub not_toml : PlanFault
 not_toml = record { entry = Toml; kind = Syntax }
 
--- The bytes are UTF-8 and a TOML document with that plan or first fault; or they are none, and that is the fault
-abbrev pub PlanOf : List ℕ → Result Plan PlanFault → Type 0
-PlanOf bs r =
-    ((ms : Members) × IsUtf8 bs × (parse_document bs ≡ Some ms) × IsPlanOf (table ms) r)
+-- The bytes are UTF-8 and a TOML document with that plan or first fault; or they are none, and that is the fault. Where
+-- setups may not be two-way, no line has the word `both`.
+abbrev pub IsSpelled : Bool → List ℕ → Result Plan PlanFault → Type 0
+IsSpelled two_way bs r =
+    ((ms : Members) × IsUtf8 bs × (parse_document bs ≡ Some ms) × IsPlanOf two_way (table ms) r)
     ⊎ ((IsUtf8 bs → parse_document bs ≡ None) × (r ≡ Err not_toml))
 
--- what `read_plan` answers; want of memory may come at any time
-abbrev pub Answers : List ℕ → Result Plan PlanError → Type 0
-Answers bs (Ok p) = PlanOf bs (Ok p)
-Answers bs (Err (Fault f)) = PlanOf bs (Err f)
-Answers bs (Err OutOfMemory) = Unit {0}
+abbrev pub PlanOf : List ℕ → Result Plan PlanFault → Type 0
+PlanOf bs r = IsSpelled true bs r
+
+-- the plan of bytes from before there were two-way setups
+abbrev pub FirstPlanOf : List ℕ → Result Plan PlanFault → Type 0
+FirstPlanOf bs r = IsSpelled false bs r
+
+-- what `read_plan` and `read_plan_1` answer; want of memory may come at any time
+abbrev pub Answers : Bool → List ℕ → Result Plan PlanError → Type 0
+Answers two_way bs (Ok p) = IsSpelled two_way bs (Ok p)
+Answers two_way bs (Err (Fault f)) = IsSpelled two_way bs (Err f)
+Answers two_way bs (Err OutOfMemory) = Unit {0}
 
 -- Lines that can be posted
 

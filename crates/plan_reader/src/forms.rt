@@ -1,8 +1,8 @@
 //! Which words make a line of a script.
 
-ghost use Rattle.std.specs.Prelude.{◌≡◌};
+ghost use Rattle.std.specs.Prelude.{◌≡◌, ◌≤◌};
 ghost use Rattle.plan_reader.specs.PlanTexts.{texts};
-ghost use Rattle.plan_reader.specs.PlanForms.{are_numbers_word, begins, command_form, disturb_form, form, is_backed_setup, is_disturb, is_fail, is_group_line, is_noise, is_number_word, is_protect, is_protected_setup, is_protected_via, is_release, is_repair, is_retry, is_revert, is_settle, is_show, is_unprotected_setup, is_unprotected_via, is_wait, is_word, setup_form};
+ghost use Rattle.plan_reader.specs.PlanForms.{are_numbers_word, begins, command_form, directions_from, disturb_form, form, is_disturb, is_fail, is_group_line, is_noise, is_number_word, is_protect, is_release, is_repair, is_retry, is_revert, is_route_word, is_settle, is_show, is_wait, is_word, routes_from, setup_form};
 
 use crate::words::{are_numbers, word};
 use ason_base::{DisturbKind, is_numeral};
@@ -35,82 +35,78 @@ fn are_numbers_word(words: &[&[u8]], k: usize) -> bool
 
 // Setups
 
-// `setup NAME FROM TO unprotected`
-fn is_unprotected_setup(words: &[&[u8]]) -> bool
-    ensures { result ≡ is_unprotected_setup (texts words.now) }
-{
-    begins(words, "setup", 5) && is_word(words, 4, "unprotected")
-}
-
-// `setup NAME FROM TO unprotected via L,..`
-fn is_unprotected_via(words: &[&[u8]]) -> bool
-    ensures { result ≡ is_unprotected_via (texts words.now) }
-{
-    begins(words, "setup", 7)
-        && is_word(words, 4, "unprotected")
-        && is_word(words, 5, "via")
-        && are_numbers_word(words, 6)
-}
-
-// `setup NAME FROM TO`
-fn is_protected_setup(words: &[&[u8]]) -> bool
-    ensures { result ≡ is_protected_setup (texts words.now) }
-{
-    begins(words, "setup", 4)
-}
-
-// `setup NAME FROM TO via L,..`
-fn is_protected_via(words: &[&[u8]]) -> bool
-    ensures { result ≡ is_protected_via (texts words.now) }
-{
-    begins(words, "setup", 6) && is_word(words, 4, "via") && are_numbers_word(words, 5)
-}
-
-// `setup NAME FROM TO via L,.. backup L,..`
-fn is_backed_setup(words: &[&[u8]]) -> bool
-    ensures { result ≡ is_backed_setup (texts words.now) }
-{
-    begins(words, "setup", 8)
-        && is_word(words, 4, "via")
-        && are_numbers_word(words, 5)
-        && is_word(words, 6, "backup")
-        && are_numbers_word(words, 7)
-}
-
-/// A setup: whether its call is protected, and the places of the words that give its routes, from 0, where these are given.
+/// A setup: whether its call is protected, whether it is two-way, and the places of the words that give its routes, from 0,
+/// where these are given.
 #[derive(Clone, Copy)]
 pub struct SetupForm {
     pub protected: bool,
+    pub both: bool,
     pub via: Option<usize>,
     pub backup: Option<usize>,
 }
 
-fn form(protected: bool, via: Option<usize>, backup: Option<usize>) -> SetupForm
-    ensures { result ≡ form protected via backup }
+fn form(protected: bool, both: bool, via: Option<usize>, backup: Option<usize>) -> SetupForm
+    ensures { result ≡ form protected both via backup }
 {
     SetupForm {
         protected,
+        both,
         via,
         backup,
     }
 }
 
-/// The form of a setup; none of another line.
-pub fn setup_form(words: &[&[u8]]) -> Option<SetupForm>
-    ensures { result ≡ setup_form (texts words.now) }
+// This word, and behind it `L,..`
+fn is_route_word(words: &[&[u8]], k: usize, text: &str) -> bool
+    requires { k ≤ 9 }
+    ensures { result ≡ is_route_word (texts words.now) k text.now }
 {
-    if is_unprotected_setup(words) {
-        Some(form(false, None, None))
-    } else if is_unprotected_via(words) {
-        Some(form(false, Some(6), None))
-    } else if is_protected_setup(words) {
-        Some(form(true, None, None))
-    } else if is_protected_via(words) {
-        Some(form(true, Some(5), None))
-    } else if is_backed_setup(words) {
-        Some(form(true, Some(5), Some(7)))
+    is_word(words, k, text) && are_numbers_word(words, k + 1)
+}
+
+// `[via L,..]` from this place on to the end, or of a protected call `via L,.. backup L,..`
+fn routes_from(words: &[&[u8]], k: usize, protected: bool, both: bool) -> Option<SetupForm>
+    requires { k ≤ 6 }
+    ensures { result ≡ routes_from (texts words.now) k protected both }
+{
+    let count = words.len();
+    if count == k {
+        Some(form(protected, both, None, None))
+    } else if count == k + 2 && is_route_word(words, k, "via") {
+        Some(form(protected, both, Some(k + 1), None))
+    } else if protected
+        && count == k + 4
+        && is_route_word(words, k, "via")
+        && is_route_word(words, k + 2, "backup")
+    {
+        Some(form(protected, both, Some(k + 1), Some(k + 3)))
     } else {
         None
+    }
+}
+
+// `[both]` at this place, and then the routes.
+fn directions_from(two_way: bool, words: &[&[u8]], k: usize, protected: bool) -> Option<SetupForm>
+    requires { k ≤ 5 }
+    ensures { result ≡ directions_from two_way (texts words.now) k protected }
+{
+    if two_way && is_word(words, k, "both") {
+        routes_from(words, k + 1, protected, true)
+    } else {
+        routes_from(words, k, protected, false)
+    }
+}
+
+/// The form of a setup, with the word `both` only where calls may be two-way; none of another line.
+pub fn setup_form(two_way: bool, words: &[&[u8]]) -> Option<SetupForm>
+    ensures { result ≡ setup_form two_way (texts words.now) }
+{
+    if !is_word(words, 0, "setup") {
+        None
+    } else if is_word(words, 4, "unprotected") {
+        directions_from(two_way, words, 5, false)
+    } else {
+        directions_from(two_way, words, 4, true)
     }
 }
 

@@ -26,4 +26,4 @@ pub use lines::{Line, Lines};
 pub use names::{Name, Names, is_name};
 pub use nodes::node_named;
 pub use plan::Plan;
-pub use reader::read_plan;
+pub use reader::{read_plan, read_plan_1};

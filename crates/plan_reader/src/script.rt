@@ -112,12 +112,15 @@ fn read_line(
     names: &Names,
     calls: &mut Calls,
     words: &[&[u8]],
+    two_way: bool,
 ) -> Result<Line, EntryError>
-    ensures line { IfOk result (λ l. line_of t.now names.now calls.old (texts words.now) ≡ Ok l) }
+    ensures line { IfOk result
+        (λ l. line_of two_way t.now names.now calls.old (texts words.now) ≡ Ok l) }
     ensures calls { IfOk result (λ l. calls.new ≡ calls_with_line calls.old (texts words.now) l) }
-    ensures fault { FailsBy result (line_of t.now names.now calls.old (texts words.now)) }
+    ensures fault { FailsBy result
+        (line_of two_way t.now names.now calls.old (texts words.now)) }
 {
-    match setup_form(words) {
+    match setup_form(two_way, words) {
         None => read_other_line(alloc, t, names, calls, words),
         Some(form) => {
             let command = read_setup(alloc, t, names, calls, words, form)?;
@@ -151,12 +154,14 @@ fn read_words(
     names: &Names,
     read: &mut Script,
     words: &[&[u8]],
+    two_way: bool,
 ) -> Result<(), EntryError>
-    ensures ok { OnOk result (AddsWords t.now names.now read.old (texts words.now) (Ok read.new)) }
+    ensures ok { OnOk result
+        (AddsWords two_way t.now names.now read.old (texts words.now) (Ok read.new)) }
     ensures fault { FailsWith result
-        (λ k. AddsWords t.now names.now read.old (texts words.now) (Err k)) }
+        (λ k. AddsWords two_way t.now names.now read.old (texts words.now) (Err k)) }
 {
-    let line = read_line(alloc, t, names, &mut read.calls, words)?;
+    let line = read_line(alloc, t, names, &mut read.calls, words, two_way)?;
     check_line(alloc, &line)?;
     read.lines.push(line)?;
     Ok(())
@@ -169,32 +174,37 @@ fn read_text(
     names: &Names,
     read: &mut Script,
     value: &Value,
+    two_way: bool,
 ) -> Result<(), EntryError>
-    ensures ok { OnOk result (AddsLine t.now names.now read.old (view value.now) (Ok read.new)) }
+    ensures ok { OnOk result
+        (AddsLine two_way t.now names.now read.old (view value.now) (Ok read.new)) }
     ensures fault { FailsWith result
-        (λ k. AddsLine t.now names.now read.old (view value.now) (Err k)) }
+        (λ k. AddsLine two_way t.now names.now read.old (view value.now) (Err k)) }
 {
     let words = words_of(alloc, text_of(value))?;
-    read_words(alloc, t, names, read, &words)
+    read_words(alloc, t, names, read, &words, two_way)
 }
 
-/// Reads the lines, or gives the first fault.
+/// Reads the lines, or gives the first fault. A setup may be two-way, or not.
 pub fn read_script(
     alloc: Global,
     t: &Topology,
     names: &Names,
     values: &[Value],
+    two_way: bool,
 ) -> Result<Script, PlanError>
     requires { length values.now ≤ MOST_LINES }
-    ensures script { IfOk result (λ s. IsScriptOf t.now names.now (views values.now) (Ok s)) }
-    ensures fault { FailsAs result (λ f. IsScriptOf t.now names.now (views values.now) (Err f)) }
+    ensures script { IfOk result
+        (λ s. IsScriptOf two_way t.now names.now (views values.now) (Ok s)) }
+    ensures fault { FailsAs result
+        (λ f. IsScriptOf two_way t.now names.now (views values.now) (Err f)) }
 {
     let mut script = Script {
         calls: Calls::new(alloc),
         lines: Lines::new(alloc),
     };
     'reading: for i in 0..values.len() {
-        if let Err(error) = read_text(alloc, t, names, &mut script, &values[i]) {
+        if let Err(error) = read_text(alloc, t, names, &mut script, &values[i], two_way) {
             return Err(error_at(PlanEntry::Script(i as u32 + 1), error));
         }
     }

@@ -208,7 +208,7 @@ pub fn read_setup(
         from,
         to,
         protected: form.protected,
-        both: false,
+        both: form.both,
         via: routes.via,
         backup: routes.backup,
     })

@@ -19,7 +19,7 @@ use Rattle.resv_state.specs.Answers.{answered_here, removed_here}
 
 -- Resv
 
-answered-by : (t : LegTable) (next : ℕ) (a : Arrival) (x : ℕ) (g : Leg) (o : Option Neighbour) →
+pub answered-by : (t : LegTable) (next : ℕ) (a : Arrival) (x : ℕ) (g : Leg) (o : Option Neighbour) →
     answered (local_of t) (legs_state t) a x g o ≡ answered (local_of t) (next_state t next) a x g o
 answered-by t next a x g None = refl
 answered-by t next a x g (Some h) = refl

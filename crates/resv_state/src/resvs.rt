@@ -2,7 +2,7 @@
 
 ghost use Rattle.std.specs.Prelude.{◌≡◌, [], IfOk, IsTrue, None, Some};
 ghost use Rattle.mesh_rules.specs.Changes.{puts};
-ghost use Rattle.mesh_rules.specs.Legs.{connected, find_leg, label_through};
+ghost use Rattle.mesh_rules.specs.Legs.{connected, find_leg};
 ghost use Rattle.mesh_rules.specs.Resvs.{is_expected, label_passed, torn_both_ways};
 ghost use Rattle.leg_table.specs.Fits.{TablesFit};
 ghost use Rattle.leg_table.specs.LegClaims.{is_fibre_in};
@@ -11,7 +11,7 @@ ghost use Rattle.resv_state.specs.Answers.{answered_here, begins_here, connects,
 
 use ason_base::codes::LABEL;
 use ason_base::{Label, LabelSet, Leg, LinkId, Lsp, Msg, NodeId, OutOfMemory};
-use leg_labels::usable;
+use leg_labels::{label_through, usable};
 use leg_table::one_leg::{closed, connected, following, is_asked, is_over, previous};
 use leg_table::{Change, NodeTables};
 use link_owner::Owner;
@@ -43,18 +43,6 @@ fn expects(arrival: Arrival, label: Label, leg: &Leg) -> bool
     is_asked(leg.phase)
         && is_over(following(leg), arrival.from, arrival.link)
         && leg.sent.has(label)
-}
-
-fn label_through(tables: &NodeTables, labels: &LabelSet, label: Label) -> Option<Label>
-    ensures { result ≡ label_through (local_of tables.now) labels.now label }
-{
-    if tables.node().convert {
-        labels.least()
-    } else if labels.has(label) {
-        Some(label)
-    } else {
-        None
-    }
 }
 
 // No label is left: the LSP is torn towards the egress, and the ingress is told.

@@ -1,21 +1,19 @@
 -- What an answer by which calls go back leaves as it was, whatever stands when it comes: calls name their LSPs by their
--- roles, backups alone are Armed, and the legs that begin here, which it changes, take no label.
+-- roles, and backups alone are Armed.
 use Rattle.std.proofs.Common.{◌≡◌, ℕ, Bool, true, false, cond, not, nat_eq, nat_le, List, [], ◌∷◌, ◌++◌, refl, sym, ap, subst, ◌∙◌, arith}
-use Rattle.std.specs.Prelude.{◌+◌, ◌&&◌, Option, Some, None, IfSome, IsSome}
+use Rattle.std.specs.Prelude.{◌+◌, ◌&&◌, Option, Some, None, IfSome}
 use Rattle.std.specs.List.{AllByRecursion}
 use Rattle.ason_base.specs.Lsps.{same_lsp}
 use Rattle.ason_base.specs.declared.calls.Phase.{Phase}
 use Rattle.ason_base.specs.declared.calls.Phase.TheVariants.{Held}
-use Rattle.ason_base.specs.declared.calls.Role.{Role}
 use Rattle.ason_base.specs.declared.calls.Role.TheVariants.{Work, Back}
 use Rattle.ason_base.specs.declared.ids.Lsp.{Lsp}
 use Rattle.ason_base.specs.declared.tables.CallRec.{CallRec}
 use Rattle.ason_base.specs.declared.tables.Leg.{Leg}
 use Rattle.ason_base.specs.declared.tables.Out.{Out}
-use Rattle.mesh_rules.specs.declared.changes.LegChange.{LegChange}
 use Rattle.mesh_rules.specs.Calls.{calls_changed, guarded, is_turned, with_call}
 use Rattle.mesh_rules.specs.Changes.{Answer, followed_by, nothing, puts}
-use Rattle.mesh_rules.specs.Legs.{find_leg, following, is_in_use, leg_changed, leg_of, legs_changed, with_leg, with_phase}
+use Rattle.mesh_rules.specs.Legs.{find_leg, following, is_in_use, leg_of, legs_changed, with_leg, with_phase}
 use Rattle.mesh_rules.specs.LocalNodes.{LocalNode}
 use Rattle.mesh_rules.specs.State.{NodeState}
 use Rattle.mesh_rules.specs.Turns.{call_put, decide, go_back, has_any, taking_path}
@@ -24,52 +22,36 @@ use Rattle.mesh_rules.proofs.ChangeLists.{calls-then, legs-then}
 use Rattle.mesh_nodes.proofs.CallList.{all-with_call}
 use Rattle.mesh_nodes.proofs.Cases.{if_cases}
 use Rattle.mesh_nodes.proofs.LegList.{all-with_leg, find-with_leg, same_lsp-eq}
-use Rattle.leg_table.specs.LegClaims.{MayAllStay, StaysAs, taken}
-use Rattle.leg_labels.proofs.CallLegs.{alone-never}
 use Rattle.call_control.specs.Ingress.{AllNameByRole, IsArmedAsBackup, NamesByRole, role_at}
 use Rattle.call_control.proofs.Decisions.{phase_put, turned-has}
 use Rattle.call_control.proofs.Named.{Begins, leg_of-begins}
 use Rattle.call_control.proofs.Roles.{RolesStay, calls-stay, changed-stay, lsp-stays}
-use Rattle.reversion.proofs.Alone.{BeginAlone, alone-with, back-alone, none-taken}
-
--- one change after the other
-stay-append : (legs : List Leg) (xs ys : List LegChange) → MayAllStay legs xs → MayAllStay (legs_changed xs legs) ys →
-    MayAllStay legs (xs ++ ys)
-stay-append legs [] ys first then = then
-stay-append legs (x ∷ xs) ys first then = (first.0, stay-append (leg_changed x legs) xs ys first.1 then)
-
-stands-with : (o : Option Leg) (r : Role) → role_at o ≡ Some r → IsSome o
-stands-with None r e = absurd (cc e)
-stands-with (Some g) r e = refl
 
 -- s is what the answer reads
-module _ (p : LocalNode) (s : NodeState) (all : AllNameByRole p s) (alone : BeginAlone p s.legs)
+module _ (p : LocalNode) (s : NodeState) (all : AllNameByRole p s)
     (armed : AllByRecursion (IsArmedAsBackup p.id.0) s.legs) where
   abbrev Names : CallRec → Type 0
   Names c = NamesByRole p.id.0 s.lsp s.legs c
 
   -- the leg of a backup that begins here
   abbrev pub BackHere : Leg → Type 0
-  BackHere b = Begins p s.legs Back b × (b.in_fibre ≡ None)
+  BackHere b = Begins p s.legs Back b
 
   -- these legs and calls do, and the LSPs that had a leg have one of its role
   pub record Stand (legs : List Leg) (calls : List CallRec) : Type 0 where
     pub names : AllByRecursion (NamesByRole p.id.0 s.lsp legs) calls
-    pub single : BeginAlone p legs
     pub backs : AllByRecursion (IsArmedAsBackup p.id.0) legs
     pub roles : (l : Lsp) → role_at (find_leg l legs) ≡ role_at (find_leg l s.legs)
 
   pub record Leaves (a : Answer) : Type 0 where
     pub numbers : a.numbers ≡ None
     pub no_down : a.down ≡ None
-    pub stay : (legs : List Leg) (calls : List CallRec) → Stand legs calls → MayAllStay legs a.legs
     pub stands : (legs : List Leg) (calls : List CallRec) → Stand legs calls →
         Stand (legs_changed a.legs legs) (calls_changed a.calls calls)
 
   pub at-start : Stand s.legs s.calls
   at-start = record {
     names = all;
-    single = alone;
     backs = armed;
     roles = λ l. refl;
   }
@@ -91,7 +73,6 @@ module _ (p : LocalNode) (s : NodeState) (all : AllNameByRole p s) (alone : Begi
               work = lsp-stays p.id.0 s.lsp s.lsp Work s.legs legs c.work (omega arith) stay here.work;
               back = lsp-stays p.id.0 s.lsp s.lsp Back s.legs legs c.back (omega arith) stay here.back;
             }) st.names;
-        single = st.single;
         backs = st.backs;
         roles = st.roles;
       }
@@ -99,13 +80,12 @@ module _ (p : LocalNode) (s : NodeState) (all : AllNameByRole p s) (alone : Begi
   -- the leg of a backup that begins here changes its phase
   leg-stands : (q : Phase) (b : Leg) → BackHere b → (legs : List Leg) (calls : List CallRec) →
       Stand legs calls → Stand (with_leg (with_phase q b) legs) calls
-  leg-stands q b (begins, lone) legs calls st =
+  leg-stands q b begins legs calls st =
       let g : Leg = with_phase q b in
       let there : role_at (find_leg b.lsp legs) ≡ Some b.role = st.roles b.lsp ∙ begins.there in
       record {
         names = calls-stay p.id.0 s.lsp s.lsp legs (with_leg g legs) calls (omega arith)
             (changed-stay s.lsp g legs there) st.names;
-        single = alone-with p g legs lone st.single;
         backs = all-with_leg (IsArmedAsBackup p.id.0) g legs (λ begun e. begins.role) st.backs;
         roles = λ l. ap role_at (find-with_leg g legs l) ∙ either l (same_lsp b.lsp l) refl;
       }
@@ -121,7 +101,6 @@ module _ (p : LocalNode) (s : NodeState) (all : AllNameByRole p s) (alone : Begi
   nothing-leaves = record {
     numbers = refl;
     no_down = refl;
-    stay = λ legs calls st. tt;
     stands = λ legs calls st. st;
   }
 
@@ -129,24 +108,13 @@ module _ (p : LocalNode) (s : NodeState) (all : AllNameByRole p s) (alone : Begi
   call-leaves c here = record {
     numbers = refl;
     no_down = refl;
-    stay = λ legs calls st. tt;
     stands = call-stands c here;
   }
-
-  -- it stands and takes no label, before and after
-  unlabelled : (q : Phase) (b : Leg) → BackHere b → (legs : List Leg) (calls : List CallRec) → Stand legs calls →
-      StaysAs legs (with_phase q b) (taken (with_phase q b))
-  unlabelled q b (begins, lone) legs calls st =
-      subst (StaysAs legs (with_phase q b)) (sym (alone-never b lone q)) (
-        stands-with (find_leg b.lsp legs) b.role (st.roles b.lsp ∙ begins.there),
-        none-taken p legs st.single b.lsp begins.begun,
-      )
 
   pub leg-leaves : (q : Phase) (b : Leg) → BackHere b → Leaves (puts (with_phase q b) [])
   leg-leaves q b begins = record {
     numbers = refl;
     no_down = refl;
-    stay = λ legs calls st. (unlabelled q b begins legs calls st, tt);
     stands = leg-stands q b begins;
   }
 
@@ -155,7 +123,6 @@ module _ (p : LocalNode) (s : NodeState) (all : AllNameByRole p s) (alone : Begi
   phase-leaves q c b outs here begins = record {
     numbers = refl;
     no_down = refl;
-    stay = λ legs calls st. (unlabelled q b begins legs calls st, tt);
     stands = λ legs calls st.
         call-stands c here (with_leg (with_phase q b) legs) calls (leg-stands q b begins legs calls st);
   }
@@ -178,14 +145,7 @@ module _ (p : LocalNode) (s : NodeState) (all : AllNameByRole p s) (alone : Begi
 
     -- the backup of the call
     pub back-here : IfSome (leg_of c.back s.legs) BackHere
-    back-here =
-        go (leg_of c.back s.legs) (leg_of-begins p s all armed Back c.back here.back)
-        (back-alone p s alone c.back here.back)
-      where
-        go : (o : Option Leg) → IfSome o (Begins p s.legs Back) → IfSome o (λ b. b.in_fibre ≡ None) →
-            IfSome o BackHere
-        go None begins lone = tt
-        go (Some b) begins lone = (begins, lone)
+    back-here = leg_of-begins p s all armed Back c.back here.back
 
     pub backed-leaves : Leaves (go_back c (leg_of c.back s.legs))
     backed-leaves = go_back-leaves (leg_of c.back s.legs) back-here
@@ -196,9 +156,6 @@ module _ (p : LocalNode) (s : NodeState) (all : AllNameByRole p s) (alone : Begi
   then-leaves a b first second = record {
     numbers = rw (first.numbers, second.numbers) refl;
     no_down = rw (first.no_down, second.no_down) refl;
-    stay = λ legs calls st.
-        stay-append legs a.legs b.legs (first.stay legs calls st)
-        (second.stay (legs_changed a.legs legs) (calls_changed a.calls calls) (first.stands legs calls st));
     stands = λ legs calls st.
         subst (λ ls. Stand ls (calls_changed (a.calls ++ b.calls) calls)) (sym (legs-then a.legs b.legs legs))
         (subst (λ cs. Stand (legs_changed b.legs (legs_changed a.legs legs)) cs)

@@ -19,7 +19,7 @@ use Rattle.survey.specs.declared.views.CallView.{CallView}
 use Rattle.survey.specs.Groups.{is_hit, with_links}
 use Rattle.survey.specs.Meetings.{all_meet, groups_meet, is_met, is_met_at_all, others_meet, slot_meet, two_meet}
 use Rattle.survey.specs.Slots.{fibre_slots, is_user, link_slots, shared, slot_at, users_of}
-use Rattle.survey.specs.Views.{is_guarded, is_on_fibre, is_on_label, takes, uses, view_of}
+use Rattle.survey.specs.Views.{is_guarded, is_on_label, is_on_link, passes, takes, view_of}
 use Rattle.survey.proofs.HitLists.{guarded-is, hit-is, takes-is}
 use Rattle.survey.proofs.Joins.{filter-both, filter-map, flat-agree, flat-flat, flat-kept, flat-map}
 
@@ -114,7 +114,7 @@ and-used true true false used = refl
 and-used true false false used = refl
 
 label-used : (n : NodeId) (k : LinkId) (x : ℕ) (rows : List LegRow) → list_any (is_on_label n k x) rows ≡ true →
-    list_any (is_on_fibre n k) rows ≡ true
+    list_any (is_on_link n k) rows ≡ true
 label-used n k x [] e = e
 label-used n k x (r ∷ rows) e = grind (arith, label-used n k x rows)
 
@@ -162,9 +162,9 @@ module _ (t : Network) (calls : List CallRow) (legs : List LegRow)
       filter-both (is_user (end_of l forward) l.id) (takes (end_of l forward) l.id x) (map (view_of legs) calls)
       ∙ filter-map (view_of legs) _ calls
       ∙ ap (map (view_of legs)) (filter_agree _ _ (λ c.
-      and-used (is_guarded (view_of legs c)) (uses (end_of l forward) l.id (view_of legs c))
+      and-used (is_guarded (view_of legs c)) (passes (end_of l forward) l.id (view_of legs c))
       (takes (end_of l forward) l.id x (view_of legs c))
-      (label-used (end_of l forward) l.id x (view_of legs c).reserved)
+      (label-used (end_of l forward) l.id x (view_of legs c).backup)
       ∙ ap (λ b. b && takes (end_of l forward) l.id x (view_of legs c)) (guarded-is legs c)
       ∙ ap (λ b. is_guarded_row legs c && b) (takes-is legs (end_of l forward) l.id x c)) calls)
 

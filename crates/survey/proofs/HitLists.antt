@@ -16,23 +16,18 @@ use Rattle.ason_base.specs.declared.ids.NodeId.{NodeId}
 use Rattle.ason_base.specs.declared.network.LinkSpec.{LinkSpec}
 use Rattle.ason_base.proofs.Ordered.{any-there, same_test, there-any}
 use Rattle.mesh_rules.specs.Failures.{is_cut, is_risk_of}
-use Rattle.mesh_rules.specs.Legs.{is_beyond_asked, is_label, is_work}
+use Rattle.mesh_rules.specs.Legs.{is_beyond_asked, is_work}
 use Rattle.mesh_nodes.proofs.routes.Lists.{contains-kept, contains-map, contains-unkept, contains-unmap}
 use Rattle.mesh_nodes.proofs.routes.Nodes.{find-there, found-link}
 use Rattle.mesh_laws.specs.AloneLaw.{is_on_link}
-use Rattle.mesh_laws.specs.Survey.{hit_of, hits, hits_of, groups_of, is_guarded_row, is_link, is_live, leads_over, numbers_of, takes_at}
+use Rattle.mesh_laws.specs.Survey.{hit_of, hits, hits_of, groups_of, is_guarded_row, is_live, leads_over, numbers_of, takes_at}
 use Rattle.mesh_laws.proofs.alone.Risks.{found-passes, link-found}
 use Rattle.survey.specs.declared.views.CallView.{CallView}
 use Rattle.survey.specs.Groups.{hit_in, hit_numbers, hit_with, is_hit, is_hit_so, is_over, links_of, with_links}
-use Rattle.survey.specs.Views.{is_guarded, is_live_leg, is_reserved_leg, live_legs, reserved_legs, rows_of, takes, view_of}
+use Rattle.survey.specs.Views.{is_guarded, is_live_leg, is_on_label, live_legs, rows_of, takes, view_of}
 use Rattle.survey.proofs.Joins.{any-agree, any-filter, filter-both, filter-map, flat-agree, flat-map}
 
 -- Tests
-
-and-taken : (a b c d : Bool) → (a && ((b && c) && d)) ≡ (b && (a && (c && d)))
-and-taken a true c d = refl
-and-taken true false c d = refl
-and-taken false false c d = refl
 
 and-none : (a b : Bool) → (a || b) ≡ true → b ≡ false → a ≡ true
 and-none true b e f = refl
@@ -81,14 +76,6 @@ any-live q work legs =
     any-filter is_live_leg q (rows_of legs work)
     ∙ any-filter (λ r. is_lsp work r.lsp) (λ r. is_live_leg r && q r) legs
 
--- the same of those that are Held, Armed or Live
-any-reserved : (q : LegRow → Bool) (back : Option Lsp) (legs : List LegRow) →
-    list_any q (reserved_legs legs back)
-    ≡ list_any (λ r. is_lsp back r.lsp && (is_reserved_leg r && q r)) legs
-any-reserved q back legs =
-    any-filter is_reserved_leg q (rows_of legs back)
-    ∙ any-filter (λ r. is_lsp back r.lsp) (λ r. is_reserved_leg r && q r) legs
-
 pub hit-is : (t : Network) (legs : List LegRow) (g : Group) →
     is_distinct (map (λ (l : LinkSpec). l.id.0) t.links) ≡ true → (c : CallRow) →
     is_hit (with_links t.links g) (view_of legs c) ≡ hits t legs g c
@@ -100,16 +87,11 @@ hit-is t legs g once c =
 
 pub guarded-is : (legs : List LegRow) (c : CallRow) → is_guarded (view_of legs c) ≡ is_guarded_row legs c
 guarded-is legs c =
-    any-reserved (λ r. nat_eq r.node.0 c.ingress.0) c.back legs
-    ∙ any-agree _ _ (λ r. ap (λ b. is_lsp c.back r.lsp && b)
-    (and_comm (is_beyond_asked r.phase) (nat_eq r.node.0 c.ingress.0))) legs
+    any-filter (λ r. is_lsp c.back r.lsp) (λ r. nat_eq r.node.0 c.ingress.0 && is_beyond_asked r.phase) legs
 
 pub takes-is : (legs : List LegRow) (n : NodeId) (k : LinkId) (x : ℕ) (c : CallRow) →
     takes n k x (view_of legs c) ≡ takes_at legs n k x c
-takes-is legs n k x c =
-    any-reserved _ c.back legs
-    ∙ any-agree _ _ (λ r. ap (λ b. is_lsp c.back r.lsp && b) (and-taken (is_beyond_asked r.phase) (nat_eq r.node.0 n.0)
-    (is_link r.in_link k) (is_label r.in_label x))) legs
+takes-is legs n k x c = any-filter (λ r. is_lsp c.back r.lsp) (is_on_label n k x) legs
 
 -- All calls
 

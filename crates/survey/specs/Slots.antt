@@ -1,25 +1,25 @@
 -- Labels that the backups of two guarded calls or more share.
-use Rattle.std.specs.Prelude.{◌&&◌, ◌++◌, ◌≤◌, if◌then◌else◌, ℕ, Bool, true, false, List, [], ◌∷◌, filter, flat_map}
+use Rattle.std.specs.Prelude.{◌==◌, ◌&&◌, ◌++◌, ◌≤◌, if◌then◌else◌, ℕ, Bool, true, false, List, [], ◌∷◌, filter, flat_map}
 use Rattle.ason_base.specs.declared.calls.LegRow.{LegRow}
 use Rattle.ason_base.specs.declared.ids.Fibre.{Fibre}
 use Rattle.ason_base.specs.declared.ids.LinkId.{LinkId}
 use Rattle.ason_base.specs.declared.ids.NodeId.{NodeId}
 use Rattle.ason_base.specs.declared.network.LinkSpec.{LinkSpec}
-use Rattle.mesh_laws.specs.Survey.{end_of, label_in, labels_at}
+use Rattle.mesh_laws.specs.Survey.{end_of, labels_at, row_labels}
 use Rattle.survey.specs.declared.slots.Slot.{Slot}
 use Rattle.survey.specs.declared.views.CallView.{CallView}
-use Rattle.survey.specs.Views.{is_guarded, is_on_fibre, takes, uses}
+use Rattle.survey.specs.Views.{is_guarded, passes, takes}
 
 abbrev pub IsLabel : ℕ → Type 0
 IsLabel x = (1 ≤ x) × (x ≤ 80)
 
--- the row's label, if the row is of the fibre that comes in over this link at this node
-abbrev pub fibre_label : NodeId → LinkId → LegRow → List ℕ
-fibre_label n k r = if is_on_fibre n k r then label_in r.in_label else []
+-- the labels that the row's leg takes of the fibre that comes in over this link, if it is one of this node
+abbrev pub fibre_labels : NodeId → LinkId → LegRow → List ℕ
+fibre_labels n k r = if r.node.0 == n.0 then row_labels k r else []
 
--- a guarded call whose backup has a label of the fibre that comes in over this link at this node
+-- a guarded call whose backup passes the link at this node
 abbrev pub is_user : NodeId → LinkId → CallView → Bool
-is_user n k v = is_guarded v && uses n k v
+is_user n k v = is_guarded v && passes n k v
 
 abbrev pub users_of : List CallView → NodeId → LinkId → List CallView
 users_of views n k = filter (is_user n k) views

@@ -3,17 +3,17 @@
 ghost use Rattle.std.specs.Prelude.{◌≡◌, ◌++◌, nat_lt, IfOk, OnOk, filter, flat_map};
 ghost use Rattle.std.specs.List.{AllByRecursion};
 ghost use Rattle.ason_base.specs.InOrder.{in_order};
-ghost use Rattle.mesh_laws.specs.Survey.{end_of};
-ghost use Rattle.survey.specs.Slots.{fibre_slots, is_user, fibre_label, IsLabel, link_slots, slot_at, users_of};
+ghost use Rattle.mesh_laws.specs.Survey.{end_of, link_label};
+ghost use Rattle.survey.specs.Slots.{fibre_slots, is_user, fibre_labels, IsLabel, link_slots, slot_at, users_of};
 ghost use Rattle.survey.specs.Views.{takes};
 
-use crate::views::{CallView, is_guarded, is_on_fibre, takes, uses};
+use crate::views::{CallView, is_guarded, is_link, passes, takes};
 use ason_base::{
     Copied, Fibre, Items, Label, LegRow, LinkId, LinkSpec, NodeId, OutOfMemory, copy_all,
 };
 use std::alloc::Global;
 
-/// A label of a fibre, and the guarded calls whose backups have it, in order.
+/// A label of a fibre, and the guarded calls whose backups take it, in order.
 #[derive(Drop)]
 pub(crate) struct Slot {
     pub(crate) fibre: Fibre,
@@ -40,22 +40,41 @@ fn end_of(link: &LinkSpec, forward: bool) -> NodeId
     if forward { link.high } else { link.low }
 }
 
-// The number of the row's label, if the row is of the fibre that comes in over this link at this node.
+// Adds the number of the label, if there is one and it is of this link.
 fn push_label(
+    wanted: LinkId,
+    link: Option<LinkId>,
+    label: Option<Label>,
+    numbers: &mut Vec<u8>,
+) -> Result<(), OutOfMemory>
+    ensures numbers { OnOk result
+        (numbers.new.items ≡ numbers.old.items ++ link_label wanted link label) }
+    ensures labels { AllByRecursion IsLabel numbers.old.items →
+        OnOk result (AllByRecursion IsLabel numbers.new.items) }
+{
+    if is_link(link, wanted) {
+        if let Some(label) = label {
+            numbers.push(label.number())?;
+        }
+    }
+    Ok(())
+}
+
+// Adds the labels that the row's leg takes of the fibre that comes in over this link, if it is one of this node.
+fn push_taken(
     row: &LegRow,
     node: NodeId,
     link: LinkId,
     numbers: &mut Vec<u8>,
 ) -> Result<(), OutOfMemory>
     ensures numbers { OnOk result
-        (numbers.new.items ≡ numbers.old.items ++ fibre_label node link row.now) }
+        (numbers.new.items ≡ numbers.old.items ++ fibre_labels node link row.now) }
     ensures labels { AllByRecursion IsLabel numbers.old.items →
         OnOk result (AllByRecursion IsLabel numbers.new.items) }
 {
-    if is_on_fibre(row, node, link) {
-        if let Some(label) = row.in_label {
-            numbers.push(label.number())?;
-        }
+    if row.node == node {
+        push_label(link, row.in_link, row.in_label, numbers)?;
+        push_label(link, row.out_link, row.back_in, numbers)?;
     }
     Ok(())
 }
@@ -66,12 +85,12 @@ fn label_numbers(
     node: NodeId,
     link: LinkId,
 ) -> Result<Vec<u8>, OutOfMemory>
-    ensures numbers { IfOk result (λ v. v.items ≡ flat_map (fibre_label node link) legs.now) }
+    ensures numbers { IfOk result (λ v. v.items ≡ flat_map (fibre_labels node link) legs.now) }
     ensures labels { IfOk result (λ v. AllByRecursion IsLabel v.items) }
 {
     let mut numbers = Vec::new(alloc);
     for row in legs {
-        push_label(row, node, link, &mut numbers)?;
+        push_taken(row, node, link, &mut numbers)?;
     }
     Ok(numbers)
 }
@@ -89,10 +108,10 @@ fn rising(mut numbers: Vec<u8>) -> Vec<u8>
 fn is_user(view: &CallView, node: NodeId, link: LinkId) -> bool
     ensures { result ≡ is_user node link view.now }
 {
-    is_guarded(view) && uses(view, node, link)
+    is_guarded(view) && passes(view, node, link)
 }
 
-// The guarded calls whose backups have a label of the fibre.
+// The guarded calls whose backups pass the link at this node.
 fn users_of(
     alloc: Global,
     views: &[CallView],
@@ -128,7 +147,7 @@ fn takers_of(
     Ok(takers)
 }
 
-// Adds the label of the fibre, where two of these calls or more have it.
+// Adds the label of the fibre, where two of these calls or more take it.
 fn push_slot(
     alloc: Global,
     link: &LinkSpec,
@@ -155,7 +174,7 @@ fn push_slot(
     Ok(())
 }
 
-// Adds those of these labels of the fibre that two of these calls or more have.
+// Adds those of these labels of the fibre that two of these calls or more take.
 fn push_labels(
     alloc: Global,
     link: &LinkSpec,

@@ -4,10 +4,10 @@ ghost use Rattle.std.specs.Prelude.{◌≡◌, ◌==◌, ◌&&◌, List, IfOk, f
 ghost use Rattle.std.specs.List.{list_any};
 ghost use Rattle.ason_base.specs.declared.calls.LegRow.{LegRow};
 ghost use Rattle.mesh_rules.specs.Legs.{is_beyond_asked, is_label, is_work};
-ghost use Rattle.mesh_laws.specs.Survey.{is_link, is_live};
+ghost use Rattle.mesh_laws.specs.Survey.{is_link, is_live, row_takes};
 ghost use Rattle.survey.specs.Index.{IsIndexOf};
-ghost use Rattle.survey.specs.Views.{is_guarded, is_live_leg, is_on_fibre, is_on_label, is_reserved_leg};
-ghost use Rattle.survey.specs.Views.{takes, uses, view_of};
+ghost use Rattle.survey.specs.Views.{is_guarded, is_live_leg, is_on_label, is_on_link, passes};
+ghost use Rattle.survey.specs.Views.{takes, view_of};
 
 use crate::index::{LegIndex, index_of, rows_of};
 use ason_base::{
@@ -16,12 +16,12 @@ use ason_base::{
 };
 use std::alloc::Global;
 
-/// A call, the Live legs of its working LSP, and the legs of its backup that are Held, Armed or Live.
+/// A call, the Live legs of its working LSP, and the legs of its backup.
 #[derive(Drop)]
 pub(crate) struct CallView {
     pub(crate) call: CallRow,
     pub(crate) live: LegRows,
-    pub(crate) reserved: LegRows,
+    pub(crate) backup: LegRows,
 }
 
 impl Copied for CallView {
@@ -29,11 +29,11 @@ impl Copied for CallView {
         ensures { IfOk result (λ r. r ≡ self.now) }
     {
         let live = self.live.copy(alloc)?;
-        let reserved = self.reserved.copy(alloc)?;
+        let backup = self.backup.copy(alloc)?;
         Ok(CallView {
             call: self.call,
             live,
-            reserved,
+            backup,
         })
     }
 }
@@ -50,12 +50,6 @@ fn is_live_leg(row: &LegRow) -> bool
     row.role == Role::Work && row.phase == Phase::Live
 }
 
-fn is_reserved_leg(row: &LegRow) -> bool
-    ensures { result ≡ is_reserved_leg row.now }
-{
-    is_beyond_asked(row.phase)
-}
-
 // Those of the rows that are Live legs of working LSPs.
 fn live_legs(alloc: Global, legs: &[LegRow]) -> Result<LegRows, OutOfMemory>
     ensures { IfOk result (λ rows. rows ≡ filter is_live_leg legs.now) }
@@ -69,29 +63,16 @@ fn live_legs(alloc: Global, legs: &[LegRow]) -> Result<LegRows, OutOfMemory>
     Ok(Items::from_vec(rows))
 }
 
-// Those of the rows that are Held, Armed or Live legs.
-fn reserved_legs(alloc: Global, legs: &[LegRow]) -> Result<LegRows, OutOfMemory>
-    ensures { IfOk result (λ rows. rows ≡ filter is_reserved_leg legs.now) }
-{
-    let mut rows = Vec::new(alloc);
-    for row in legs {
-        if is_reserved_leg(row) {
-            rows.push(*row)?;
-        }
-    }
-    Ok(Items::from_vec(rows))
-}
-
 fn view_of(alloc: Global, index: &LegIndex, call: &CallRow) -> Result<CallView, OutOfMemory>
     ensures { (legs : List LegRow) → IsIndexOf legs index.now
         → IfOk result (λ view. view ≡ view_of legs call.now) }
 {
     let live = live_legs(alloc, rows_of(index, call.work))?;
-    let reserved = reserved_legs(alloc, rows_of(index, call.back))?;
+    let backup = Vec::from_slice(alloc, rows_of(index, call.back))?;
     Ok(CallView {
         call: *call,
         live,
-        reserved,
+        backup: Items::from_vec(backup),
     })
 }
 
@@ -119,50 +100,71 @@ pub(crate) fn views_of(alloc: Global, rows: &TableRows) -> Result<Vec<CallView>,
     views_in(alloc, &index, rows.calls.items())
 }
 
-/// Whether the ingress has its backup's leg.
+/// Whether the ingress has its backup's leg, Held, Armed or Live.
 pub(crate) fn is_guarded(view: &CallView) -> bool
     ensures { result ≡ is_guarded view.now }
 {
     let ingress = view.call.ingress;
-    view.reserved.items().iter().any(|row| row.node == ingress)
+    view.backup
+        .items()
+        .iter()
+        .any(|row| row.node == ingress && is_beyond_asked(row.phase))
 }
 
-/// Whether the leg's fibre in comes in over this link at this node.
-pub(crate) fn is_on_fibre(row: &LegRow, node: NodeId, link: LinkId) -> bool
-    ensures { result ≡ is_on_fibre node link row.now }
+/// Whether it is this link.
+pub(crate) fn is_link(link: Option<LinkId>, wanted: LinkId) -> bool
+    ensures { result ≡ is_link link wanted }
 {
-    row.node == node
-        && match row.in_link {
-            None => false,
-            Some(l) => l == link,
-        }
+    match link {
+        None => false,
+        Some(link) => link == wanted,
+    }
+}
+
+fn is_label(label: Option<Label>, wanted: Label) -> bool
+    ensures { result ≡ is_label label wanted }
+{
+    match label {
+        None => false,
+        Some(label) => label.number() == wanted.number(),
+    }
+}
+
+// Whether the leg takes this label of the fibre that comes in over this link at its node.
+fn row_takes(row: &LegRow, link: LinkId, label: Label) -> bool
+    ensures { result ≡ row_takes link label row.now }
+{
+    (is_link(row.in_link, link) && is_label(row.in_label, label))
+        || (is_link(row.out_link, link) && is_label(row.back_in, label))
+}
+
+fn is_on_link(row: &LegRow, node: NodeId, link: LinkId) -> bool
+    ensures { result ≡ is_on_link node link row.now }
+{
+    row.node == node && (is_link(row.in_link, link) || is_link(row.out_link, link))
 }
 
 fn is_on_label(row: &LegRow, node: NodeId, link: LinkId, label: Label) -> bool
     ensures { result ≡ is_on_label node link label row.now }
 {
-    is_on_fibre(row, node, link)
-        && match row.in_label {
-            None => false,
-            Some(l) => l.number() == label.number(),
-        }
+    row.node == node && row_takes(row, link, label)
 }
 
-/// Whether its backup has a label of the fibre that comes in over this link at this node.
-pub(crate) fn uses(view: &CallView, node: NodeId, link: LinkId) -> bool
-    ensures { result ≡ uses node link view.now }
+/// Whether its backup passes this link at this node.
+pub(crate) fn passes(view: &CallView, node: NodeId, link: LinkId) -> bool
+    ensures { result ≡ passes node link view.now }
 {
-    view.reserved
+    view.backup
         .items()
         .iter()
-        .any(|row| is_on_fibre(row, node, link))
+        .any(|row| is_on_link(row, node, link))
 }
 
-/// Whether its backup has this label of that fibre.
+/// Whether its backup takes this label of the fibre that comes in over this link at this node.
 pub(crate) fn takes(view: &CallView, node: NodeId, link: LinkId, label: Label) -> bool
     ensures { result ≡ takes node link label view.now }
 {
-    view.reserved
+    view.backup
         .items()
         .iter()
         .any(|row| is_on_label(row, node, link, label))

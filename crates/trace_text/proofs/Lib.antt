@@ -1,7 +1,9 @@
+mod BytesChecked
 mod BytesTold
 mod Decimals
 mod Digits
 mod EntriesTold
+mod FirstDisabled
 mod LinesChecked
 mod LinesTold
 mod MergesCome
@@ -19,3 +21,4 @@ mod Streaming
 mod TablesTold
 mod TextsParted
 mod TracesTold
+mod Versions

@@ -1,32 +1,32 @@
 -- What lines are checked to be.
-use Rattle.std.proofs.Common.{◌≡◌, ◌≢◌, ◌∙◌, ◌+◌, ℕ, true, false, List, Option, Some, None, Result, Ok, bytes_eq, length, inr, ap, sym, subst}
+use Rattle.std.proofs.Common.{◌≡◌, ◌≢◌, ◌∙◌, ◌+◌, ℕ, true, false, List, Option, Some, None, Result, Ok, bytes_eq, length, inr, refl, ap, sym, subst}
 use Rattle.std.proofs.lemmas.List.{length-map}
 use Rattle.std.proofs.lemmas.Slice.Eq.{bytes_eq-Decides}
 use Rattle.ason_base.specs.declared.calls.TableRows.{TableRows}
 use Rattle.ason_base.specs.declared.commands.Entry.{Entry}
 use Rattle.ason_base.specs.declared.commands.Event.{Event}
 use Rattle.plan_reader.specs.declared.plan.Plan.{Plan}
-use Rattle.script_rules.specs.Tables.{IsTable}
 use Rattle.table_text.specs.TableText.{table_text}
+use Rattle.world_core.specs.Replays.{IsFirstDisabled}
+use Rattle.world_core.proofs.Migrating.{kept-run}
+use Rattle.world_core.proofs.Replaying.{not_in_run}
 use Rattle.world_merge.specs.Merges.{events_of}
-use Rattle.world_rules.specs.Images.{image}
-use Rattle.world_rules.specs.Runs.{IsRun, after}
 use Rattle.world_rules.specs.Worlds.{start}
-use Rattle.trace_text.specs.Checks.{AreChecked, AreRun, IsLastTable, IsWrongEnd, IsWrongLine}
+use Rattle.trace_text.specs.Checks.{AreChecked, AreKeptOf, AreMigrated, AreRun, IsFaultBy, IsLastTable, IsWrongEnd, IsWrongLine}
 use Rattle.trace_text.specs.LinesRead.{LinesRead}
 use Rattle.trace_text.specs.TraceForms.{of_lines, or_index, table_of, with_table}
+use Rattle.trace_text.specs.declared.read.TraceFault.{TraceFault}
+use Rattle.trace_text.specs.declared.read.TraceFault.TheVariants.{NotRun, Plan as RefusedPlan, OutOfMemory}
 
--- lines of the form whose events were replayed, and led to these rows; with this text of a table
+-- Lines of version 2: of the form, their events replayed, and these led to these rows; with this text of a table
 module _ (p : Plan) (ls : LinesRead) (right : ls.wrong ≡ None) (events : List Event)
-    (are : events ≡ events_of ls.entries) (run : IsRun p.topology (start p.topology) events) (rows : TableRows)
-    (last : IsTable p.topology (image (after p.topology (start p.topology) events)) rows) (text : List ℕ)
-    (there : Some text ≡ table_of ls.rest) where
-  lines_run : AreRun p ls.entries
-  lines_run = subst (IsRun p.topology (start p.topology)) are run
+    (are : events ≡ events_of ls.entries) (run : AreRun p events) (rows : TableRows)
+    (last : IsLastTable p events rows) (text : List ℕ) (there : Some text ≡ table_of ls.rest) where
+  lines_run : AreRun p (events_of ls.entries)
+  lines_run = subst (AreRun p) are run
 
-  lines_lead : IsLastTable p ls.entries rows
-  lines_lead =
-      subst (λ (es : List Event). IsTable p.topology (image (after p.topology (start p.topology) es)) rows) are last
+  lines_lead : IsLastTable p (events_of ls.entries) rows
+  lines_lead = subst (λ (es : List Event). IsLastTable p es rows) are last
 
   as_many : (n : ℕ) → n ≡ length events → n ≡ length ls.entries
   as_many n is = is ∙ (ap length are ∙ length-map ls.entries (λ (e : Entry). e.event))
@@ -38,7 +38,7 @@ module _ (p : Plan) (ls : LinesRead) (right : ls.wrong ≡ None) (events : List 
 
   -- the table is another one
   pub other_table : (n : ℕ) → n ≡ length events → bytes_eq text (table_text p rows) ≡ false →
-      IsWrongLine p ls (n + 1)
+      IsWrongLine true p ls (n + 1)
   other_table n is differs =
       let other : text ≢ table_text p rows =
       λ same. absurd (cc ((bytes_eq-Decides text (table_text p rows)).1 same, differs)) in
@@ -49,12 +49,59 @@ module _ (p : Plan) (ls : LinesRead) (right : ls.wrong ≡ None) (events : List 
       )
 
   -- it is this one
-  pub same_table : (n : ℕ) → n ≡ length events → bytes_eq text (table_text p rows) ≡ true → AreChecked p ls n rows
+  pub same_table : (n : ℕ) → n ≡ length events → bytes_eq text (table_text p rows) ≡ true →
+      AreChecked p ls (record { events = n; left_out = 0; rows = rows })
   same_table n is same =
       let text_is : text ≡ table_text p rows = (bytes_eq-Decides text (table_text p rows)).0 same in
       record {
         form = form_is ∙ ap (λ (t : List ℕ). Ok (ls.entries, t)) text_is;
         run = lines_run;
         table = lines_lead;
-        count = as_many n is;
+        events = as_many n is;
+        left_out = refl;
       }
+
+-- Lines of version 1
+
+-- the lines of a form that is right
+pub right_entries : (ls : LinesRead) (es : List Entry) (text : List ℕ) → of_lines ls ≡ Ok (es, text) →
+    ls.entries ≡ es
+right_entries ls es text h = by_wrong ls.wrong h
+  where
+    by_table : (o : Option (List ℕ)) → with_table ls.entries o ≡ Ok (es, text) → ls.entries ≡ es
+    by_table None e = absurd (cc (e))
+    by_table (Some table) e =
+        let same : (ls.entries, table) ≡ (es, text) = cc (e) in
+        ap (λ (pair : List Entry × List ℕ). pair.0) same
+
+    by_wrong : (o : Option ℕ) → or_index ls.entries o ls.rest ≡ Ok (es, text) → ls.entries ≡ es
+    by_wrong (Some i) e = absurd (cc (e))
+    by_wrong None e = by_table (table_of ls.rest) e
+
+-- of the form, and of their events these were kept
+module _ (p : Plan) (ls : LinesRead) (es : List Entry) (text : List ℕ) (form : of_lines ls ≡ Ok (es, text))
+    (events : List Event) (are : events ≡ events_of es) (run : List Event) (left_out : ℕ)
+    (kept : AreKeptOf p events run left_out) where
+  -- with the table to which these lead
+  pub migrated : (n : ℕ) (rows : TableRows) → n ≡ length run → IsLastTable p run rows →
+      AreMigrated p ls (record { events = n; left_out = left_out; rows = rows })
+  migrated n rows is last =
+      let entries : ls.entries ≡ es = right_entries ls es text form in
+      let all : events ≡ events_of ls.entries = are ∙ ap events_of (sym entries) in
+      record {
+        text = text;
+        form = form ∙ ap (λ (l : List Entry). Ok (l, text)) (sym entries);
+        run = run;
+        kept = subst (λ (l : List Event). AreKeptOf p l run left_out) all kept;
+        table = last;
+        events = is;
+      }
+
+  -- none of these isn't enabled
+  pub never_refused : (Wrong : ℕ → Type 0) (e : TraceFault) → IsFaultBy (IsFirstDisabled p.topology run) e →
+      IsFaultBy Wrong e
+  never_refused Wrong (NotRun i) first =
+      absurd (not_in_run p.topology run i first
+      (kept-run p.topology (start p.topology) events run left_out kept))
+  never_refused Wrong (RefusedPlan fault) none = none
+  never_refused Wrong OutOfMemory is = tt

@@ -3,47 +3,46 @@ use Rattle.std.proofs.Common.{◌≡◌, ◌∙◌, ◌⊎◌, ℕ, List, Option
 use Rattle.ason_base.specs.declared.commands.Entry.{Entry}
 use Rattle.plan_reader.specs.declared.faults.PlanFault.{PlanFault}
 use Rattle.plan_reader.specs.declared.plan.Plan.{Plan}
-use Rattle.plan_reader.specs.Plans.{PlanOf}
 use Rattle.plan_reader.proofs.Agree.{plans_agree}
-use Rattle.trace_text.specs.TraceForms.{form_of, head_of}
-use Rattle.trace_text.specs.TraceRead.{EveryReadingIsOne, ReadsAs}
+use Rattle.trace_text.specs.TraceForms.{TraceHead, form_of, head_of, is_version_2}
+use Rattle.trace_text.specs.TraceRead.{EveryReadingIsOne, IsPlanIn, ReadsAs}
 use Rattle.trace_text.specs.declared.read.Trace.{Trace}
 use Rattle.trace_text.specs.declared.read.TraceFault.{TraceFault}
 use Rattle.trace_text.specs.declared.read.TraceFault.TheVariants.{NotRun, Plan as RefusedPlan, OutOfMemory}
 
 -- What follows from a head, a plan or its fault, and a form
 
-abbrev of_form : List ℕ → Plan → Result (List Entry × List ℕ) ℕ → Result Trace TraceFault
-of_form plan_bytes p (Ok (es, table)) = Ok (record { plan_bytes = plan_bytes; plan = p; entries = es; table = table })
-of_form plan_bytes p (Err i) = Err (NotRun i)
+abbrev of_form : TraceHead → Plan → Result (List Entry × List ℕ) ℕ → Result Trace TraceFault
+of_form h p (Ok (es, table)) =
+    Ok (record { version = h.version; plan_bytes = h.plan; plan = p; entries = es; table = table })
+of_form h p (Err i) = Err (NotRun i)
 
-abbrev of_plan : List ℕ → List ℕ → Result Plan PlanFault → Result Trace TraceFault
-of_plan plan_bytes rest (Ok p) = of_form plan_bytes p (form_of p rest)
-of_plan plan_bytes rest (Err fault) = Err (RefusedPlan fault)
+abbrev of_plan : TraceHead → Result Plan PlanFault → Result Trace TraceFault
+of_plan h (Ok p) = of_form h p (form_of p h.rest)
+of_plan h (Err fault) = Err (RefusedPlan fault)
 
-abbrev Follows : Option (List ℕ × List ℕ) → Result Trace TraceFault → Type 0
+abbrev Follows : Option TraceHead → Result Trace TraceFault → Type 0
 Follows None r = r ≡ Err (NotRun 0)
-Follows (Some (plan_bytes, rest)) r =
-    (plan : Result Plan PlanFault) × PlanOf plan_bytes plan × (r ≡ of_plan plan_bytes rest plan)
+Follows (Some h) r = (plan : Result Plan PlanFault) × IsPlanIn h.version h.plan plan × (r ≡ of_plan h plan)
 
 follows : (bytes : List ℕ) (r : Result Trace TraceFault) → ReadsAs bytes r →
     (r ≡ Err OutOfMemory) ⊎ Follows (head_of bytes) r
 follows bytes (Ok t) is =
-    inr (subst (λ h. Follows h (Ok t)) (sym is.head)
-    (Ok t.plan, is.plan, sym (ap (of_form t.plan_bytes t.plan) is.form)))
+    let h : TraceHead = record { version = t.version; plan = t.plan_bytes; rest = is.rest } in
+    inr (subst (λ o. Follows o (Ok t)) (sym is.head) (Ok t.plan, is.plan, sym (ap (of_form h t.plan) is.form)))
 follows bytes (Err (NotRun i)) (inl none) =
-    inr (subst (λ h. Follows h (Err (NotRun i))) (sym none.0) (ap (λ (n : ℕ). Err (NotRun n)) none.1))
+    inr (subst (λ o. Follows o (Err (NotRun i))) (sym none.0) (ap (λ (n : ℕ). Err (NotRun n)) none.1))
 follows bytes (Err (NotRun i)) (inr is) =
-    inr (subst (λ h. Follows h (Err (NotRun i))) (sym is.head)
-    (Ok is.plan, is.spelled, sym (ap (of_form is.plan_bytes is.plan) is.form)))
+    inr (subst (λ o. Follows o (Err (NotRun i))) (sym is.begun)
+    (Ok is.plan, is.spelled, sym (ap (of_form is.head is.plan) is.form)))
 follows bytes (Err (RefusedPlan fault)) is =
-    inr (subst (λ h. Follows h (Err (RefusedPlan fault))) (sym is.head) (Err fault, is.spelled, refl))
+    inr (subst (λ o. Follows o (Err (RefusedPlan fault))) (sym is.begun) (Err fault, is.spelled, refl))
 follows bytes (Err OutOfMemory) is = inl refl
 
-same : (h : Option (List ℕ × List ℕ)) (r s : Result Trace TraceFault) → Follows h r → Follows h s → r ≡ s
+same : (o : Option TraceHead) (r s : Result Trace TraceFault) → Follows o r → Follows o s → r ≡ s
 same None r s first second = first ∙ sym second
-same (Some (plan_bytes, rest)) r s (p, spelled, first) (q, also, second) =
-    first ∙ (ap (of_plan plan_bytes rest) (plans_agree plan_bytes p q spelled also) ∙ sym second)
+same (Some h) r s (p, spelled, first) (q, also, second) =
+    first ∙ (ap (of_plan h) (plans_agree (is_version_2 h.version) h.plan p q spelled also) ∙ sym second)
 
 pub one_reading : EveryReadingIsOne
 one_reading bytes r s first second = either (follows bytes r first) (follows bytes s second)

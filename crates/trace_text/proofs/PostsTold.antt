@@ -15,7 +15,7 @@ use Rattle.plan_reader.specs.declared.plan.Plan.{Plan}
 use Rattle.table_text.specs.RouteText.{links_text, more_link}
 use Rattle.table_text.specs.SurveyText.{group_text}
 use Rattle.table_text.specs.TableText.{call_name, name_at, name_at_place, node_name}
-use Rattle.trace_text.specs.CommandText.{command_text, protection, route_after, routes_given, setup_ends}
+use Rattle.trace_text.specs.CommandText.{command_text, directions, protection, route_after, routes_given, setup_ends}
 use Rattle.trace_text.specs.RoundTrip.{lacks}
 use Rattle.trace_text.proofs.NamesTold.{name_lacks}
 use Rattle.trace_text.proofs.TextsParted.{lacks_both}
@@ -88,6 +88,10 @@ protection_lacks : (protected : Bool) → IsLine (protection protected)
 protection_lacks true = refl
 protection_lacks false = refl
 
+directions_lack : (both : Bool) → IsLine (directions both)
+directions_lack true = refl
+directions_lack false = refl
+
 group_lacks : (g : Group) → IsLine (group_text g)
 group_lacks (Srlg n) = decimal_lacks n
 group_lacks (Link k) = decimal_lacks k.0
@@ -114,8 +118,10 @@ module _ (p : Plan) (finds : FindsByName p) where
   pub command_lacks : (c : Command) → IsLine (command_text p c)
   command_lacks (Setup n from to protected two_way via backup) =
       let ends : List ℕ = setup_ends p n from to in
-      both (ends ++ protection protected) (routes_given via backup)
-      (both ends (protection protected) (ends_lack n from to) (protection_lacks protected))
+      let asked : List ℕ = ends ++ protection protected in
+      both (asked ++ directions two_way) (routes_given via backup)
+      (both asked (directions two_way)
+      (both ends (protection protected) (ends_lack n from to) (protection_lacks protected)) (directions_lack two_way))
       (both (route_after (codes "via") via) (route_after (codes "backup") backup) (via_lacks via) (backup_lacks backup))
   command_lacks (Release n from) = call_lacks n
   command_lacks (Protect n from) = call_lacks n

@@ -148,14 +148,16 @@ module _ (p : Plan) (finds : FindsByName p) where
 -- The trace of a record is that of a run.
 pub run_checked : RecordsAreRuns → EveryRunIsChecked
 run_checked runs p plan_bytes r es rows made fits = record {
+  version = refl;
   plan_bytes = plan_bytes;
   entries = es;
   trace = trace_read p plan_bytes es rows made.spelled fits.plan fits.count
-      (all_told p (names_found plan_bytes p made.spelled) p.lines None (start p.topology) es run.run own fits.entries
-      (merge_rises r es made.possible made.merge) posts);
+      (all_told p (names_found true plan_bytes p made.spelled) p.lines None (start p.topology) es run.run own
+      fits.entries (merge_rises r es made.possible made.merge) posts);
   run = run.run;
   table = subst (λ (w : World). IsTable p.topology (image w) rows) (sym run.leads) made.table;
   events = refl;
+  left_out = refl;
 }
   where
     run : IsRunOf p.topology (deeds_at r) es

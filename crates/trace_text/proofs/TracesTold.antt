@@ -8,7 +8,7 @@ use Rattle.ason_base.specs.declared.numerals.NumeralFault.{NumeralFault}
 use Rattle.plan_reader.specs.declared.plan.Plan.{Plan}
 use Rattle.table_text.specs.TableText.{table_text}
 use Rattle.trace_text.specs.RoundTrip.{CanAllBeTold, EveryTraceIsRead}
-use Rattle.trace_text.specs.TraceForms.{count_in, count_of, form_of, head_of, lines_counted, lines_in, number_in, of_lines, or_uncounted, plan_behind, plan_in, plan_within, with_table}
+use Rattle.trace_text.specs.TraceForms.{count_in, count_of, form_of, head_in, head_of, lines_counted, lines_in, number_in, of_lines, or_uncounted, plan_in, plan_within, with_table, with_version}
 use Rattle.trace_text.specs.TraceText.{end_text, entries_text}
 use Rattle.trace_text.specs.Words.{parted}
 use Rattle.trace_text.proofs.Decimals.{lacks_low, number_read, stamp_read}
@@ -24,12 +24,12 @@ one_by_one : (a size b plan c events d es end : List ℕ) →
 one_by_one a size b plan c events d es end = simp append_assoc refl
 
 by_lines : (size plan events es end : List ℕ) →
-    (codes "ason-trace 1\nplan " ++ size ++ codes "\n") ++ plan
+    (codes "ason-trace 2\nplan " ++ size ++ codes "\n") ++ plan
     ++ (codes "\nevents " ++ events ++ codes "\n") ++ es ++ end
-    ≡ codes "ason-trace 1"
+    ≡ codes "ason-trace 2"
     ++ 10 ∷ ((codes "plan " ++ size) ++ 10 ∷ (plan ++ 10 ∷ ((codes "events " ++ events) ++ 10 ∷ (es ++ end))))
 by_lines size plan events es end =
-    one_by_one (codes "ason-trace 1\nplan ") size (codes "\n") plan (codes "\nevents ") events (codes "\n") es end
+    one_by_one (codes "ason-trace 2\nplan ") size (codes "\n") plan (codes "\nevents ") events (codes "\n") es end
 
 -- The head
 
@@ -48,12 +48,12 @@ plan_read plan rest small =
     ∙ (ap (plan_within (plan ++ 10 ∷ rest)) (stamp_read (length plan) small) ∙ within_read plan rest))
 
 head_read : (plan rest : List ℕ) → length plan < 2 ^ 64 →
-    head_of (codes "ason-trace 1" ++ 10 ∷ ((codes "plan " ++ decimal (length plan)) ++ 10 ∷ (plan ++ 10 ∷ rest)))
-    ≡ Some (plan, rest)
+    head_of (codes "ason-trace 2" ++ 10 ∷ ((codes "plan " ++ decimal (length plan)) ++ 10 ∷ (plan ++ 10 ∷ rest)))
+    ≡ Some (record { version = 2; plan = plan; rest = rest })
 head_read plan rest small =
-    ap plan_behind (parted_there 10 (codes "ason-trace 1")
+    ap head_in (parted_there 10 (codes "ason-trace 2")
     ((codes "plan " ++ decimal (length plan)) ++ 10 ∷ (plan ++ 10 ∷ rest)) refl)
-    ∙ plan_read plan rest small
+    ∙ ap (with_version 2) (plan_read plan rest small)
 
 -- What is behind the plan
 

@@ -1,11 +1,12 @@
 -- Which bytes are the trace of a run of their plan, and which index of others is the first that is wrong.
-use Rattle.std.specs.Prelude.{◌≡◌, ◌≢◌, ◌+◌, ◌⊎◌, ℕ, List, Option, Some, None, Result, Ok, Err, length}
+use Rattle.std.specs.Prelude.{◌≡◌, ◌≢◌, ◌+◌, ◌⊎◌, ℕ, Bool, true, false, List, Option, Some, None, Result, Ok, Err, length}
 use Rattle.ason_base.specs.declared.calls.TableRows.{TableRows}
 use Rattle.ason_base.specs.declared.commands.Entry.{Entry}
+use Rattle.ason_base.specs.declared.commands.Event.{Event}
 use Rattle.plan_reader.specs.declared.plan.Plan.{Plan}
-use Rattle.plan_reader.specs.Plans.{PlanOf}
 use Rattle.script_rules.specs.Tables.{IsTable}
 use Rattle.table_text.specs.TableText.{table_text}
+use Rattle.world_core.specs.Migration.{AreKept}
 use Rattle.world_core.specs.Replays.{IsFirstDisabled}
 use Rattle.world_core.specs.declared.replays.ReplayError.{ReplayError}
 use Rattle.world_core.specs.declared.replays.ReplayError.TheVariants as replays
@@ -15,38 +16,68 @@ use Rattle.world_rules.specs.Runs.{IsRun, after}
 use Rattle.world_rules.specs.Worlds.{start}
 use Rattle.trace_text.specs.LinesRead.{LinesRead}
 use Rattle.trace_text.specs.RoundTrip.{told_trace}
-use Rattle.trace_text.specs.TraceForms.{head_of, lines_behind, of_lines}
-use Rattle.trace_text.specs.TraceRead.{IsRefused, IsTraceOf}
+use Rattle.trace_text.specs.TraceForms.{TraceHead, head_of, is_version_2, lines_behind, of_lines}
+use Rattle.trace_text.specs.TraceRead.{IsPlanIn, IsRefused, IsTraceOf}
 use Rattle.trace_text.specs.declared.checking.Checked.{Checked}
+use Rattle.trace_text.specs.declared.checking.FoundRun.{FoundRun}
+use Rattle.trace_text.specs.declared.read.Trace.{Trace}
 use Rattle.trace_text.specs.declared.read.TraceFault.{TraceFault}
 use Rattle.trace_text.specs.declared.read.TraceFault.TheVariants.{NotRun, Plan as RefusedPlan, OutOfMemory}
 
 -- Runs
 
--- the events of the entries are a run over the plan's network
-abbrev pub AreRun : Plan → List Entry → Type 0
-AreRun p es = IsRun p.topology (start p.topology) (events_of es)
+-- the events are a run over the plan's network
+abbrev pub AreRun : Plan → List Event → Type 0
+AreRun p events = IsRun p.topology (start p.topology) events
 
--- the rows are the table of the world to which they lead
-abbrev pub IsLastTable : Plan → List Entry → TableRows → Type 0
-IsLastTable p es rows = IsTable p.topology (image (after p.topology (start p.topology) (events_of es))) rows
+-- the rows are the table of the world to which the events lead
+abbrev pub IsLastTable : Plan → List Event → TableRows → Type 0
+IsLastTable p events rows = IsTable p.topology (image (after p.topology (start p.topology) events)) rows
 
--- The bytes are the trace of a run of the plan in which so many events happen, with the table of these rows, to which
--- the run leads.
-pub record IsChecked (bytes : List ℕ) (checked : Checked) : Type 0 where
+-- of these events over the plan's network these are kept, and so many are left out
+abbrev pub AreKeptOf : Plan → List Event → List Event → ℕ → Type 0
+AreKeptOf p events run left_out = AreKept p.topology (start p.topology) events run left_out
+
+-- a trace of version 1
+abbrev pub first_trace : Plan → List ℕ → List Entry → List ℕ → Trace
+first_trace p plan_bytes es text =
+    record { version = 1; plan_bytes = plan_bytes; plan = p; entries = es; table = text }
+
+-- The bytes are a trace of version 2 of a run of the plan in which so many events happen, with the table of these rows,
+-- to which the run leads. None is left out.
+pub record IsRunTrace (bytes : List ℕ) (checked : Checked) : Type 0 where
+  pub version : checked.version ≡ 2
   pub plan_bytes : List ℕ
   pub entries : List Entry
   pub trace : IsTraceOf bytes (told_trace checked.plan plan_bytes entries checked.rows)
-  pub run : AreRun checked.plan entries
-  pub table : IsLastTable checked.plan entries checked.rows
+  pub run : AreRun checked.plan (events_of entries)
+  pub table : IsLastTable checked.plan (events_of entries) checked.rows
   pub events : checked.events ≡ length entries
+  pub left_out : checked.left_out ≡ 0
+
+-- The bytes are a trace of version 1 of the plan. Of its events just those are kept that are enabled after the ones
+-- kept before them, so many, and so many are left out. What is kept leads to the table of these rows, whatever lines
+-- stand for it in the trace.
+pub record IsMigratedTrace (bytes : List ℕ) (checked : Checked) : Type 0 where
+  pub version : checked.version ≡ 1
+  pub plan_bytes : List ℕ
+  pub entries : List Entry
+  pub text : List ℕ
+  pub trace : IsTraceOf bytes (first_trace checked.plan plan_bytes entries text)
+  pub run : List Event
+  pub kept : AreKeptOf checked.plan (events_of entries) run checked.left_out
+  pub table : IsLastTable checked.plan run checked.rows
+  pub events : checked.events ≡ length run
+
+abbrev pub IsChecked : List ℕ → Checked → Type 0
+IsChecked bytes checked = IsRunTrace bytes checked ⊎ IsMigratedTrace bytes checked
 
 -- The first index that is wrong
 
 -- this text is of no table to which the entries lead
 pub record IsOtherTable (p : Plan) (es : List Entry) (text : List ℕ) : Type 0 where
   pub rows : TableRows
-  pub table : IsLastTable p es rows
+  pub table : IsLastTable p (events_of es) rows
   pub other : text ≢ table_text p rows
 
 -- Of entries that are a run: the first index that the form has wrong; or, of a form that is right, the one behind the
@@ -55,25 +86,26 @@ abbrev pub IsWrongEnd : Plan → Result (List Entry × List ℕ) ℕ → ℕ →
 IsWrongEnd p (Err k) i = i ≡ k
 IsWrongEnd p (Ok (es, table)) i = (i ≡ length es + 1) × IsOtherTable p es table
 
--- Of the lines behind a plan: the number of the first event that isn't enabled. Where each is, up to the first line
--- that the form has wrong, what is wrong then.
-abbrev pub IsWrongLine : Plan → LinesRead → ℕ → Type 0
-IsWrongLine p ls i =
-    IsFirstDisabled p.topology (events_of ls.entries) i ⊎ (AreRun p ls.entries × IsWrongEnd p (of_lines ls) i)
+-- Of the lines behind a plan, in version 2: the number of the first event that isn't enabled. Where each is, up to
+-- the first line that the form has wrong, what is wrong then. In version 1 what the form has wrong.
+abbrev pub IsWrongLine : Bool → Plan → LinesRead → ℕ → Type 0
+IsWrongLine true p ls i =
+    IsFirstDisabled p.topology (events_of ls.entries) i
+    ⊎ (AreRun p (events_of ls.entries) × IsWrongEnd p (of_lines ls) i)
+IsWrongLine false p ls i = of_lines ls ≡ Err i
 
 -- 0 where no line tells how many entries there are
-abbrev pub IsWrongAfter : Plan → Option LinesRead → ℕ → Type 0
-IsWrongAfter p None i = i ≡ 0
-IsWrongAfter p (Some ls) i = IsWrongLine p ls i
+abbrev pub IsWrongAfter : Bool → Plan → Option LinesRead → ℕ → Type 0
+IsWrongAfter second p None i = i ≡ 0
+IsWrongAfter second p (Some ls) i = IsWrongLine second p ls i
 
 -- Behind the head of a plan without fault this index is the first that is wrong.
 pub record IsNoRunBehind (bytes : List ℕ) (i : ℕ) : Type 0 where
-  pub plan_bytes : List ℕ
-  pub rest : List ℕ
+  pub head : TraceHead
   pub plan : Plan
-  pub head : head_of bytes ≡ Some (plan_bytes, rest)
-  pub spelled : PlanOf plan_bytes (Ok plan)
-  pub wrong : IsWrongAfter plan (lines_behind plan rest) i
+  pub begun : head_of bytes ≡ Some head
+  pub spelled : IsPlanIn head.version head.plan (Ok plan)
+  pub wrong : IsWrongAfter (is_version_2 head.version) plan (lines_behind plan head.rest) i
 
 -- This index is the first that is wrong: 0 where there is no head.
 abbrev pub IsNotRun : List ℕ → ℕ → Type 0
@@ -99,9 +131,28 @@ abbrev pub replay_fault : ReplayError → TraceFault
 replay_fault (replays.NotRun i) = NotRun i
 replay_fault replays.OutOfMemory = OutOfMemory
 
--- what is checked of lines: they are of the form, with this table, and so many events are a run that leads to it
-pub record AreChecked (p : Plan) (ls : LinesRead) (events : ℕ) (rows : TableRows) : Type 0 where
-  pub form : of_lines ls ≡ Ok (ls.entries, table_text p rows)
-  pub run : AreRun p ls.entries
-  pub table : IsLastTable p ls.entries rows
-  pub count : events ≡ length ls.entries
+abbrev pub run_of : Checked → FoundRun
+run_of checked = record { events = checked.events; left_out = checked.left_out; rows = checked.rows }
+
+-- what is checked of lines of version 2: they are of the form, with this table, and so many events are a run that
+-- leads to it
+pub record AreChecked (p : Plan) (ls : LinesRead) (found : FoundRun) : Type 0 where
+  pub form : of_lines ls ≡ Ok (ls.entries, table_text p found.rows)
+  pub run : AreRun p (events_of ls.entries)
+  pub table : IsLastTable p (events_of ls.entries) found.rows
+  pub events : found.events ≡ length ls.entries
+  pub left_out : found.left_out ≡ 0
+
+-- of lines of version 1: they are of the form, so many events are kept, so many left out, and what is kept leads to
+-- this table
+pub record AreMigrated (p : Plan) (ls : LinesRead) (found : FoundRun) : Type 0 where
+  pub text : List ℕ
+  pub form : of_lines ls ≡ Ok (ls.entries, text)
+  pub run : List Event
+  pub kept : AreKeptOf p (events_of ls.entries) run found.left_out
+  pub table : IsLastTable p run found.rows
+  pub events : found.events ≡ length run
+
+abbrev pub AreFound : Bool → Plan → LinesRead → FoundRun → Type 0
+AreFound true p ls found = AreChecked p ls found
+AreFound false p ls found = AreMigrated p ls found

@@ -22,6 +22,10 @@ setup_ends p n from to = codes "setup " ++ call_name p n ++ codes " " ++ node_na
 abbrev pub protection : Bool → List ℕ
 protection protected = if protected then [] else codes " unprotected"
 
+-- ` both` where the call is two-way
+abbrev pub directions : Bool → List ℕ
+directions both = if both then codes " both" else []
+
 -- the word and the links of a route that is given, each with a space in front
 abbrev pub route_after : List ℕ → Option (List Step) → List ℕ
 route_after word None = []
@@ -31,10 +35,10 @@ route_after word (Some steps) = codes " " ++ word ++ codes " " ++ links_text ste
 abbrev pub routes_given : Option (List Step) → Option (List Step) → List ℕ
 routes_given via backup = route_after (codes "via") via ++ route_after (codes "backup") backup
 
--- the words of the line; no script line asks for a two-way call
+-- the words of the line
 abbrev pub command_text : Plan → Command → List ℕ
 command_text p (Setup n from to protected both via backup) =
-    setup_ends p n from to ++ protection protected ++ routes_given via backup
+    setup_ends p n from to ++ protection protected ++ directions both ++ routes_given via backup
 command_text p (Release n from) = of_call p (codes "release") n
 command_text p (Protect n from) = of_call p (codes "protect") n
 command_text p (Retry n from) = of_call p (codes "retry") n

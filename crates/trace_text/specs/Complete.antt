@@ -20,7 +20,7 @@ use Rattle.script_rules.specs.Stages.{Stage, last_of, new_stage}
 use Rattle.script_rules.specs.Tables.{IsTable}
 use Rattle.world_merge.specs.Orders.{IsMerge}
 use Rattle.world_rules.specs.Images.{image}
-use Rattle.trace_text.specs.Checks.{ChecksAs, IsChecked}
+use Rattle.trace_text.specs.Checks.{ChecksAs, IsRunTrace}
 use Rattle.trace_text.specs.RoundTrip.{IsNamed}
 use Rattle.trace_text.specs.TraceText.{trace_text}
 use Rattle.trace_text.specs.Widths.{TraceFits}
@@ -84,9 +84,10 @@ pub record IsMadeOf (p : Plan) (plan_bytes : List ℕ) (r : Record) (es : List E
   pub posts : IsPrefix (posted_in (posts_in r)) (commands_of p.lines)
   pub table : IsTable p.topology (image (world_of p.topology r)) rows
 
--- the text of its trace is that of a run, with this table
+-- the text of its trace is that of this run, with this table, and nothing is left out
 abbrev pub EveryRunIsChecked : Type 0
 EveryRunIsChecked =
     (p : Plan) (plan_bytes : List ℕ) (r : Record) (es : List Entry) (rows : TableRows) →
     IsMadeOf p plan_bytes r es rows → TraceFits plan_bytes es →
-    IsChecked (trace_text p plan_bytes es rows) (record { events = length es; plan = p; rows = rows })
+    IsRunTrace (trace_text p plan_bytes es rows)
+    (record { version = 2; events = length es; left_out = 0; plan = p; rows = rows })

@@ -80,9 +80,10 @@ AllLinesAreRead =
 
 abbrev pub told_trace : Plan → List ℕ → List Entry → TableRows → Trace
 told_trace p plan_bytes es rows =
-    record { plan_bytes = plan_bytes; plan = p; entries = es; table = table_text p rows }
+    record { version = 2; plan_bytes = plan_bytes; plan = p; entries = es; table = table_text p rows }
 
--- The trace of such entries over a plan is read as the plan's bytes, the plan, the entries and the text of the table.
+-- The trace of such entries over a plan is read as version 2, with the plan's bytes, the plan, the entries and the
+-- text of the table.
 abbrev pub EveryTraceIsRead : Type 0
 EveryTraceIsRead =
     (p : Plan) (plan_bytes : List ℕ) (es : List Entry) (rows : TableRows) → PlanOf plan_bytes (Ok p) →

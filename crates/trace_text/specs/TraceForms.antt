@@ -1,5 +1,5 @@
 -- The parts of a trace around its entries, and what is wrong first.
-use Rattle.std.specs.Prelude.{ℕ, ◌+◌, ◌-◌, ◌==◌, ◌&&◌, ◌||◌, nat_le, List, [], ◌∷◌, Option, Some, None, Result, Ok, Err, bytes_eq, codes, drop, length, take, if◌then◌else◌}
+use Rattle.std.specs.Prelude.{ℕ, ◌+◌, ◌-◌, ◌==◌, ◌&&◌, ◌||◌, nat_le, Bool, List, [], ◌∷◌, Option, Some, None, Result, Ok, Err, bytes_eq, codes, drop, length, take, if◌then◌else◌}
 use Rattle.ason_base.specs.declared.commands.Entry.{Entry}
 use Rattle.ason_base.specs.declared.numerals.NumeralFault.{NumeralFault}
 use Rattle.ason_base.specs.declared.numerals.NumeralFault.TheVariants.{NoNumber, OutOfRange}
@@ -9,6 +9,7 @@ use Rattle.trace_text.specs.EntryForms.{stamp_of}
 use Rattle.trace_text.specs.LinesRead.{LinesRead, lines_from}
 use Rattle.trace_text.specs.Words.{behind_word, parted}
 use Rattle.trace_text.specs.declared.forms.Form.{Form}
+use Rattle.trace_text.specs.declared.forms.Head.{Head}
 
 -- Head
 
@@ -26,13 +27,36 @@ abbrev pub plan_in : Option (List ℕ × List ℕ) → Option (List ℕ × List 
 plan_in None = None
 plan_in (Some (line, rest)) = plan_within rest (number_in (behind_word (codes "plan ") line))
 
-abbrev pub plan_behind : Option (List ℕ × List ℕ) → Option (List ℕ × List ℕ)
-plan_behind None = None
-plan_behind (Some (line, rest)) = if bytes_eq line (codes "ason-trace 1") then plan_in (parted 10 rest) else None
+-- the version, the plan's bytes, and what is behind the newline after them
+pub record TraceHead : Type 0 where
+  pub version : ℕ
+  pub plan : List ℕ
+  pub rest : List ℕ
 
--- the plan's bytes, and what is behind the newline after them: the two head lines, so many bytes and a newline
-abbrev pub head_of : List ℕ → Option (List ℕ × List ℕ)
-head_of bytes = plan_behind (parted 10 bytes)
+abbrev pub version_of : List ℕ → Option ℕ
+version_of line =
+    if bytes_eq line (codes "ason-trace 2") then Some 2
+    else if bytes_eq line (codes "ason-trace 1") then Some 1
+    else None
+
+abbrev pub with_version : ℕ → Option (List ℕ × List ℕ) → Option TraceHead
+with_version version None = None
+with_version version (Some (plan, rest)) = Some (record { version = version; plan = plan; rest = rest })
+
+abbrev pub if_version : List ℕ → Option ℕ → Option TraceHead
+if_version rest None = None
+if_version rest (Some version) = with_version version (plan_in (parted 10 rest))
+
+abbrev pub head_in : Option (List ℕ × List ℕ) → Option TraceHead
+head_in None = None
+head_in (Some (line, rest)) = if_version rest (version_of line)
+
+-- the head of a trace of version 1 or 2: the two head lines, so many bytes and a newline
+abbrev pub head_of : List ℕ → Option TraceHead
+head_of bytes = head_in (parted 10 bytes)
+
+abbrev pub is_version_2 : ℕ → Bool
+is_version_2 version = version == 2
 
 -- Entries
 
@@ -97,6 +121,9 @@ abbrev pub form_of : Plan → List ℕ → Result (List Entry × List ℕ) ℕ
 form_of p rest = or_uncounted (lines_behind p rest)
 
 -- Views
+
+abbrev pub head_now : Head → TraceHead
+head_now head = record { version = head.version; plan = head.plan.now; rest = head.rest.now }
 
 abbrev pub form_now : Result Form ℕ → Result (List Entry × List ℕ) ℕ
 form_now (Ok form) = Ok (form.entries.items, form.table.now)

@@ -4,27 +4,30 @@ use Rattle.plan_reader.specs.declared.faults.PlanError.{PlanError}
 use Rattle.plan_reader.specs.declared.faults.PlanError.TheVariants as plan_errors
 use Rattle.plan_reader.specs.declared.faults.PlanFault.{PlanFault}
 use Rattle.plan_reader.specs.declared.plan.Plan.{Plan}
-use Rattle.plan_reader.specs.Plans.{PlanOf}
-use Rattle.trace_text.specs.TraceForms.{form_of, head_of}
+use Rattle.plan_reader.specs.Plans.{IsSpelled}
+use Rattle.trace_text.specs.TraceForms.{TraceHead, form_of, head_of, is_version_2}
 use Rattle.trace_text.specs.declared.read.Trace.{Trace}
 use Rattle.trace_text.specs.declared.read.TraceFault.{TraceFault}
 use Rattle.trace_text.specs.declared.read.TraceFault.TheVariants.{NotRun, Plan as RefusedPlan, OutOfMemory}
 
--- The bytes are of the form of a trace of this plan with these entries and this table.
+-- the bytes are this plan of a trace of this version, or its first fault; in version 1 no setup is two-way
+abbrev pub IsPlanIn : ℕ → List ℕ → Result Plan PlanFault → Type 0
+IsPlanIn version bytes r = IsSpelled (is_version_2 version) bytes r
+
+-- The bytes are of the form of a trace of this version and this plan with these entries and this table.
 pub record IsTraceOf (bytes : List ℕ) (trace : Trace) : Type 0 where
   pub rest : List ℕ
-  pub head : head_of bytes ≡ Some (trace.plan_bytes, rest)
-  pub plan : PlanOf trace.plan_bytes (Ok trace.plan)
+  pub head : head_of bytes ≡ Some (record { version = trace.version; plan = trace.plan_bytes; rest = rest })
+  pub plan : IsPlanIn trace.version trace.plan_bytes (Ok trace.plan)
   pub form : form_of trace.plan rest ≡ Ok (trace.entries, trace.table)
 
 -- Behind the head of a plan without fault this index is the first that is wrong.
 pub record IsWrongBehind (bytes : List ℕ) (i : ℕ) : Type 0 where
-  pub plan_bytes : List ℕ
-  pub rest : List ℕ
+  pub head : TraceHead
   pub plan : Plan
-  pub head : head_of bytes ≡ Some (plan_bytes, rest)
-  pub spelled : PlanOf plan_bytes (Ok plan)
-  pub form : form_of plan rest ≡ Err i
+  pub begun : head_of bytes ≡ Some head
+  pub spelled : IsPlanIn head.version head.plan (Ok plan)
+  pub form : form_of plan head.rest ≡ Err i
 
 -- This index is the first that is wrong: 0 where there is no head.
 abbrev pub IsFirstWrong : List ℕ → ℕ → Type 0
@@ -32,10 +35,9 @@ IsFirstWrong bytes i = ((head_of bytes ≡ None) × (i ≡ 0)) ⊎ IsWrongBehind
 
 -- There is a head, and this is the first fault of the plan in it.
 pub record IsRefused (bytes : List ℕ) (fault : PlanFault) : Type 0 where
-  pub plan_bytes : List ℕ
-  pub rest : List ℕ
-  pub head : head_of bytes ≡ Some (plan_bytes, rest)
-  pub spelled : PlanOf plan_bytes (Err fault)
+  pub head : TraceHead
+  pub begun : head_of bytes ≡ Some head
+  pub spelled : IsPlanIn head.version head.plan (Err fault)
 
 -- what `read_trace` answers; want of memory may come at any time
 abbrev pub ReadsAs : List ℕ → Result Trace TraceFault → Type 0

@@ -8,9 +8,9 @@ use Rattle.plan_reader.specs.declared.plan.Plan.{Plan}
 use Rattle.table_text.specs.TableText.{table_text}
 use Rattle.trace_text.specs.EntryLines.{entry_line}
 
--- the version, and how many bytes the plan has
+-- the version, which is 2, and how many bytes the plan has
 abbrev pub plan_line : ℕ → List ℕ
-plan_line bytes = codes "ason-trace 1\nplan " ++ decimal bytes ++ codes "\n"
+plan_line bytes = codes "ason-trace 2\nplan " ++ decimal bytes ++ codes "\n"
 
 -- behind the plan's bytes: how many events there are
 abbrev pub events_line : ℕ → List ℕ

@@ -1,33 +1,46 @@
-//! Checks that a trace is that of a run of its plan.
+//! Checks that a trace is that of a run of its plan, and migrates one of version 1.
 
-ghost use Rattle.std.specs.Prelude.{◌≡◌, IfErr, IfOk, Ok, Some, bytes_eq};
+ghost use Rattle.std.specs.Prelude.{◌≡◌, IfErr, IfOk, bytes_eq, false, true};
 ghost use Rattle.ason_base.specs.Network.{IsTopology};
 ghost use Rattle.plan_reader.specs.Plans.{HasNames};
 ghost use Rattle.script_rules.specs.Tables.{IsTable};
 ghost use Rattle.table_text.specs.TableText.{table_text};
-ghost use Rattle.trace_text.specs.Checks.{AreChecked, ChecksAs, IsFaultBy, IsWrongLine, replay_fault};
+ghost use Rattle.trace_text.specs.Checks.{AreChecked, AreFound, AreMigrated, ChecksAs, IsFaultBy, IsWrongLine, replay_fault};
 ghost use Rattle.trace_text.specs.LinesRead.{lines_now};
+ghost use Rattle.trace_text.specs.TraceForms.{is_version_2};
 ghost use Rattle.world_core.specs.Replays.{IsFirstDisabled};
 ghost use Rattle.world_merge.specs.Merges.{events_of};
 ghost use Rattle.world_rules.specs.Images.{image};
 ghost use Rattle.world_rules.specs.Runs.{IsRun, after};
 ghost use Rattle.world_rules.specs.Worlds.{start};
 
-use crate::forms::{head_of, lines_behind, table_of};
+use crate::forms::{head_of, lines_behind, of_lines, plan_of, table_of};
 use crate::read::TraceFault;
 use crate::reading::ReadLines;
 use ason_base::{Entry, Event, OutOfMemory, TableRows, Topology};
-use plan_reader::{Plan, read_plan};
+use plan_reader::Plan;
 use script_rules::sort_rows;
 use std::alloc::Global;
 use table_text::write_table;
-use world_core::{ReplayError, replay};
+use world_core::{ReplayError, migrate, replay};
 
-/// What is told of the trace of a run: how many events there are, the plan, and the rows of the table.
+/// What is told of a trace: its version, how many events its run has, how many of the trace are left out of it, the
+/// plan, and the rows of the run's table. In version 2 none is left out.
 #[derive(Drop)]
 pub struct Checked {
+    pub version: u8,
     pub events: u64,
+    pub left_out: u64,
     pub plan: Plan,
+    pub rows: TableRows,
+}
+
+/// What is found of the lines of a trace: how many events their run has, how many are left out of it, and the rows of
+/// its table.
+#[derive(Drop)]
+pub struct FoundRun {
+    pub events: u64,
+    pub left_out: u64,
     pub rows: TableRows,
 }
 
@@ -75,14 +88,10 @@ fn is_table(alloc: Global, plan: &Plan, rows: &TableRows, text: &[u8]) -> Result
     Ok(text == own.as_slice())
 }
 
-// How many events the lines have, and the rows of their table, if they are those of a run.
-fn check_lines<'a>(
-    alloc: Global,
-    plan: &Plan,
-    read: ReadLines<'a>,
-) -> Result<(u64, TableRows), TraceFault>
-    ensures run { IfOk result (λ c. AreChecked plan.now (lines_now read.entry) c.0 c.1) }
-    ensures wrong { IfErr result (IsFaultBy (IsWrongLine plan.now (lines_now read.entry))) }
+// The run of the lines of version 2: all their events, if these are a run and its table follows.
+fn checked_run<'a>(alloc: Global, plan: &Plan, read: ReadLines<'a>) -> Result<FoundRun, TraceFault>
+    ensures run { IfOk result (AreChecked plan.now (lines_now read.entry)) }
+    ensures wrong { IfErr result (IsFaultBy (IsWrongLine true plan.now (lines_now read.entry))) }
 {
     let ReadLines {
         entries,
@@ -101,25 +110,79 @@ fn check_lines<'a>(
     if !is_table(alloc, plan, &rows, table)? {
         return Err(TraceFault::NotRun(count + 1));
     }
-    Ok((count, rows))
+    Ok(FoundRun {
+        events: count,
+        left_out: 0,
+        rows,
+    })
+}
+
+// The run of the lines of version 1: the events that are enabled after those kept before them.
+fn migrated_run<'a>(alloc: Global, plan: &Plan, read: ReadLines<'a>) -> Result<FoundRun, TraceFault>
+    ensures run { IfOk result (AreMigrated plan.now (lines_now read.entry)) }
+    ensures wrong { IfErr result (IsFaultBy (IsWrongLine false plan.now (lines_now read.entry))) }
+{
+    let form = match of_lines(read) {
+        Ok(form) => form,
+        Err(i) => return Err(TraceFault::NotRun(i)),
+    };
+    let events = events_of(alloc, form.entries)?;
+    let migrated = migrate(alloc, &plan.topology, &events)?;
+    let rows = last_rows(alloc, &plan.topology, migrated.events.items())?;
+    Ok(FoundRun {
+        events: migrated.events.items().len() as u64,
+        left_out: migrated.left_out,
+        rows,
+    })
+}
+
+// The run of the lines of a trace of this version.
+fn check_lines<'a>(
+    alloc: Global,
+    version: u8,
+    plan: &Plan,
+    read: ReadLines<'a>,
+) -> Result<FoundRun, TraceFault>
+    ensures run { IfOk result (AreFound (is_version_2 version) plan.now (lines_now read.entry)) }
+    ensures wrong { IfErr result
+        (IsFaultBy (IsWrongLine (is_version_2 version) plan.now (lines_now read.entry))) }
+{
+    if version == 2 {
+        checked_run(alloc, plan, read)
+    } else {
+        migrated_run(alloc, plan, read)
+    }
 }
 
 /// Checks that the bytes are the trace of a run of their plan, with the table of the world to which the run leads. The
 /// fault is the first index that is wrong: 0 for the head and the line that tells how many events there are, an
 /// event's number from 1 for a line that isn't of the form or whose event isn't enabled, or one more than there are
 /// events for what follows them. A fault of the plan comes before whatever is wrong behind the plan.
+///
+/// A trace of version 1 is migrated: of its events those are kept that are enabled after the ones kept before them, and
+/// its table may be any lines. So an index that is wrong is one of its form alone.
 pub fn check(alloc: Global, bytes: &[u8]) -> Result<Checked, TraceFault>
     ensures checks { ChecksAs bytes.now result }
     ensures valid { IfOk result (λ c. IsTopology c.plan.topology) }
     ensures named { IfOk result (λ c. HasNames c.plan) }
 {
-    let Some((plan_bytes, rest)) = head_of(bytes) else {
+    let Some(head) = head_of(bytes) else {
         return Err(TraceFault::NotRun(0));
     };
-    let plan = read_plan(alloc, plan_bytes)?;
-    let Some(read) = lines_behind(alloc, &plan, rest)? else {
+    let plan = plan_of(alloc, head.version, head.plan)?;
+    let Some(read) = lines_behind(alloc, &plan, head.rest)? else {
         return Err(TraceFault::NotRun(0));
     };
-    let (events, rows) = check_lines(alloc, &plan, read)?;
-    Ok(Checked { events, plan, rows })
+    let FoundRun {
+        events,
+        left_out,
+        rows,
+    } = check_lines(alloc, head.version, &plan, read)?;
+    Ok(Checked {
+        version: head.version,
+        events,
+        left_out,
+        plan,
+        rows,
+    })
 }

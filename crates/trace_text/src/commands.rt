@@ -2,7 +2,7 @@
 
 ghost use Rattle.std.specs.Prelude.{OnOk};
 ghost use Rattle.ason_base.specs.Texts.{Appends};
-ghost use Rattle.trace_text.specs.CommandText.{command_text, of_call, protection, route_after, routes_given, setup_ends};
+ghost use Rattle.trace_text.specs.CommandText.{command_text, directions, of_call, protection, route_after, routes_given, setup_ends};
 
 use ason_base::{CallNo, Command, NodeId, OutOfMemory, Steps};
 use plan_reader::Plan;
@@ -20,12 +20,13 @@ pub fn push_command(text: &mut String, plan: &Plan, command: &Command) -> Result
             from,
             to,
             protected,
+            both,
             via,
             backup,
-            ..
         } => {
             push_ends(text, plan, *call, *from, *to)?;
             push_protection(text, *protected)?;
+            push_directions(text, *both)?;
             push_routes(text, via, backup)
         }
         Command::Release { call, .. } => push_of_call(text, plan, "release", *call),
@@ -72,6 +73,15 @@ fn push_protection(text: &mut String, protected: bool) -> Result<(), OutOfMemory
 {
     if !protected {
         text.push_str(" unprotected")?;
+    }
+    Ok(())
+}
+
+fn push_directions(text: &mut String, both: bool) -> Result<(), OutOfMemory>
+    ensures { OnOk result (Appends text.old text.new (directions both)) }
+{
+    if both {
+        text.push_str(" both")?;
     }
     Ok(())
 }

@@ -2,15 +2,17 @@
 
 ghost use Rattle.std.specs.Prelude.{◌≡◌, ◌∷◌, [], IfOk, bytes_eq, drop, option_copied, take};
 ghost use Rattle.std.specs.Option.{option_map};
+ghost use Rattle.ason_base.specs.Network.{IsTopology};
+ghost use Rattle.plan_reader.specs.Plans.{Answers, ArePostable, HasNames};
 ghost use Rattle.trace_text.specs.LinesRead.{lines_now};
-ghost use Rattle.trace_text.specs.TraceForms.{count_in, form_now, form_of, head_of, lines_behind, number_in, of_lines, plan_within, table_in, table_of};
+ghost use Rattle.trace_text.specs.TraceForms.{count_in, form_now, form_of, head_now, head_of, is_version_2, lines_behind, number_in, of_lines, plan_within, table_in, table_of, version_of};
 ghost use Rattle.trace_text.specs.Words.{both_now};
 
 use crate::entries::stamp_of;
 use crate::reading::{ReadLines, read_lines};
 use crate::words::{behind_word, parted};
 use ason_base::{Entry, NumeralFault, OutOfMemory, number_within};
-use plan_reader::Plan;
+use plan_reader::{Plan, PlanError, read_plan, read_plan_1};
 use std::alloc::Global;
 
 fn is_newline(bytes: &[u8], place: usize) -> bool
@@ -42,16 +44,53 @@ fn plan_within(bytes: &[u8], count: Option<u64>) -> Option<(&[u8], &[u8])>
     Some((&bytes[..count], &bytes[count + 1..]))
 }
 
-/// The plan's bytes, and what is behind the newline after them; none where the head isn't there.
-pub fn head_of(bytes: &[u8]) -> Option<(&[u8], &[u8])>
-    ensures { option_map both_now result ≡ head_of bytes.now }
+fn version_of(line: &[u8]) -> Option<u8>
+    ensures { result ≡ version_of line.now }
+{
+    if line == b"ason-trace 2".as_slice() {
+        Some(2)
+    } else if line == b"ason-trace 1".as_slice() {
+        Some(1)
+    } else {
+        None
+    }
+}
+
+/// The version of a trace, the plan's bytes, and what is behind the newline after them.
+#[derive(Clone, Copy)]
+pub struct Head<'a> {
+    pub version: u8,
+    pub plan: &'a [u8],
+    pub rest: &'a [u8],
+}
+
+/// The head of a trace; none where it isn't there.
+pub fn head_of(bytes: &[u8]) -> Option<Head<'_>>
+    ensures { option_map head_now result ≡ head_of bytes.now }
 {
     let (line, rest) = parted(bytes, b'\n')?;
-    if line != b"ason-trace 1".as_slice() {
-        return None;
-    }
+    let version = version_of(line)?;
     let (line, rest) = parted(rest, b'\n')?;
-    plan_within(rest, number_in(behind_word(b"plan ".as_slice(), line)))
+    let (plan, rest) = plan_within(rest, number_in(behind_word(b"plan ".as_slice(), line)))?;
+    Some(Head {
+        version,
+        plan,
+        rest,
+    })
+}
+
+/// Reads the plan of a trace of this version. Before version 2 no setup was two-way.
+pub fn plan_of(alloc: Global, version: u8, bytes: &[u8]) -> Result<Plan, PlanError>
+    ensures plan { Answers (is_version_2 version) bytes.now result }
+    ensures valid { IfOk result (λ p. IsTopology p.topology) }
+    ensures postable { IfOk result (λ p. ArePostable p.topology [] p.lines) }
+    ensures named { IfOk result (λ p. HasNames p) }
+{
+    if version == 2 {
+        read_plan(alloc, bytes)
+    } else {
+        read_plan_1(alloc, bytes)
+    }
 }
 
 // How many entries are told. A number above all that could be there counts as the greatest.
@@ -94,7 +133,8 @@ pub struct Form<'a> {
     pub table: &'a [u8],
 }
 
-fn of_lines<'a>(read: ReadLines<'a>) -> Result<Form<'a>, u64>
+/// What is read of lines as a form, or the first index that is wrong.
+pub fn of_lines<'a>(read: ReadLines<'a>) -> Result<Form<'a>, u64>
     ensures { form_now result ≡ of_lines (lines_now read.entry) }
 {
     if let Some(i) = read.wrong {

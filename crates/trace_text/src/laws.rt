@@ -24,7 +24,8 @@ pub fn every_reading()
 {}
 
 /// Law: bytes are checked with one answer alone, want of memory aside. So they are the trace of a run of their plan
-/// with that run's table just where `check` says so, or could for want of memory.
+/// with that run's table, or of version 1 and migrated to this run, just where `check` says so, or could for want of
+/// memory.
 pub fn every_check()
     ensures { EveryCheckIsOne }
 {

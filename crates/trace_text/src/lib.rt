@@ -1,5 +1,6 @@
 //! The trace of a run: its plan, the event of each entry and the last table, written line by line while the entries
-//! come, read by its form, and checked to be that of a run.
+//! come, read by its form, and checked to be that of a run. What was written before there were two-way setups is read
+//! too, and migrated.
 #![tactic(auto)]
 
 pub mod checking;

@@ -34,7 +34,7 @@ fn plan_line(alloc: Global, bytes: usize) -> Result<String, OutOfMemory>
     ensures text { IfOk result (λ text. string_bytes text ≡ plan_line bytes) }
     ensures fits { bytes < 2 ^ 64 }
 {
-    let text = format!(in alloc; "ason-trace 1\nplan {bytes}\n")?;
+    let text = format!(in alloc; "ason-trace 2\nplan {bytes}\n")?;
     Ok(text)
 }
 

@@ -6,17 +6,19 @@ ghost use Rattle.plan_reader.specs.Plans.{ArePostable, HasNames};
 ghost use Rattle.trace_text.specs.TraceRead.{ReadsAs, trace_fault};
 ghost use Rattle.trace_text.specs.declared.read.TraceFault.{TraceFault};
 
-use crate::forms::{form_of, head_of};
+use crate::forms::{form_of, head_of, plan_of};
 use ason_base::{Bytes, Entry, Items, OutOfMemory};
-use plan_reader::{Plan, PlanError, PlanFault, read_plan};
+use plan_reader::{Plan, PlanError, PlanFault};
 use std::alloc::Global;
 
 /// A list of entries.
 pub type Entries = Items<Entry>;
 
-/// A trace: the bytes of its plan, the plan, the entries, and the text between the lines `table` and `end`.
+/// A trace: its version, which is 1 or 2, the bytes of its plan, the plan, the entries, and the text between the lines
+/// `table` and `end`.
 #[derive(Drop)]
 pub struct Trace {
+    pub version: u8,
     pub plan_bytes: Bytes,
     pub plan: Plan,
     pub entries: Entries,
@@ -63,25 +65,26 @@ fn copy_bytes(alloc: Global, bytes: &[u8]) -> Result<Bytes, OutOfMemory>
 }
 
 /// Reads a trace by its form alone: every event counts as one that can happen, and every table as right. A fault of
-/// the plan comes before whatever is wrong behind the plan. The plan's network is a topology, its lines can be posted one
-/// after the other, and each node and each call has its name.
+/// the plan comes before whatever is wrong behind the plan. In a trace of version 1 no setup is two-way. The plan's
+/// network is a topology, its lines can be posted one after the other, and each node and each call has its name.
 pub fn read_trace(alloc: Global, bytes: &[u8]) -> Result<Trace, TraceFault>
     ensures reads { ReadsAs bytes.now result }
     ensures valid { IfOk result (λ t. IsTopology t.plan.topology) }
     ensures postable { IfOk result (λ t. ArePostable t.plan.topology [] t.plan.lines) }
     ensures named { IfOk result (λ t. HasNames t.plan) }
 {
-    let Some((plan_bytes, rest)) = head_of(bytes) else {
+    let Some(head) = head_of(bytes) else {
         return Err(TraceFault::NotRun(0));
     };
-    let plan = read_plan(alloc, plan_bytes)?;
-    let form = match form_of(alloc, &plan, rest)? {
+    let plan = plan_of(alloc, head.version, head.plan)?;
+    let form = match form_of(alloc, &plan, head.rest)? {
         Ok(form) => form,
         Err(i) => return Err(TraceFault::NotRun(i)),
     };
-    let plan_bytes = copy_bytes(alloc, plan_bytes)?;
+    let plan_bytes = copy_bytes(alloc, head.plan)?;
     let table = copy_bytes(alloc, form.table)?;
     Ok(Trace {
+        version: head.version,
         plan_bytes,
         plan,
         entries: Entries::from_vec(form.entries),

@@ -21,7 +21,7 @@ use Rattle.world_rules.proofs.Stepping.{self_test}
 use Rattle.world_core.proofs.Places.{all-set, nodes-set, numbers-set, seat-there}
 use Rattle.world_core.proofs.Seating.{frame-stands, handle-stands, noise-stands, still-stands, tick-stands}
 use Rattle.world_rules.proofs.Untouched.{channels-join-neighbours, others-are-untouched}
-use Rattle.world_core.proofs.Left.{IsLeft, differs, others-left, posted-left, failed-left, not_of, still-nowhere}
+use Rattle.world_core.proofs.Left.{IsLeft, others-left, posted-left, failed-left, not_of, still-nowhere}
 use Rattle.world_core.proofs.FramesThere.{IsSent, channel-there, was-sent, never-sent}
 
 -- Desks and numbers of events that an event leaves

@@ -3,6 +3,7 @@ pub mod Beginning
 pub mod Finding
 pub mod FramesThere
 pub mod Left
+pub mod Migrating
 pub mod Nowhere
 pub mod Places
 pub mod Posting

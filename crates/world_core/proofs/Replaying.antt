@@ -7,7 +7,13 @@ use Rattle.world_core.specs.Replays.{HasStepped, IsDisabled, IsFirstDisabled, St
 use Rattle.world_rules.specs.Runs.{IsEnabled, IsRun, after, step}
 use Rattle.world_rules.specs.Worlds.{World, start}
 
-after-more : (t : Network) (es : List Event) (e : Event) (w : World) →
+-- the events up to the next one
+pub next-event : (events : List Event) (i : ℕ) (e : Event) → i < length events → e ≡ get_or events i e →
+    take (i + 1) events ≡ take i events ++ e ∷ []
+next-event events i e within at = take_more events i e within ∙ ap (λ x. take i events ++ x ∷ []) (sym at)
+
+-- where a run with an event more leads
+pub after-more : (t : Network) (es : List Event) (e : Event) (w : World) →
     after t w (es ++ e ∷ []) ≡ step t (after t w es) e
 after-more t [] e w = refl
 after-more t (x ∷ es) e w = after-more t es e (step t w x)
@@ -34,7 +40,7 @@ has-run-more t events e k next is stepped =
 pub run-next : (t : Network) (events : List Event) (i : ℕ) (e : Event) (k next : WorldState) → i < length events →
     e ≡ get_or events i e → HasRun t (take i events) k → HasStepped t k e next → HasRun t (take (i + 1) events) next
 run-next t events i e k next within at is stepped =
-    subst (λ es. HasRun t es next) (sym (take_more events i e within ∙ ap (λ x. take i events ++ x ∷ []) (sym at)))
+    subst (λ es. HasRun t es next) (sym (next-event events i e within at))
     (has-run-more t (take i events) e k next is stepped)
 
 -- The first that isn't enabled
@@ -60,3 +66,14 @@ first-disabled t events i e k number within at counted is disabled = record {
   run = is.run;
   disabled = disabled (after t (start t) (take i events)) is.stands;
 }
+
+-- of a run each event is enabled
+none_disabled : (t : Network) (w : World) (before later : List Event) (e : Event) → IsRun t w (before ++ e ∷ later) →
+    ¬ IsEnabled t (after t w before) e → ⊥
+none_disabled t w [] later e run off = off run.0
+none_disabled t w (x ∷ before) later e run off = none_disabled t (step t w x) before later e run.1 off
+
+-- in a run there is no first event that isn't enabled
+pub not_in_run : (t : Network) (es : List Event) (i : ℕ) → IsFirstDisabled t es i → IsRun t (start t) es → ⊥
+not_in_run t es i is run =
+    none_disabled t (start t) is.before is.later is.event (subst (IsRun t (start t)) is.all run) is.disabled

@@ -1,3 +1,4 @@
 pub mod Channels
+pub mod Migration
 pub mod Replays
 pub mod Seats

@@ -131,9 +131,9 @@ HasStepped t old e new = (w : World) → StandsFor t old w → IsEnabled t w e �
 abbrev pub IsDisabled : Network → WorldState → Event → Type 0
 IsDisabled t k e = (w : World) → StandsFor t k w → ¬ IsEnabled t w e
 
--- the event is refused just where it isn't enabled
+-- this holds where the event is refused
 abbrev pub IsRefused : Result (Unit {0}) Fault → Type 0 → Type 0
-IsRefused r Disabled = IfErr r (λ f. f ≡ NotEnabled → Disabled)
+IsRefused r Holds = IfErr r (λ f. f ≡ NotEnabled → Holds)
 
 -- Runs
 

@@ -1,6 +1,6 @@
 //! The seat of a node in a world.
 
-ghost use Rattle.std.specs.Prelude.{◌≡◌, ◌==◌, ◌<◌, [], ◌∷◌, IfErr, IfOk, IsSome, IsTrue, MatchOption, OnOk, false, is_some};
+ghost use Rattle.std.specs.Prelude.{◌≡◌, ◌==◌, ◌<◌, [], ◌∷◌, IfErr, IfNone, IfOk, IsSome, IsTrue, MatchOption, OnOk, false, is_some};
 ghost use Rattle.std.specs.Option.{option_copied};
 ghost use Rattle.ason_base.specs.Network.{find_node};
 ghost use Rattle.mesh_rules.specs.Rows.{call_rows, leg_rows};
@@ -86,6 +86,7 @@ impl Seat {
         ensures done { OnOk result (HasDone self.old (Act.Take from bytes) self.new) }
         ensures refused { IfErr result
             (λ f. f ≡ Fault.NotEnabled → can_do self.old (Act.Take from bytes) ≡ false) }
+        ensures unmoved { IfErr result (λ f. f ≡ Fault.NotEnabled → self.new ≡ self.old) }
     {
         if !self.controller.has_neighbour(from) {
             return Err(Fault::NotEnabled);
@@ -109,6 +110,7 @@ impl Seat {
             (λ i. self.old.desk ≡ i ∷ self.new.desk) }
         ensures rest { (self.new.node ≡ self.old.node) ×
             (self.new.controller ≡ self.old.controller) × (self.new.channels ≡ self.old.channels) }
+        ensures unmoved { IfNone result (self.new ≡ self.old) }
     {
         self.desk.pop_front()
     }
@@ -118,6 +120,7 @@ impl Seat {
         ensures done { OnOk result (HasDone self.old Act.Handle self.new) }
         ensures refused { IfErr result
             (λ f. f ≡ Fault.NotEnabled → can_do self.old Act.Handle ≡ false) }
+        ensures unmoved { IfErr result (λ f. f ≡ Fault.NotEnabled → self.new ≡ self.old) }
     {
         match self.pop() {
             None => Err(Fault::NotEnabled),
@@ -133,6 +136,7 @@ impl Seat {
         requires { self.old.controller.steps < 50000 }
         ensures done { OnOk result (HasDone self.old act self.new) }
         ensures refused { IfErr result (λ f. f ≡ Fault.NotEnabled → can_do self.old act ≡ false) }
+        ensures unmoved { IfErr result (λ f. f ≡ Fault.NotEnabled → self.new ≡ self.old) }
     {
         match act {
             Act::Take { from, bytes } => self.take(from, bytes),

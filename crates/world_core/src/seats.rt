@@ -51,6 +51,7 @@ pub(crate) fn act_at(seats: &mut Vec<Seat>, place: usize, act: Act) -> Result<()
     ensures refused { IfErr result
         (λ f. f ≡ Fault.NotEnabled → (s : SeatState) → slice_get seats.old.items place ≡ Some s →
         can_do s act ≡ false) }
+    ensures unmoved { IfErr result (λ f. f ≡ Fault.NotEnabled → seats.new.items ≡ seats.old.items) }
 {
     let seat = &mut seats[place];
     seat.act(act)

@@ -81,6 +81,7 @@ impl World {
     fn act(&mut self, node: NodeId, act: Act) -> Result<(), Fault>
         ensures done { OnOk result (HasActed self.old node act self.new) }
         ensures refused { IsRefused result (IsUnable self.old node act) }
+        ensures unmoved { IsRefused result (self.new ≡ self.old) }
     {
         match able_place(&self.seats, node) {
             None => Err(Fault::NotEnabled),
@@ -112,6 +113,7 @@ impl World {
             ((t : Network) → HasStepped t self.old (Event.Deliver to from number) self.new) }
         ensures refused { IsRefused result
             ((t : Network) → IsDisabled t self.old (Event.Deliver to from number)) }
+        ensures unmoved { IsRefused result (self.new ≡ self.old) }
     {
         match self.frame(alloc, from, to, number)? {
             None => Err(Fault::NotEnabled),
@@ -130,6 +132,7 @@ impl World {
             ((t : Network) → HasStepped t self.old (Event.Noise to from bytes.now) self.new) }
         ensures refused { IsRefused result
             ((t : Network) → IsDisabled t self.old (Event.Noise to from bytes.now)) }
+        ensures unmoved { IsRefused result (self.new ≡ self.old) }
     {
         if !is_channel_there(&self.seats, from, to) {
             return Err(Fault::NotEnabled);
@@ -146,6 +149,7 @@ impl World {
             ((t : Network) → HasStepped t self.old (Event.Tick node) self.new) }
         ensures refused { IsRefused result
             ((t : Network) → IsDisabled t self.old (Event.Tick node)) }
+        ensures unmoved { IsRefused result (self.new ≡ self.old) }
     {
         self.act(node, Act::Tick)
     }
@@ -155,6 +159,7 @@ impl World {
             ((t : Network) → HasStepped t self.old (Event.Desk node) self.new) }
         ensures refused { IsRefused result
             ((t : Network) → IsDisabled t self.old (Event.Desk node)) }
+        ensures unmoved { IsRefused result (self.new ≡ self.old) }
     {
         self.act(node, Act::Handle)
     }
@@ -163,6 +168,7 @@ impl World {
     fn put(&mut self, alloc: Global, node: NodeId, command: &Command) -> Result<(), Fault>
         ensures done { OnOk result (IsPut self.old.seats node (Order command.now) self.new.seats) }
         ensures refused { IsRefused result (position (is_at node.0) self.old.seats ≡ None) }
+        ensures unmoved { IsRefused result (self.new ≡ self.old) }
         ensures posted { self.new.posted ≡ self.old.posted }
         ensures failed { self.new.failed ≡ self.old.failed }
     {
@@ -197,6 +203,7 @@ impl World {
         ensures done { OnOk result
             (HaveHeard t.now self.old command.now (ingress_of command.now) self.new.seats) }
         ensures refused { IsRefused result (IsForNobody self.old.seats command.now) }
+        ensures unmoved { IsRefused result (self.new ≡ self.old) }
         ensures posted { self.new.posted ≡ self.old.posted }
     {
         match ingress_of(command) {
@@ -223,6 +230,7 @@ impl World {
     fn give(&mut self, alloc: Global, t: &Topology, command: &Command) -> Result<(), Fault>
         ensures done { OnOk result (IsGiven t.now self.old command.now self.new) }
         ensures refused { IsRefused result (IsForNobody self.old.seats command.now) }
+        ensures unmoved { IsRefused result (self.new ≡ self.old) }
     {
         let failed = failed_after(alloc, &self.failed, command)?;
         self.order(alloc, t, command, &failed)?;
@@ -234,6 +242,7 @@ impl World {
     fn post(&mut self, alloc: Global, t: &Topology, command: &Command) -> Result<(), Fault>
         ensures done { OnOk result (HasStepped t.now self.old (Event.Post command.now) self.new) }
         ensures refused { IsRefused result (IsDisabled t.now self.old (Event.Post command.now)) }
+        ensures unmoved { IsRefused result (self.new ≡ self.old) }
     {
         let _links = t.links();
         if !is_valid(t, command) {
@@ -245,10 +254,11 @@ impl World {
         self.give(alloc, t, command)
     }
 
-    /// Makes an event, where it is enabled.
+    /// Makes an event, where it is enabled. One that isn't changes nothing.
     pub(crate) fn step(&mut self, alloc: Global, t: &Topology, event: &Event) -> Result<(), Fault>
         ensures done { OnOk result (HasStepped t.now self.old event.now self.new) }
         ensures refused { IsRefused result (IsDisabled t.now self.old event.now) }
+        ensures unmoved { IsRefused result (self.new ≡ self.old) }
     {
         match event {
             Event::Deliver { to, from, number } => self.deliver(alloc, *to, *from, *number),

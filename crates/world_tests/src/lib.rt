@@ -14,4 +14,6 @@ mod replays;
 #[cfg(test)]
 mod stations;
 #[cfg(test)]
+mod two_way;
+#[cfg(test)]
 mod views;

@@ -14,26 +14,52 @@ pub(crate) const C: NodeId = NodeId(3);
 
 pub(crate) const LINK: LinkId = LinkId(1);
 
-/// So many nodes in a row, from a on, which convert. Link 1 joins a and b, link 2 b and c, each with
-/// so many labels.
-pub(crate) fn row(alloc: Global, nodes: u32, labels: u8) -> Result<Topology, Fail> {
+/// A link's number and its ends.
+pub(crate) type Ends = (u32, u32, u32);
+
+/// Two nodes and a link.
+pub(crate) const PAIR: &[Ends] = &[(1, 1, 2)];
+
+/// Three nodes in a row.
+pub(crate) const ROW: &[Ends] = &[(1, 1, 2), (2, 2, 3)];
+
+/// Three nodes, each beside each other.
+pub(crate) const TRIANGLE: &[Ends] = &[(1, 1, 2), (2, 2, 3), (3, 1, 3)];
+
+/// The nodes that are ends of these links, from a on. Each link has so many labels.
+pub(crate) fn network(
+    alloc: Global,
+    convert: bool,
+    ends: &[Ends],
+    labels: u8,
+) -> Result<Topology, Fail> {
     let mut specs = Vec::new(alloc);
     let mut links = Vec::new(alloc);
-    for before in 0..nodes {
-        let id = NodeId(before + 1);
-        specs.push(NodeSpec { id, convert: true })?;
-        if before > 0 {
-            links.push(LinkSpec {
-                id: LinkId(before),
-                low: NodeId(before),
-                high: id,
-                labels,
-                metric: 1,
-                srlgs: Numbers::new(alloc),
+    let mut nodes = 0;
+    for (id, low, high) in ends.iter().copied() {
+        for node in nodes..high {
+            specs.push(NodeSpec {
+                id: NodeId(node + 1),
+                convert,
             })?;
         }
+        nodes = nodes.max(high);
+        links.push(LinkSpec {
+            id: LinkId(id),
+            low: NodeId(low),
+            high: NodeId(high),
+            labels,
+            metric: 1,
+            srlgs: Numbers::new(alloc),
+        })?;
     }
     Ok(Topology::new(alloc, 0, &specs, &links)?)
+}
+
+/// Two nodes in a row or three, which convert. Each link has so many labels.
+pub(crate) fn row(alloc: Global, nodes: u32, labels: u8) -> Result<Topology, Fail> {
+    let ends = if nodes == 2 { PAIR } else { ROW };
+    network(alloc, true, ends, labels)
 }
 
 // The call of this number from a, over these steps or whatever route.

@@ -13,15 +13,16 @@ use Rattle.ason_base.specs.declared.commands.Group.{Group}
 use Rattle.ason_base.specs.declared.steps.Step.{Step}
 use Rattle.ason_base.specs.declared.tables.CallRec.{CallRec}
 use Rattle.ason_base.specs.declared.tables.Leg.{Leg}
+use Rattle.ason_base.specs.Codes.{label_code}
 use Rattle.mesh_rules.specs.declared.limits.TheConstants.{LAST_NUMBER}
 use Rattle.mesh_rules.specs.Calls.{bare, blocked, call_with, guarded, is_asking, is_pairing, is_turning, turned, unbacked}
 use Rattle.mesh_rules.specs.CallSteps.{backup_refused, backup_reserved, call_answered, call_refused, call_turned, work_connected, work_refused}
 use Rattle.mesh_rules.specs.Changes.{nothing}
-use Rattle.mesh_rules.specs.FirstLegs.{first_leg, first_link, is_full}
+use Rattle.mesh_rules.specs.FirstLegs.{first_leg, first_link, is_full, lacks_first_back}
 use Rattle.mesh_rules.specs.KnownRows.{known_rows}
 use Rattle.mesh_rules.specs.Legs.{find_leg, is_work}
 use Rattle.mesh_rules.specs.LocalNodes.{LocalNode}
-use Rattle.mesh_rules.specs.Pairs.{backup_lsp, backup_route, begins_backup, leaves_bare, over_backup, pair, pair_over, route_from}
+use Rattle.mesh_rules.specs.Pairs.{backup_lsp, backup_route, begins_backup, guarding, is_two_way, leaves_bare, over_backup, pair, pair_over, route_from}
 use Rattle.mesh_rules.specs.State.{NodeState}
 use Rattle.mesh_rules.specs.Turns.{activating, call_put, decide, has_any}
 use Rattle.mesh_nodes.proofs.Cases.{if_cases}
@@ -71,8 +72,10 @@ module _ (t : Network) (gs : List Group) (o : Routes) (p : LocalNode) (s : NodeS
   over-fine c w route None of = bare-fine c NoBackup of
   over-fine c w route (Some out) of =
       if_cases (Fine t gs o) (nat_lt LAST_NUMBER s.lsp) (leaves_bare c Spent) _ (λ e. bare-fine c Spent of)
-      (λ e. if_cases (Fine t gs o) (is_full s) (leaves_bare c Full) (begins_backup p s c w out (drop 1 route))
-      (λ e. bare-fine c Full of) (λ e. begins-fine c w out (drop 1 route) of))
+      (λ e. if_cases (Fine t gs o) (is_full s) (leaves_bare c Full) _ (λ e. bare-fine c Full of)
+      (λ e. if_cases (Fine t gs o) (lacks_first_back p s (is_two_way w) (guarding p w) out)
+      (leaves_bare c (Code label_code)) (begins_backup p s c w out (drop 1 route)) (λ e. bare-fine c (Code label_code) of)
+      (λ e. begins-fine c w out (drop 1 route) of)))
 
   pair_over-fine : (c : CallRec) (w : Leg) (route : Option (List Step)) → CallHolds t gs o c →
       Fine t gs o (pair_over p s c w route)

@@ -12,7 +12,7 @@ use Rattle.ason_base.specs.declared.risks.Risk.{Risk}
 use Rattle.ason_base.specs.declared.steps.Step.{Step}
 use Rattle.mesh_rules.specs.Changes.{nothing}
 use Rattle.mesh_rules.specs.LocalNodes.{LocalNode, leads, own_link}
-use Rattle.mesh_rules.specs.Paths.{PathRequest, admitted, at_egress, checks, egress_leg, first_failure, first_path, in_transit, is_active, judged, offered_labels, risks_here, transit_leg}
+use Rattle.mesh_rules.specs.Paths.{PathRequest, admitted, at_egress, back_label, checks, egress_leg, first_failure, first_path, in_transit, is_active, judged, offered_labels, passed_on, risks_here, transit_leg}
 use Rattle.mesh_rules.specs.State.{NodeState}
 use Rattle.mesh_nodes.proofs.Cases.{both_left, if_cases, not-true}
 use Rattle.mesh_laws.proofs.alone.Facts.{Routes}
@@ -33,24 +33,28 @@ module _ (t : Network) (gs : List Group) (o : Routes) (p : LocalNode) (s : NodeS
   passive (Back true work primary) e = absurd (cc e)
   passive (Back false work primary) e = tt
 
-  in_transit-fine : (m : PathRequest) (link : LinkSpec) (risks : List Risk) (route : List Step) (offered : List ℕ)
-      (out : Option LinkSpec) → is_active m.role ≡ false → Fine t gs o (in_transit p m link risks route offered out)
-  in_transit-fine m link risks route offered None plain = fine-nothing t gs o
-  in_transit-fine m link risks route offered (Some out) plain =
-      fine-puts t gs o (transit_leg p m link risks out route offered) _
-      (idle-concerns gs (transit_leg p m link risks out route offered) refl) (passive m.role plain, tt)
+  passed_on-fine : (m : PathRequest) (link : LinkSpec) (risks : List Risk) (out : LinkSpec) (route : List Step)
+      (offered : List ℕ) (back : Option ℕ) → is_active m.role ≡ false →
+      Fine t gs o (passed_on p m link risks out route offered back)
+  passed_on-fine m link risks out route offered back plain =
+      fine-puts t gs o (transit_leg p m link risks out route offered back) _
+      (idle-concerns gs (transit_leg p m link risks out route offered back) refl) (passive m.role plain, tt)
 
-  admitted-fine : (m : PathRequest) (link : LinkSpec) (risks : List Risk) (offered : List ℕ) (route : List Step) →
-      is_active m.role ≡ false → Fine t gs o (admitted p m link risks offered route)
-  admitted-fine m link risks offered [] plain = at_egress-fine m link risks offered (least offered)
-  admitted-fine m link risks offered (hop ∷ route) plain =
-      in_transit-fine m link risks route offered (own_link p hop.link) plain
+  admitted-fine : (m : PathRequest) (link : LinkSpec) (route : List Step) → is_active m.role ≡ false →
+      Fine t gs o (admitted p s m link route)
+  admitted-fine m link [] plain =
+      at_egress-fine m link (risks_here p s m) (offered_labels p s m link) (least (offered_labels p s m link))
+  admitted-fine m link (hop ∷ route) plain = on (own_link p hop.link)
+    where
+      on : (out : Option LinkSpec) → Fine t gs o (in_transit p s m link route out)
+      on None = fine-nothing t gs o
+      on (Some out) =
+          passed_on-fine m link (risks_here p s m) out route (offered_labels p s m link) (back_label p s m out) plain
 
   judged-fine : (m : PathRequest) (link : LinkSpec) (code : Option ErrCode) → is_active m.role ≡ false →
       Fine t gs o (judged p s m link code)
   judged-fine m link (Some code) plain = fine-sends t gs o _ (tt, tt)
-  judged-fine m link None plain =
-      admitted-fine m link (risks_here p s m) (offered_labels p s m link) m.route plain
+  judged-fine m link None plain = admitted-fine m link m.route plain
 
   -- the answer to a first Path, refused or not
   pub first_path-fine : (m : PathRequest) (link : Option LinkSpec) → Fine t gs o (first_path p s m link)

@@ -2,7 +2,7 @@
 use Rattle.std.proofs.Common.{◌≡◌, ℕ, ◌+◌, nat_eq, nat_le, List, [], ◌∷◌, ◌++◌, drop, refl}
 use Rattle.std.specs.Prelude.{◌&&◌, not, Option, Some, None, IfSome}
 use Rattle.std.specs.List.{AllByRecursion}
-use Rattle.ason_base.specs.Codes.{fibre_down_code, fibre_up_code}
+use Rattle.ason_base.specs.Codes.{fibre_down_code, fibre_up_code, label_code}
 use Rattle.ason_base.specs.Lsps.{has_fibre, is_other_fibre}
 use Rattle.ason_base.specs.Network.{Network}
 use Rattle.ason_base.specs.declared.codes.ErrCode.{ErrCode}
@@ -10,10 +10,11 @@ use Rattle.ason_base.specs.declared.ids.CallNo.{CallNo}
 use Rattle.ason_base.specs.declared.ids.Fibre.{Fibre}
 use Rattle.ason_base.specs.declared.ids.Lsp.{Lsp}
 use Rattle.ason_base.specs.declared.ids.NodeId.{NodeId}
+use Rattle.ason_base.specs.declared.messages.PathRole.TheVariants.{Work}
 use Rattle.ason_base.specs.declared.network.LinkSpec.{LinkSpec}
 use Rattle.ason_base.specs.declared.calls.CallState.TheVariants.{Blocked}
 use Rattle.ason_base.specs.declared.calls.Cause.{Cause}
-use Rattle.ason_base.specs.declared.calls.Cause.TheVariants.{Full, NoRoute, Spent}
+use Rattle.ason_base.specs.declared.calls.Cause.TheVariants.{Code, Full, NoRoute, Spent}
 use Rattle.ason_base.specs.declared.commands.Command.{Command}
 use Rattle.ason_base.specs.declared.commands.Command.TheVariants.{Setup, Release, Protect, Retry, Revert, Fail, Repair}
 use Rattle.ason_base.specs.declared.commands.DeskItem.{DeskItem}
@@ -27,7 +28,7 @@ use Rattle.mesh_rules.specs.declared.neighbours.Neighbour.{Neighbour}
 use Rattle.mesh_rules.specs.Alarms.{enters, is_hit, knows_down, notice_of, notices, notify_to}
 use Rattle.mesh_rules.specs.Calls.{find_call, is_bare, is_stuck, is_turned}
 use Rattle.mesh_rules.specs.Changes.{changes_calls, nothing}
-use Rattle.mesh_rules.specs.FirstLegs.{first_leg, first_link, is_full}
+use Rattle.mesh_rules.specs.FirstLegs.{first_leg, first_link, is_full, lacks_first_back}
 use Rattle.mesh_rules.specs.KnownRows.{has_row, known_rows}
 use Rattle.mesh_rules.specs.Learnt.{on_link}
 use Rattle.mesh_rules.specs.LeastRoutes.{Trip, least_trip}
@@ -118,8 +119,10 @@ module _ (t : Network) (gs : List Group) (o : Routes) where
     over_first-fine w route None = fine-nothing t gs o
     over_first-fine w route (Some out) =
         if_cases (Fine t gs o) (is_spent s) (refused_setup w Spent) _ (λ e. refused-fine w Spent)
-        (λ e. if_cases (Fine t gs o) (is_full s) (refused_setup w Full) (begins p s w out (drop 1 route))
-        (λ e. refused-fine w Full) (λ e. begins-fine w out (drop 1 route)))
+        (λ e. if_cases (Fine t gs o) (is_full s) (refused_setup w Full) _ (λ e. refused-fine w Full)
+        (λ e. if_cases (Fine t gs o) (lacks_first_back p s w.both (Work w.protected) out)
+        (refused_setup w (Code label_code)) (begins p s w out (drop 1 route)) (λ e. refused-fine w (Code label_code))
+        (λ e. begins-fine w out (drop 1 route))))
 
     over_found-fine : (w : SetupRequest) (r : Option Trip) → Fine t gs o (over_found p s w r)
     over_found-fine w None = refused-fine w NoRoute

@@ -26,8 +26,8 @@ use Rattle.mesh_laws.proofs.hops.Rows.{activates}
 use Rattle.mesh_laws.proofs.hops.PathTaken.{plain_taken}
 use Rattle.mesh_laws.proofs.hops.AnswersTaken.{ContentionTaken, HeldAgain, Ignored, contention_taken}
 use Rattle.mesh_laws.proofs.hops.Rows.{deactivates}
-use Rattle.mesh_laws.proofs.hops.Purposes.{Purpose, Rest, DownFits, LabelsMeet, SentOn, SetSent, role_of, is_path}
-use Rattle.mesh_laws.proofs.hops.Purposes.{out_label_of}
+use Rattle.mesh_laws.proofs.hops.Purposes.{Purpose, Rest, DownFits, HasUpstream, LabelsMeet, SentOn, SetSent, role_of}
+use Rattle.mesh_laws.proofs.hops.Purposes.{is_path, out_label_of}
 use Rattle.mesh_laws.proofs.hops.Rest.{down_taken, down_sent, up_taken, up_sent}
 use Rattle.mesh_laws.proofs.hops.Rest.{downstream_keeps, upstream_keeps}
 use Rattle.mesh_laws.proofs.hops.Chain.{Hop}
@@ -58,7 +58,7 @@ module _ (q : Purpose) (p : Plan) (i : ℕ) where
     moved : (f : Phase) → is_reserved (leg_kind (Some (with_phase f g))) ≡ true →
         Rest q p i u (Some (with_phase f g)) down up
     moved f has_it =
-        downstream_keeps q p i u g (with_phase f g) down up refl (rw held refl) has_it
+        downstream_keeps q p i u g (with_phase f g) down up refl refl (rw held refl) has_it
         (down_taken q p i u (Some g) m down up h.rest)
 
     pub arms : Hop q p i u (Some (with_phase Armed g)) down up
@@ -86,13 +86,14 @@ module _ (q : Purpose) (p : Plan) (i : ℕ) where
 
   -- and goes on
   pub arms_on : (g : Leg) (d : Option Leg) (m : Msg) (down up : List Msg) → g.phase ≡ Held →
-      msg_kind m ≡ ActivePath → DownFits q p i m → SetSent (Some g) m → (leg_kind d ≡ NoLeg → is_path m ≡ false) →
+      msg_kind m ≡ ActivePath → DownFits q p i m → SetSent (Some g) m → HasUpstream g.back_in m →
+      (leg_kind d ≡ NoLeg → is_path m ≡ false) →
       Hop q p i (Some g) d down up → Hop q p i (Some (with_phase Armed g)) d (down ++ m ∷ []) up
-  arms_on g d m down up held active fits set later h = record {
+  arms_on g d m down up held active fits set label later h = record {
     shape = rw (map-append, active)
         (activates (role_of q) (leg_kind d) (map msg_kind down) (map msg_kind up) (rw held at h.shape));
-    rest = upstream_keeps q p i g (with_phase Armed g) d (down ++ m ∷ []) up refl refl
-        (down_sent q p i (Some g) d m down up fits set later h.rest);
+    rest = upstream_keeps q p i g (with_phase Armed g) d (down ++ m ∷ []) up refl refl refl
+        (down_sent q p i (Some g) d m down up fits set label later h.rest);
   }
 
   -- A Resv is taken by an Armed leg
@@ -103,7 +104,7 @@ module _ (q : Purpose) (p : Plan) (i : ℕ) where
       (rw (armed, label) at h.shape) in
       rw append-nil (record {
         shape = rw (t.none, t.last) t.connected;
-        rest = upstream_keeps q p i g (with_phase Live g) d down up refl refl
+        rest = upstream_keeps q p i g (with_phase Live g) d down up refl refl refl
             (up_taken q p i (Some g) d m down up h.rest);
       })
 
@@ -115,7 +116,7 @@ module _ (q : Purpose) (p : Plan) (i : ℕ) where
       let t = armed_answers (role_of q) (leg_kind u) (map msg_kind down) (map msg_kind up) (rw armed at h.shape) in
       let sent : SentOn u y = was_sent u y g.in_label (out t.marked) here h.rest.labels in
       let kept : Rest q p i u (Some (with_phase Live g)) down up =
-      downstream_keeps q p i u g (with_phase Live g) down up refl (rw armed refl) refl h.rest in
+      downstream_keeps q p i u g (with_phase Live g) down up refl refl (rw armed refl) refl h.rest in
       record {
         shape = rw (map-append, t.quiet) t.activated;
         rest = up_sent q p i u (Some (with_phase Live g)) (Resv l e k y) down up over (λ has_it. (here, sent)) kept;
@@ -134,7 +135,7 @@ module _ (q : Purpose) (p : Plan) (i : ℕ) where
     shape = held_again (role_of q) ArmedLeg (leg_kind d) (map msg_kind down) (map msg_kind up) refl
         (contention_taken (role_of q) ArmedLeg (leg_kind d) (map msg_kind down) (map msg_kind up)
         (rw (armed, contention) at h.shape));
-    rest = upstream_keeps q p i g (with_phase Held g) d down up refl refl
+    rest = upstream_keeps q p i g (with_phase Held g) d down up refl refl refl
         (up_taken q p i (Some g) d m down up h.rest);
   })
 
@@ -145,7 +146,7 @@ module _ (q : Purpose) (p : Plan) (i : ℕ) where
   contention_passes u g l e at code down up armed h =
       let t = armed_answers (role_of q) (leg_kind u) (map msg_kind down) (map msg_kind up) (rw armed at h.shape) in
       let kept : Rest q p i u (Some (with_phase Held g)) down up =
-      downstream_keeps q p i u g (with_phase Held g) down up refl (rw armed refl) refl h.rest in
+      downstream_keeps q p i u g (with_phase Held g) down up refl refl (rw armed refl) refl h.rest in
       record {
         shape = rw (map-append, t.quiet) t.contended;
         rest = up_sent q p i u (Some (with_phase Held g)) (PathErr l e at false code) down up tt tt kept;
@@ -162,17 +163,18 @@ module _ (q : Purpose) (p : Plan) (i : ℕ) where
       msg_kind m ≡ PlainPath → Hop q p i u (Some g) (m ∷ down) up → Hop q p i u (Some (with_phase Held g)) down up
   takes_back u g m down up live plain h = record {
     shape = held_back (leg_kind u) (map msg_kind down) (map msg_kind up) (rw (live, plain) at h.shape);
-    rest = downstream_keeps q p i u g (with_phase Held g) down up refl (rw live refl) refl
+    rest = downstream_keeps q p i u g (with_phase Held g) down up refl refl (rw live refl) refl
         (down_taken q p i u (Some g) m down up h.rest);
   }
 
   -- and goes on
   pub takes_back_on : (g : Leg) (d : Option Leg) (m : Msg) (down up : List Msg) → role_of q ≡ Back → g.phase ≡ Live →
-      msg_kind m ≡ PlainPath → DownFits q p i m → SetSent (Some g) m → (leg_kind d ≡ NoLeg → is_path m ≡ false) →
+      msg_kind m ≡ PlainPath → DownFits q p i m → SetSent (Some g) m → HasUpstream g.back_in m →
+      (leg_kind d ≡ NoLeg → is_path m ≡ false) →
       Hop q p i (Some g) d down up → Hop q p i (Some (with_phase Held g)) d (down ++ m ∷ []) up
-  takes_back_on g d m down up back live plain fits set later h = record {
+  takes_back_on g d m down up back live plain fits set label later h = record {
     shape = rw (back, map-append, plain)
         (deactivates (leg_kind d) (map msg_kind down) (map msg_kind up) (rw (back, live) at h.shape));
-    rest = upstream_keeps q p i g (with_phase Held g) d (down ++ m ∷ []) up refl refl
-        (down_sent q p i (Some g) d m down up fits set later h.rest);
+    rest = upstream_keeps q p i g (with_phase Held g) d (down ++ m ∷ []) up refl refl refl
+        (down_sent q p i (Some g) d m down up fits set label later h.rest);
   }

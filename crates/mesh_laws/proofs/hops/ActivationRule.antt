@@ -82,7 +82,7 @@ module _ (t : Network) (q : Purpose) (s : Mesh) (l : Lsp) (p : Plan) (i : ℕ) (
     message = Path l e k r set label (Back true work primary)
 
     abbrev asks : PathRequest
-    asks = record { arrival = arrival l e u k; route = r; set = set; role = role }
+    asks = record { arrival = arrival l e u k; route = r; set = set; upstream = label; role = role }
 
     pub own : is_message_of l message ≡ true
     own = same_lsp-refl l
@@ -157,7 +157,7 @@ module _ (t : Network) (q : Purpose) (s : Mesh) (l : Lsp) (p : Plan) (i : ℕ) (
           (rw mine refl) (sends_on t l l.ingress p route (suc i) m small mine)
           (armed_fits t q l p (suc i) g fits held small)
           (rw append-nil (arms q p i (leg_at s l u) g message (messages_of l rest) _ held refl hop_in))
-          (λ _. arms_on q p (suc i) g (leg_at s l next) m _ _ held refl (fits.egress, refl, left, tells) refl
+          (λ _. arms_on q p (suc i) g (leg_at s l next) m _ _ held refl (fits.egress, refl, left, tells) refl refl
           (λ gone. absurd (never gone)) (hop_out small))
           (λ none. absurd cc)
           (λ _ gone. absurd (never (rw gone refl)))
@@ -180,7 +180,13 @@ module _ (t : Network) (q : Purpose) (s : Mesh) (l : Lsp) (p : Plan) (i : ℕ) (
 
     pub activation_keeps : (o : Option Leg) → leg_at s l (node_at p (suc i)) ≡ o →
         Keeps (path_with (local_node t (node_at p (suc i))) (s.nodes (node_at p (suc i)).0)
-        (record { arrival = arrival l e (node_at p i) k; route = r; set = set; role = Back true work primary }) o)
+        (record {
+          arrival = arrival l e (node_at p i) k;
+          route = r;
+          set = set;
+          upstream = label;
+          role = Back true work primary;
+        }) o)
     activation_keeps o here =
         let leg = held_leg (leg_at s l (node_at p (suc i))) is_held in
         rw (sym here ∙ leg.1) (taken leg.0 leg.1 (rw (leg.1) at (chain.fits (suc i) below)) leg.2)

@@ -198,13 +198,33 @@ resv_torn r _ _ _ _ torn Activated = elim torn [ ]
 pub record RemovalTaken (r : Role) (u d : LegKind) (down up : List MsgKind) : Type 0 where
   pub which : (u ≡ AskedLeg) ⊎ IsTorn r u
   pub last : up ≡ []
+  pub let_go : HasLetGo r d
+  pub down_is : (down ≡ []) ⊎ (down ≡ Tear ∷ [])
   pub gone : Shape r NoLeg d down up
 
 pub removal_taken : (r : Role) (u d : LegKind) (down up : List MsgKind) → Shape r u d down (Removal ∷ up) →
     RemovalTaken r u d down up
-removal_taken r _ d _ _ (Refused gone) = record { which = inl refl; last = refl; gone = left_behind r d gone }
-removal_taken r _ d _ _ (TornRefused gone) = record { which = inr Closes; last = refl; gone = Left gone }
-removal_taken r u d _ _ (LetGo torn gone AtOnce) = record { which = inr torn; last = refl; gone = left_behind r d gone }
+removal_taken r _ d _ _ (Refused gone) = record {
+  which = inl refl;
+  last = refl;
+  let_go = gone;
+  down_is = inl refl;
+  gone = left_behind r d gone;
+}
+removal_taken r _ d _ _ (TornRefused gone) = record {
+  which = inr Closes;
+  last = refl;
+  let_go = gone;
+  down_is = inr refl;
+  gone = Left gone;
+}
+removal_taken r u d _ _ (LetGo torn gone AtOnce) = record {
+  which = inr torn;
+  last = refl;
+  let_go = gone;
+  down_is = inl refl;
+  gone = left_behind r d gone;
+}
 removal_taken r u _ down up (TornConnected was may) = elim may [ ]
 removal_taken r u _ down up (TornStandby torn may) = elim may [ ]
 

@@ -8,9 +8,11 @@ use Rattle.ason_base.specs.declared.ids.Lsp.{Lsp}
 use Rattle.ason_base.specs.declared.ids.NodeId.{NodeId}
 use Rattle.ason_base.specs.declared.steps.Step.{Step}
 use Rattle.ason_base.specs.declared.network.LinkSpec.{LinkSpec}
+use Rattle.ason_base.specs.Codes.{label_code}
 use Rattle.ason_base.specs.declared.calls.Cause.{Cause}
 use Rattle.ason_base.specs.declared.calls.CallState.TheVariants.{Asking}
-use Rattle.ason_base.specs.declared.calls.Cause.TheVariants.{Unset, NoRoute, Spent, Full}
+use Rattle.ason_base.specs.declared.calls.Cause.TheVariants.{Code, Unset, NoRoute, Spent, Full}
+use Rattle.ason_base.specs.declared.messages.PathRole.TheVariants.{Work}
 use Rattle.ason_base.specs.declared.messages.Msg.{Msg}
 use Rattle.ason_base.specs.declared.messages.Msg.TheVariants.{Path}
 use Rattle.ason_base.specs.declared.tables.CallRec.{CallRec}
@@ -24,7 +26,7 @@ use Rattle.mesh_rules.specs.Commands.{is_searchable}
 use Rattle.mesh_rules.specs.KnownRows.{known_rows}
 use Rattle.mesh_rules.specs.LeastRoutes.{Trip, least_trip}
 use Rattle.mesh_rules.specs.declared.changes.NextNumbers.{NextNumbers}
-use Rattle.mesh_rules.specs.FirstLegs.{NewLsp, asks_for, first_leg, first_link, is_full}
+use Rattle.mesh_rules.specs.FirstLegs.{NewLsp, asks_for, first_leg, first_link, is_full, lacks_first_back}
 use Rattle.mesh_rules.specs.Paths.{recorded}
 use Rattle.mesh_rules.specs.Setups.{SetupRequest, refused_setup, is_order_here, admitted_setup, call_record, next_lsp, working_lsp, is_spent, over_first, over_found, new_call, setup_with}
 use Rattle.mesh_rules.specs.Machine.{Mesh, commit}
@@ -66,7 +68,7 @@ module _ (t : Network) (s : Mesh) (n : NodeId) (o : Routes) (st : NodeState) (q 
   leg = first_leg (local_node t n) (known_rows (local_node t n) st) w
 
   abbrev path : Msg
-  path = Path w.lsp w.egress w.out.id w.route (up_to w.out.labels) None w.role
+  path = Path w.lsp w.egress w.out.id w.route (up_to w.out.labels) w.back w.role
 
   makes : makes_route t w.lsp.ingress w.egress (hop ∷ w.route) ≡ true
   makes = rw from made
@@ -240,10 +242,12 @@ module _ (t : Network) (s : Mesh) (n : NodeId) (o : Routes) (f : EachFollows t s
     admitted_stepped out hop further made over =
         if_cases Steps (is_spent state) _ _ (λ h. refused_stepped w Spent) (λ h.
         if_cases Steps (is_full state) _ _ (λ h. refused_stepped w Full) (λ h.
+        if_cases Steps (lacks_first_back place state w.both (Work w.protected) out) _ _
+        (λ h. refused_stepped w (Code label_code)) (λ h.
         begins_stepped t s n o state Carries (working_lsp place state w out further) hop
         (call_record w Asking (Some (next_lsp place state)) Unset)
         (record { tunnel = state.tunnel + 1; lsp = state.lsp + 1 })
-        made over refl refl (omega arith) tt refl refl tt tt f))
+        made over refl refl (omega arith) tt refl refl tt tt f)))
 
     route_stepped : (route : List Step) → makes_route t n w.egress route ≡ true → (out : Option LinkSpec) →
         first_link place route ≡ out → Steps (over_first place state w route out)

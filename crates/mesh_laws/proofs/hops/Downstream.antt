@@ -1,5 +1,5 @@
 -- What a hop is after a step at its downstream node: how its row follows, and the changes beside it.
-use Rattle.std.proofs.Common.{◌≡◌, ℕ, true, false, List, [], ◌∷◌, ◌++◌, refl, inl, inr, append-nil}
+use Rattle.std.proofs.Common.{◌≡◌, ℕ, true, false, List, [], ◌∷◌, ◌++◌, refl, ◌∙◌, inl, inr, append-nil}
 use Rattle.std.specs.Prelude.{map, Option, Some, None}
 use Rattle.std.proofs.lemmas.List.{map-append}
 use Rattle.ason_base.specs.Labels.{has}
@@ -51,22 +51,25 @@ module _ (q : Purpose) (p : Plan) (i : ℕ) (u : Option Leg) where
     left : Rest q p i u None rest []
     left = rw path_quiet at (down_taken q p i u None (Path l e k r set label s) rest up h.rest)
 
-    pub path_passed : (g : Leg) → g.phase ≡ Asked → ((x : ℕ) → has g.offered x ≡ true → has set x ≡ true) →
+    pub path_passed : (g : Leg) → g.phase ≡ Asked → g.back_out ≡ label →
+        ((x : ℕ) → has g.offered x ≡ true → has set x ≡ true) →
         Hop q p i u (Some g) rest (up ++ [])
-    path_passed g asked within = rw path_quiet (record {
+    path_passed g asked back within = rw path_quiet (record {
       shape = rw asked taken.passed;
       rest = downstream_asked q p i u None g rest bare path_last
-          (offer_path u g set (Path l e k r set label s) (λ sent is. is) h.rest.sets.0 within) left;
+          (offer_path u g set (Path l e k r set label s) (λ sent is. is) h.rest.sets.0 within)
+          (λ stands. back ∙ h.rest.upstream.0) left;
     })
 
     pub path_answered : (g : Leg) (e' : NodeId) (k' : LinkId) (x : ℕ) → leg_kind (Some g) ≡ reserved_leg (role_of q) →
-        g.in_label ≡ Some x → has set x ≡ true → k' ≡ link_at p i →
+        g.back_out ≡ label → g.in_label ≡ Some x → has set x ≡ true → k' ≡ link_at p i →
         Hop q p i u (Some g) rest (up ++ Resv l e' k' x ∷ [])
-    path_answered g e' k' x kind here within over = rw path_quiet (record {
+    path_answered g e' k' x kind back here within over = rw path_quiet (record {
       shape = rw kind taken.answered;
       rest = up_sent q p i u (Some g) (Resv l e' k' x) rest [] over
           (λ reserved. (here, sent_path u set x (Path l e k r set label s) (λ sent is. is) h.rest.sets.0 within))
-          (downstream_takes q p i u None g rest bare path_last (reserved_kind g kind) left);
+          (downstream_takes q p i u None g rest bare path_last (reserved_kind g kind)
+          (λ stands. back ∙ h.rest.upstream.0) left);
     })
 
     pub path_refused : (e' at : NodeId) (code : ErrCode) → Hop q p i u None rest (up ++ PathErr l e' at true code ∷ [])
@@ -113,10 +116,10 @@ module _ (q : Purpose) (p : Plan) (i : ℕ) (u : Option Leg) where
         asked_answers (role_of q) (leg_kind u) (map msg_kind down) (map msg_kind up) (rw asked at h.shape)
 
     pub asked_reserved : (g' : Leg) (l : Lsp) (e : NodeId) (k : LinkId) (y : ℕ) → g.phase ≡ Asked →
-        leg_kind (Some g') ≡ reserved_leg (role_of q) → g'.in_label ≡ Some y → has g.offered y ≡ true →
-        k ≡ link_at p i →
+        leg_kind (Some g') ≡ reserved_leg (role_of q) → g'.back_out ≡ g.back_out → g'.in_label ≡ Some y →
+        has g.offered y ≡ true → k ≡ link_at p i →
         Hop q p i u (Some g') down (up ++ Resv l e k y ∷ [])
-    asked_reserved g' l e k y asked kind here offered over =
+    asked_reserved g' l e k y asked kind back here offered over =
         let a = answers_of asked in
         let empty : up ≡ [] = no_kinds up a.quiet in
         let before : Rest q p i u (Some g) down [] = rw empty at h.rest in
@@ -125,7 +128,8 @@ module _ (q : Purpose) (p : Plan) (i : ℕ) (u : Option Leg) where
           rest = up_sent q p i u (Some g') (Resv l e k y) down [] over
               (λ reserved. (here, sent_offer u g y asked h.rest.offer offered))
               (downstream_takes q p i u (Some g) g' down
-              (h.rest.bare (inr (rw asked refl))) (no_path_down down a.down_is) (reserved_kind g' kind) before);
+              (h.rest.bare (inr (rw asked refl))) (no_path_down down a.down_is) (reserved_kind g' kind)
+              (λ stands. back ∙ h.rest.back (rw asked refl)) before);
         })
 
     pub asked_lets_go : (d : Option Leg) (l : Lsp) (e at : NodeId) (code : ErrCode) → g.phase ≡ Asked →

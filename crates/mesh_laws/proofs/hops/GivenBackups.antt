@@ -96,7 +96,7 @@ module _ (t : Network) (s : Mesh) (n : NodeId) (o : Routes) (f : EachFollows t s
           beside = λ l backup work given. absurd (cc work);
           told = record { work = tt; back = tt };
         })
-        (λ route out over first ordered. record {
+        (λ route out over first ordered has. record {
           beside = begun-beside t s n o f w (here ordered) way route out over first;
           told = record { work = tt; back = tt };
         }) known

@@ -16,12 +16,14 @@ use Rattle.ason_base.specs.declared.tables.Leg.{Leg}
 use Rattle.mesh_rules.specs.Legs.{reserved}
 use Rattle.mesh_rules.specs.Machine.{Mesh}
 use Rattle.mesh_laws.specs.HopShapes.{leg_kind}
-use Rattle.mesh_laws.specs.HopLaw.{leg_at, mail_between, notices_between, EachLabel, HopFits, StepFits, IsHop, RouteFits, LspFits}
+use Rattle.mesh_laws.specs.HopLaw.{leg_at, mail_between, notices_between, EachLabel, EachUpstream, HopFits, StepFits}
+use Rattle.mesh_laws.specs.HopLaw.{IsHop, RouteFits, LspFits}
 use Rattle.mesh_laws.specs.HopLaw.{GoesUp, IsBeyond, NamesBeyond}
+use Rattle.mesh_laws.proofs.hops.GoingUp.{let-go-confirmed}
 use Rattle.mesh_laws.proofs.hops.Notices.{ComesUp, NoticeFits}
 use Rattle.mesh_laws.proofs.hops.Plans.{Plan, hops, plan, node_at, link_at, IsRoute, distinct, same_node, lt_true, joined, fibre_in_is, fibre_out_is}
 use Rattle.mesh_laws.proofs.hops.RowStates.{is_reserved}
-use Rattle.mesh_laws.proofs.hops.Purposes.{Purpose, Carries, Guards, role_of, Each, AnswerFits, LabelsMeet}
+use Rattle.mesh_laws.proofs.hops.Purposes.{Purpose, Carries, Guards, role_of, AnswerFits, Each, HasUpstream, LabelsMeet}
 use Rattle.mesh_laws.proofs.hops.Chain.{LegFits, PhaseFits, IsPlace, OnRoute, Chain, below_or_not}
 use Rattle.mesh_laws.proofs.hops.LegKinds.{beyond_reserved}
 use Rattle.mesh_laws.proofs.hops.Planned.{Planned, Routes, Follows}
@@ -40,6 +42,14 @@ each_label g h (Resv l e k x ∷ ms) reserved all = (all.0 reserved, each_label 
 each_label g h (PathTear l e k ∷ ms) reserved all = each_label g h ms reserved all.1
 each_label g h (PathErr l e at gone code ∷ ms) reserved all = each_label g h ms reserved all.1
 each_label g h (Notify l e at k code ∷ ms) reserved all = each_label g h ms reserved all.1
+
+each_upstream : (b : Option ℕ) (ms : List Msg) → Each (HasUpstream b) ms → EachUpstream (λ up. up ≡ b) ms
+each_upstream b [] all = tt
+each_upstream b (Path l e k route set up r ∷ ms) all = (all.0, each_upstream b ms all.1)
+each_upstream b (Resv l e k x ∷ ms) all = absurd all.0
+each_upstream b (PathTear l e k ∷ ms) all = each_upstream b ms all.1
+each_upstream b (PathErr l e at gone code ∷ ms) all = each_upstream b ms all.1
+each_upstream b (Notify l e at k code ∷ ms) all = each_upstream b ms all.1
 
 module _ (t : Network) (q : Purpose) (s : Mesh) (l : Lsp) (p : Plan) (route : IsRoute t l.ingress p)
     (chain : Chain t q l p (leg_at s l) (mail_between s l)) where
@@ -65,6 +75,11 @@ module _ (t : Network) (q : Purpose) (s : Mesh) (l : Lsp) (p : Plan) (route : Is
         labels = λ g h x y near there e f. meets g.out_label h.in_label x y (rw (near, there) at hop.rest.labels) e f;
         answers = λ g h near there beyond. each_label g h (mail_between s l (node_at p (suc i)) (node_at p i))
             (beyond_reserved h.phase beyond) (rw (near, there) at hop.rest.answers);
+        back = λ g h near there stands. (let meets = rw (near, there) at hop.rest.back in meets stands);
+        upstream = λ g near. each_upstream g.back_in (mail_between s l (node_at p i) (node_at p (suc i)))
+            (rw near at hop.rest.upstream);
+        confirmed = λ g x near torn out gone. let-go-confirmed q p i g (leg_at s l (node_at p (suc i))) _ _ x
+            (rw near at hop.shape) (rw near at hop.rest) torn out gone;
       }
 
 pub step_at : (route : List Step) (i : ℕ) → i < length route → (hop : Step) × (slice_get route i ≡ Some hop)

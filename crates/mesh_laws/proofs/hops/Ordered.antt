@@ -34,7 +34,9 @@ use Rattle.mesh_laws.proofs.hops.Stepped.{grown, grown-grow}
 use Rattle.mesh_laws.proofs.hops.Laws.{carried, step_facts}
 use Rattle.mesh_laws.proofs.hops.Planned.{EachFollows, Grow, Routes, or_assoc, or_none}
 use Rattle.mesh_laws.proofs.hops.Run.{Carried, step_carries, step_routes}
-use Rattle.mesh_laws.proofs.hops.OrderedSteps.{AreKept, IsKept, carried-failed, first-knows, first-puts, first_item-knows, first_item-puts, grown-kept, link-knows, link-puts, tick-knows, ticks-put}
+use Rattle.mesh_laws.proofs.hops.Ways.{KeepWays, first-keep, first_item-keep, link-keep, same-way, tick-keep}
+use Rattle.mesh_laws.proofs.hops.OrderedSteps.{AreKept, IsKept, carried-failed, first-puts, first_item-puts, grown-kept, link-puts, ticks-put}
+use Rattle.mesh_laws.proofs.hops.KnownSteps.{first-knows, first_item-knows, link-knows, tick-knows}
 
 -- all is the whole run
 module _ (t : Network) (all : List MeshEvent) where
@@ -70,23 +72,27 @@ module _ (t : Network) (all : List MeshEvent) where
 
   -- an answer is carried out at the node n
   carried-commit : (s : Mesh) (n : NodeId) (a : Answer) (o o' : Routes) → Grow o o' →
-      ArePut (IsKept t all o' n.0) a.calls →
+      ArePut (IsKept t all o' n.0 (changed (s.nodes n.0) a).legs) a.calls → KeepWays (s.nodes n.0) a →
       AllByRecursion (ComesIn (local_node t n)) (changed (s.nodes n.0) a).down → AreKept t all s o →
       AreKept t all (commit s n.0 a) o'
-  carried-commit s n a o o' grow puts knows carried = record {
+  carried-commit s n a o o' grow puts ways knows carried = record {
     calls = λ m. calls m (nat_eq m n.0) refl;
     desks = carried.desks;
     down = λ m. down m (nat_eq m.0 n.0) refl;
   }
     where
       calls : (m : ℕ) (b : Bool) → nat_eq m n.0 ≡ b →
-          EachCall (IsKept t all o' m) (cond b (changed (s.nodes m) a) (s.nodes m)).calls
+          EachCall (IsKept t all o' m (cond b (changed (s.nodes m) a) (s.nodes m)).legs)
+          (cond b (changed (s.nodes m) a) (s.nodes m)).calls
       calls m true e =
           let is : m ≡ n.0 = grind arith in
-          each-after (IsKept t all o' m) a.calls (s.nodes m).calls
-          (subst (λ x. ArePut (IsKept t all o' x) a.calls) (sym is) puts)
-          (grown-kept t all s o o' grow carried.calls m)
-      calls m false e = grown-kept t all s o o' grow carried.calls m
+          each-after (IsKept t all o' m (changed (s.nodes m) a).legs) a.calls (s.nodes m).calls
+          (subst (λ x. ArePut (IsKept t all o' x (changed (s.nodes x) a).legs) a.calls) (sym is) puts)
+          (grown-kept t all (s.nodes m) o o' m (changed (s.nodes m) a).legs grow (carried.calls m)
+          (subst (λ x. KeepWays (s.nodes x) a) (sym is) ways))
+      calls m false e =
+          grown-kept t all (s.nodes m) o o' m (s.nodes m).legs grow (carried.calls m)
+          (λ k c found. same-way (s.nodes m).legs c)
 
       down : (m : NodeId) (b : Bool) → nat_eq m.0 n.0 ≡ b →
           AllByRecursion (ComesIn (local_node t m)) (cond b (changed (s.nodes m.0) a) (s.nodes m.0)).down
@@ -113,30 +119,35 @@ module _ (t : Network) (all : List MeshEvent) where
       let grow : Grow o o' = λ l route sent. rw sent refl in
       carried-commit (without_first s u.0 d.0) d (on_first (local_node t d) (s.nodes d.0) u (s.mail u.0 d.0)) o o'
       grow
-      (first-puts t all s d o f (facts.node d.0).calls_rise (carried.calls d.0) o' grow u (s.mail u.0 d.0))
-      (first-knows t all (local_node t d) (s.nodes d.0) (carried.down d) u (s.mail u.0 d.0))
+      (first-puts t all s d o f (facts.node d.0) (carried.calls d.0) o' grow u (s.mail u.0 d.0))
+      (first-keep t d (s.nodes d.0) (facts.node d.0) u (s.mail u.0 d.0))
+      (first-knows (local_node t d) (s.nodes d.0) (carried.down d) u (s.mail u.0 d.0))
       (record { calls = carried.calls; desks = carried.desks; down = carried.down })
   carried-step s (Desk n) o was f facts carried =
       let a = on_first_item (local_node t n) (s.nodes n.0) (s.desks n.0) in
       carried-commit (without_item s n.0) n a o (grown n o a) (grown-grow n o a)
-      (first_item-puts t all s n o f (facts.node n.0).calls_rise (carried.calls n.0) (s.desks n.0) (facts.desk n.0)
+      (first_item-puts t all s n o f (facts.node n.0) (carried.calls n.0) (s.desks n.0) (facts.desk n.0)
       (carried.desks n.0))
-      (first_item-knows t all (local_node t n) (s.nodes n.0) (carried.down n) (s.desks n.0))
+      (first_item-keep t n (s.nodes n.0) (facts.node n.0) (s.desks n.0))
+      (first_item-knows (local_node t n) (s.nodes n.0) (carried.down n) (s.desks n.0))
       (record { calls = carried.calls; desks = λ m. less s n.0 m o carried; down = carried.down })
   carried-step s (Tick n) o was f facts carried =
       let a = on_tick (local_node t n) (s.nodes n.0) in
       carried-commit s n a o (grown n o a) (grown-grow n o a)
-      (ticks-put t all s n o f (facts.node n.0).calls_rise (carried.calls n.0))
-      (tick-knows t all (local_node t n) (s.nodes n.0) (carried.down n)) carried
+      (ticks-put t all s n o f (facts.node n.0) (carried.calls n.0))
+      (tick-keep t n (s.nodes n.0) (facts.node n.0))
+      (tick-knows (local_node t n) (s.nodes n.0) (carried.down n)) carried
   carried-step s (Learn n k) o was f facts carried =
       let o' : Routes = λ l. or_route (o l) None in
       carried-commit s n (on_link (local_node t n) (s.nodes n.0) (find_link t k)) o o' (λ l route sent. rw sent refl)
-      (link-puts t all s n o f (facts.node n.0).calls_rise (carried.calls n.0) o' (find_link t k))
-      (link-knows t all (local_node t n) (s.nodes n.0) (carried.down n) (find_link t k)) carried
+      (link-puts t all s n o f (facts.node n.0) (carried.calls n.0) o' (find_link t k))
+      (link-keep t n (s.nodes n.0) (facts.node n.0) (find_link t k))
+      (link-knows (local_node t n) (s.nodes n.0) (carried.down n) (find_link t k)) carried
   carried-step s (Post c) o was f facts carried =
       let o' : Routes = λ l. or_route (o l) None in
       carried-posted s c (was c refl) o' (record {
-        calls = grown-kept t all s o o' (λ l route sent. rw sent refl) carried.calls;
+        calls = λ n. grown-kept t all (s.nodes n) o o' n (s.nodes n).legs (λ l route sent. rw sent refl)
+            (carried.calls n) (λ k c found. same-way (s.nodes n).legs c);
         desks = carried.desks;
         down = carried.down;
       })
@@ -177,9 +188,10 @@ every_tidy t events run n =
 pub every_ordered : EveryCallIsOrdered
 every_ordered t events run n =
     let calls = ((after t start events).nodes n).calls in
+    let legs = ((after t start events).nodes n).legs in
     let carried = carried-hold t events run in
-    All-from_recursion (IsOrdered (route_of t start events) events n) calls
-    (all-calls_found (IsOrdered (route_of t start events) events n) calls
+    All-from_recursion (IsOrdered (route_of t start events) events n legs) calls
+    (all-calls_found (IsOrdered (route_of t start events) events n legs) calls
     ((facts-hold t events run).node n).calls_rise
     (λ k c found. (carried.calls n k c found).order))
 

@@ -82,22 +82,22 @@ own-at_egress : (p : LocalNode) (m : PathRequest) (link : LinkSpec) (risks : Lis
 own-at_egress p m link risks offered None = own-nothing m.arrival.lsp
 own-at_egress p m link risks offered (Some x) = record { legs = (refl, tt); sent = (refl, refl, tt); numbers = refl }
 
-own-in_transit : (p : LocalNode) (m : PathRequest) (link : LinkSpec) (risks : List Risk) (route : List Step)
-    (offered : List ℕ) (o : Option LinkSpec) → Own m.arrival.lsp (in_transit p m link risks route offered o)
-own-in_transit p m link risks route offered None = own-nothing m.arrival.lsp
-own-in_transit p m link risks route offered (Some out) =
+own-in_transit : (p : LocalNode) (s : NodeState) (m : PathRequest) (link : LinkSpec) (route : List Step)
+    (o : Option LinkSpec) → Own m.arrival.lsp (in_transit p s m link route o)
+own-in_transit p s m link route None = own-nothing m.arrival.lsp
+own-in_transit p s m link route (Some out) =
     record { legs = (refl, tt); sent = (refl, refl, tt); numbers = refl }
 
-own-admitted : (p : LocalNode) (m : PathRequest) (link : LinkSpec) (risks : List Risk) (offered : List ℕ)
-    (route : List Step) → Own m.arrival.lsp (admitted p m link risks offered route)
-own-admitted p m link risks offered [] = own-at_egress p m link risks offered (least offered)
-own-admitted p m link risks offered (hop ∷ route) =
-    own-in_transit p m link risks route offered (own_link p hop.link)
+own-admitted : (p : LocalNode) (s : NodeState) (m : PathRequest) (link : LinkSpec) (route : List Step) →
+    Own m.arrival.lsp (admitted p s m link route)
+own-admitted p s m link [] =
+    own-at_egress p m link (risks_here p s m) (offered_labels p s m link) (least (offered_labels p s m link))
+own-admitted p s m link (hop ∷ route) = own-in_transit p s m link route (own_link p hop.link)
 
 own-judged : (p : LocalNode) (s : NodeState) (m : PathRequest) (link : LinkSpec) (o : Option ErrCode) →
     Own m.arrival.lsp (judged p s m link o)
 own-judged p s m link (Some code) = record { legs = tt; sent = (refl, refl, tt); numbers = refl }
-own-judged p s m link None = own-admitted p m link (risks_here p s m) (offered_labels p s m link) m.route
+own-judged p s m link None = own-admitted p s m link m.route
 
 own-first_path : (p : LocalNode) (s : NodeState) (m : PathRequest) (o : Option LinkSpec) →
     Own m.arrival.lsp (first_path p s m o)
@@ -225,8 +225,9 @@ own-on_tear l p a (Some g) is =
 pub own-leg_part : (p : LocalNode) (s : NodeState) (u : NodeId) (m : Msg) → is_notice m ≡ false →
     Own (lsp_of m) (leg_part p s u m)
 own-leg_part p s u (Path l e k route set up r) plain =
-    own-on_path p s (record { arrival = arrival l e u k; route = route; set = set; role = r }) (find_leg l s.legs)
-    (found-is l s.legs (find_leg l s.legs) refl)
+    own-on_path p s
+    (record { arrival = arrival l e u k; route = route; set = set; upstream = up; role = r })
+    (find_leg l s.legs) (found-is l s.legs (find_leg l s.legs) refl)
 own-leg_part p s u (Resv l e k x) plain =
     own-leg_of_resv l p s (arrival l e u k) x (find_leg l s.legs) (found-is l s.legs (find_leg l s.legs) refl)
 own-leg_part p s u (PathTear l e k) plain =

@@ -10,6 +10,7 @@ use Rattle.ason_base.specs.declared.ids.NodeId.{NodeId}
 use Rattle.ason_base.specs.declared.steps.Step.{Step}
 use Rattle.ason_base.specs.declared.network.LinkSpec.{LinkSpec}
 use Rattle.ason_base.specs.declared.calls.CallState.TheVariants.{Guarded}
+use Rattle.ason_base.specs.Codes.{label_code}
 use Rattle.ason_base.specs.declared.calls.Cause.{Cause}
 use Rattle.ason_base.specs.declared.calls.Cause.TheVariants.{Code, Full, NoBackup, Spent}
 use Rattle.ason_base.specs.declared.calls.Phase.TheVariants.{Armed}
@@ -24,12 +25,13 @@ use Rattle.mesh_rules.specs.declared.limits.TheConstants.{LAST_NUMBER}
 use Rattle.mesh_rules.specs.Calls.{bare, blocked, call_with, guarded, is_asking, is_pairing, pairing}
 use Rattle.mesh_rules.specs.CallSteps.{call_answered, call_refused}
 use Rattle.mesh_rules.specs.Turns.{call_put}
-use Rattle.mesh_rules.specs.FirstLegs.{first_link, is_full}
+use Rattle.mesh_rules.specs.FirstLegs.{first_link, is_full, lacks_first_back}
 use Rattle.mesh_rules.specs.KnownRows.{known_rows}
 use Rattle.mesh_rules.specs.LeastRoutes.{Trip, least_backup}
 use Rattle.mesh_rules.specs.Legs.{is_work, previous}
 use Rattle.mesh_rules.specs.Machine.{Mesh}
-use Rattle.mesh_rules.specs.Pairs.{admitted_backup, backup_lsp, backup_route, beside_lsp, given_or_found, leaves_bare, over_backup, over_fibre, pair, pair_over, route_from}
+use Rattle.mesh_rules.specs.Pairs.{admitted_backup, backup_lsp, backup_route, beside_lsp, given_or_found, guarding}
+use Rattle.mesh_rules.specs.Pairs.{is_two_way, leaves_bare, over_backup, over_fibre, pair, pair_over, route_from}
 use Rattle.mesh_laws.specs.HopLaw.{leg_at}
 use Rattle.mesh_nodes.specs.Routes.{AreRowsOf}
 use Rattle.mesh_nodes.proofs.Cases.{both_left, if_cases}
@@ -167,13 +169,15 @@ module _ (t : Network) (s : Mesh) (n : NodeId) (o : Routes) (f : EachFollows t s
           let made = both_left (makes_route t n w.egress (hop ∷ further)) _ beside in
           if_cases Steps (nat_lt LAST_NUMBER st.lsp) _ _ (λ h. bare_stepped Spent) (λ h.
           if_cases Steps (is_full st) _ _ (λ h. bare_stepped Full) (λ h.
+          if_cases Steps (lacks_first_back place st (is_two_way w) (guarding place w) out) _ _
+          (λ h. bare_stepped (Code label_code)) (λ h.
           begins_stepped t s n o st (Guards w.lsp.lsp (route_from place w)) (backup_lsp place st w out further) hop
           (pairing c (beside_lsp w.lsp st.lsp)) (record { tunnel = st.tunnel; lsp = st.lsp + 1 })
           made over here number (omega arith) (refl, refl) refl
           (recorded-fit t (Guards w.lsp.lsp (route_from place w)) (known_rows place st)
           (backup_lsp place st w out further).role
           (λ searchable. known-are t n st searchable are) (refl, refl) known)
-          sent (rw here beside) f))
+          sent (rw here beside) f)))
 
       over_stepped : (route : List Step) →
           is_beside t n w.egress (Some (route_from (local_node t n) w)) route ≡ true → (out : Option LinkSpec) →

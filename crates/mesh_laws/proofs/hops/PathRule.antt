@@ -18,7 +18,8 @@ use Rattle.mesh_rules.specs.Changes.{Answer, sends}
 use Rattle.mesh_rules.specs.LocalNodes.{LocalNode, labels_of, local_node, own_link, fibre_in}
 use Rattle.mesh_rules.specs.KnownRows.{known_rows}
 use Rattle.mesh_rules.specs.Legs.{reserved}
-use Rattle.mesh_rules.specs.Paths.{PathRequest, is_none, is_primary_unknown, first_failure, checks, error_to, egress_leg, set_on, transit_leg}
+use Rattle.mesh_rules.specs.Paths.{PathRequest, back_label, is_none, is_primary_unknown, first_failure, checks}
+use Rattle.mesh_rules.specs.Paths.{error_to, egress_leg, set_on, transit_leg}
 use Rattle.mesh_rules.specs.Paths.{offered_labels, risks_here, at_egress, in_transit, admitted, judged}
 use Rattle.mesh_rules.specs.Paths.{role_of as asked_role}
 use Rattle.mesh_rules.specs.Messages.{arrival, on_message}
@@ -65,7 +66,7 @@ module _ (t : Network) (q : Purpose) (s : Mesh) (l : Lsp) (p : Plan) (i : ℕ) (
   message = Path l e k r set label purpose
 
   abbrev asks : PathRequest
-  asks = record { arrival = arrival l e u k; route = r; set = set; role = purpose }
+  asks = record { arrival = arrival l e u k; route = r; set = set; upstream = label; role = purpose }
 
   pub own : is_message_of l message ≡ true
   own = same_lsp-refl l
@@ -190,7 +191,7 @@ module _ (t : Network) (q : Purpose) (s : Mesh) (l : Lsp) (p : Plan) (i : ℕ) (
             };
           })
           (path_answered q p i (leg_at s l u) l e k r set label purpose (messages_of l rest) _ plain hop_here
-          (egress_leg place asks over.link risks offered y) e over.link.id y kind refl
+          (egress_leg place asks over.link risks offered y) e over.link.id y kind refl refl
           (within y (has_least offered y is)) (over.id ∙ what.1))
           (λ small. absurd (omega arith))
           (λ gone path. cc (last, path))
@@ -200,13 +201,14 @@ module _ (t : Network) (q : Purpose) (s : Mesh) (l : Lsp) (p : Plan) (i : ℕ) (
       goes_on : (n : Leads t (link_at p (suc i)) (node_at p (suc i)) (node_at p (suc (suc i)))) (further : List Step) →
           suc i < hops p →
           further ≡ drop (suc (suc i)) p.route →
-          Keeps (in_transit place asks over.link risks further offered (Some n.link))
+          Keeps (in_transit place state asks over.link further (Some n.link))
       goes_on n further small is =
           let more : nat_lt (suc i) (hops p) ≡ true = lt_true small in
-          let g : Leg = transit_leg place asks over.link risks n.link further offered in
-          let m : Msg = Path l e n.link.id further (set_on place n.link offered) None purpose in
+          let back : Option ℕ = back_label place state asks n.link in
+          let g : Leg = transit_leg place asks over.link risks n.link further offered back in
+          let m : Msg = Path l e n.link.id further (set_on place n.link offered) back purpose in
           down_taken t q s l p i route chain below message rest was own
-          (in_transit place asks over.link risks further offered (Some n.link)) (Some g) [] (m ∷ [])
+          (in_transit place state asks over.link further (Some n.link)) (Some g) [] (m ∷ [])
           (rw (same_lsp-refl l) refl)
           (rw n.far (sends_on t l l.ingress p route (suc i) m small own))
           (record {
@@ -226,19 +228,19 @@ module _ (t : Network) (q : Purpose) (s : Mesh) (l : Lsp) (p : Plan) (i : ℕ) (
             labels = no_label_in place g refl;
           })
           (path_passed q p i (leg_at s l u) l e k r set label purpose (messages_of l rest) _ plain
-          hop_here g refl within)
+          hop_here g refl refl within)
           (λ _. rw (
             (beyond (suc i) (omega arith) (omega arith)).no_down small,
             (beyond (suc i) (omega arith) (omega arith)).no_up small,
             (beyond (suc (suc i)) (omega arith) (omega arith)).no_leg,
           )
-          (hop_asks q p (suc i) g l e n.link.id further (set_on place n.link offered) None purpose
-          plain refl refl refl (what.0, n.id, is, what.3)))
+          (hop_asks q p (suc i) g l e n.link.id further (set_on place n.link offered) back purpose
+          plain refl refl refl refl (what.0, n.id, is, what.3)))
           (λ gone path. cc (last, path))
           (λ _ gone path j after small'. beyond j (omega arith) small')
 
       admits : (r' : List Step) → r ≡ r' → is_none (least offered) ≡ false →
-          Keeps (admitted place asks over.link risks offered r')
+          Keeps (admitted place state asks over.link r')
       admits [] end some = ends end (least offered) refl some
       admits (hop ∷ further) is some =
           let st = drop-some (suc i) p.route hop further (sym what.2 ∙ is) in

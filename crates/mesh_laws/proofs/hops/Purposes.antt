@@ -11,6 +11,7 @@ use Rattle.ason_base.specs.declared.messages.Msg.{Msg}
 use Rattle.ason_base.specs.declared.messages.Msg.TheVariants.{Path, Resv, PathTear, PathErr, Notify}
 use Rattle.ason_base.specs.declared.steps.Step.{Step}
 use Rattle.ason_base.specs.declared.tables.Leg.{Leg}
+use Rattle.mesh_rules.specs.Legs.{is_closing}
 use Rattle.mesh_rules.specs.Paths.{is_active}
 use Rattle.mesh_rules.specs.Paths.{role_of as asked_role}
 use Rattle.mesh_laws.specs.HopShapes.{LegKind, NoLeg, AskedLeg, PlainPath, leg_kind, path_kind}
@@ -71,9 +72,9 @@ DownFits q p i (PathTear l e k) = k ≡ link_at p i
 DownFits q p i (PathErr l e at gone code) = Unit {0}
 DownFits q p i (Notify l e at k code) = Unit {0}
 
--- and up
+-- and up: no Path
 abbrev pub UpFits : Plan → ℕ → Msg → Type 0
-UpFits p i (Path l e k route set up r) = Unit {0}
+UpFits p i (Path l e k route set up r) = ⊥
 UpFits p i (Resv l e k x) = k ≡ link_at p i
 UpFits p i (PathTear l e k) = Unit {0}
 UpFits p i (PathErr l e at gone code) = Unit {0}
@@ -140,6 +141,29 @@ AnswerFits u d (PathTear l e k) = Unit {0}
 AnswerFits u d (PathErr l e at gone code) = Unit {0}
 AnswerFits u d (Notify l e at k code) = Unit {0}
 
+-- The way back over a hop
+
+abbrev pub back_in_of : Option Leg → Option ℕ
+back_in_of None = None
+back_in_of (Some g) = g.back_in
+
+abbrev pub back_out_of : Option Leg → Option ℕ
+back_out_of None = None
+back_out_of (Some g) = g.back_out
+
+-- until d lets go, its label for the way back is the one that u takes; both have none where the LSP is one-way
+abbrev pub BackMeets : Option Leg → Option Leg → Type 0
+BackMeets u None = Unit {0}
+BackMeets u (Some h) = is_closing h.phase ≡ false → h.back_out ≡ back_in_of u
+
+-- a Path down brings that label; no Resv goes down
+abbrev pub HasUpstream : Option ℕ → Msg → Type 0
+HasUpstream b (Path l e k route set up r) = up ≡ b
+HasUpstream b (Resv l e k x) = ⊥
+HasUpstream b (PathTear l e k) = Unit {0}
+HasUpstream b (PathErr l e at gone code) = Unit {0}
+HasUpstream b (Notify l e at k code) = Unit {0}
+
 -- d hasn't answered yet: the first Path is on the hop, or d is Asked
 abbrev pub IsPending : LegKind → List Msg → Type 0
 IsPending d down = ((d ≡ NoLeg) × (has_path down ≡ true)) ⊎ (d ≡ AskedLeg)
@@ -153,3 +177,5 @@ pub record Rest (q : Purpose) (p : Plan) (i : ℕ) (u d : Option Leg) (down up :
   pub sets : Each (SetSent u) down
   -- until d answers, u has no label out
   pub bare : IsPending (leg_kind d) down → out_label_of u ≡ None
+  pub back : BackMeets u d
+  pub upstream : Each (HasUpstream (back_in_of u)) down

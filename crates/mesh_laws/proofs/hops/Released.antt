@@ -75,7 +75,7 @@ module _ (t : Network) (s : Mesh) (o : Routes) where
       (λ _. rw (mail-else s (node_at p 0) (node_at p 1) (node_at p 0) l a
       (distinct t l.ingress p pl.route 1 0 (omega arith) (omega arith) (omega arith)))
       (leg_closes q p 0 _ _ _ g (closed g) g.lsp g.egress (link_at p 0) (phase_stands g.phase stands)
-      (closed_kind t q l p 0 g fits) refl refl refl (rw here at (pl.chain.each 0 small))))
+      (closed_kind t q l p 0 g fits) refl refl refl refl (rw here at (pl.chain.each 0 small))))
       (λ k less. absurd (omega arith))
       (λ _ gone path. pl.chain.fresh 0 small (record {
         gone = gone;

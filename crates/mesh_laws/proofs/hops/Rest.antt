@@ -1,6 +1,6 @@
 -- What is said of a hop beside its row: labels, sets and routes; and what each small change of a hop leaves of it.
 -- u is the leg at the upstream node, d the one at the downstream node.
-use Rattle.std.proofs.Common.{◌≡◌, ℕ, true, false, List, [], ◌∷◌, ◌++◌, refl, inl, inr}
+use Rattle.std.proofs.Common.{◌≡◌, ℕ, true, false, List, [], ◌∷◌, ◌++◌, refl, ◌∙◌, inl, inr}
 use Rattle.std.specs.Prelude.{Option, Some, None}
 use Rattle.ason_base.specs.Labels.{has}
 use Rattle.ason_base.specs.declared.calls.Phase.TheVariants.{Asked}
@@ -10,7 +10,11 @@ use Rattle.ason_base.specs.declared.tables.Leg.{Leg}
 use Rattle.mesh_laws.specs.HopShapes.{LegKind, NoLeg, AskedLeg, HasLetGo, leg_kind}
 use Rattle.mesh_laws.proofs.hops.Plans.{Plan}
 use Rattle.mesh_laws.proofs.hops.RowStates.{is_reserved, let_go_free, let_go_not_asked}
-use Rattle.mesh_laws.proofs.hops.Purposes.{AnswerFits, DownFits, HasSet, IsPending, OfferSent, Purpose, Rest, SentOn, SetSent, UpFits, each-any, each-append, each-map, has_path, in_label_of, is_path, out_label_of, role_of}
+use Rattle.mesh_laws.proofs.hops.WayBack.{back_kept, let_go_back, no_upstream, reserved_open}
+use Rattle.mesh_laws.proofs.hops.Purposes.{AnswerFits, BackMeets, DownFits, HasSet, HasUpstream, IsPending}
+use Rattle.mesh_laws.proofs.hops.Purposes.{OfferSent, Purpose, Rest, SentOn, SetSent, UpFits, back_in_of, each-any}
+use Rattle.mesh_laws.proofs.hops.Purposes.{each-append, each-map, has_path, in_label_of, is_path, out_label_of}
+use Rattle.mesh_laws.proofs.hops.Purposes.{role_of}
 use Rattle.mesh_laws.proofs.hops.IdleHops.{meets_none, path-append, path-later}
 
 not_asked : (k : LegKind) → is_reserved k ≡ true → k ≡ AskedLeg → ⊥
@@ -87,6 +91,8 @@ module _ (q : Purpose) (p : Plan) (i : ℕ) where
       | inl first ↦ inl (first.0, path-later m down first.1)
       | inr asked ↦ inr asked
     ]);
+    back = h.back;
+    upstream = h.upstream.1;
   }
 
   -- 2. the first message up is taken
@@ -100,13 +106,15 @@ module _ (q : Purpose) (p : Plan) (i : ℕ) where
     offer = h.offer;
     sets = h.sets;
     bare = h.bare;
+    back = h.back;
+    upstream = h.upstream;
   }
 
   -- 3. a message is sent down
   pub down_sent : (u d : Option Leg) (m : Msg) (down up : List Msg) → DownFits q p i m → SetSent u m →
-      (leg_kind d ≡ NoLeg → is_path m ≡ false) → Rest q p i u d down up →
+      HasUpstream (back_in_of u) m → (leg_kind d ≡ NoLeg → is_path m ≡ false) → Rest q p i u d down up →
       Rest q p i u d (down ++ m ∷ []) up
-  down_sent u d m down up fits set later h = record {
+  down_sent u d m down up fits set label later h = record {
     going_down = each-append (DownFits q p i) down _ h.going_down (fits, tt);
     going_up = h.going_up;
     labels = h.labels;
@@ -117,6 +125,8 @@ module _ (q : Purpose) (p : Plan) (i : ℕ) where
       | inl first ↦ inl (first.0, path-append down m (later first.0) first.1)
       | inr asked ↦ inr asked
     ]);
+    back = h.back;
+    upstream = each-append (HasUpstream (back_in_of u)) down _ h.upstream (label, tt);
   }
 
   -- 4. a message is sent up
@@ -130,13 +140,15 @@ module _ (q : Purpose) (p : Plan) (i : ℕ) where
     offer = h.offer;
     sets = h.sets;
     bare = h.bare;
+    back = h.back;
+    upstream = h.upstream;
   }
 
   -- 5. d keeps its label: it is Held, Armed or Live before and after
   pub downstream_keeps : (u : Option Leg) (g g' : Leg) (down up : List Msg) → g'.in_label ≡ g.in_label →
-      is_reserved (leg_kind (Some g)) ≡ true → is_reserved (leg_kind (Some g')) ≡ true →
+      g'.back_out ≡ g.back_out → is_reserved (leg_kind (Some g)) ≡ true → is_reserved (leg_kind (Some g')) ≡ true →
       Rest q p i u (Some g) down up → Rest q p i u (Some g') down up
-  downstream_keeps u g g' down up is was reserved h = record {
+  downstream_keeps u g g' down up is back was reserved h = record {
     going_down = h.going_down;
     going_up = h.going_up;
     labels = rw is h.labels;
@@ -145,6 +157,8 @@ module _ (q : Purpose) (p : Plan) (i : ℕ) where
     offer = offer_idle u (Some g') (not_asked (leg_kind (Some g')) reserved);
     sets = h.sets;
     bare = λ pending. absurd (never_pending (leg_kind (Some g')) down reserved pending);
+    back = λ stands. back ∙ h.back (reserved_open g.phase was);
+    upstream = h.upstream;
   }
 
   -- 6. d goes or closes, and no Path is on the hop
@@ -161,13 +175,15 @@ module _ (q : Purpose) (p : Plan) (i : ℕ) where
       | inl first ↦ (let path = first.1 in absurd (cc (no_path, path)))
       | inr asked ↦ absurd (let_go_not_asked (role_of q) (leg_kind d') gone asked)
     ];
+    back = let_go_back (role_of q) u d' gone;
+    upstream = h.upstream;
   }
 
   -- 7. d takes its label, while u has none, no Path is on the hop and no answer is under way
   pub downstream_takes : (u d : Option Leg) (g' : Leg) (down : List Msg) → out_label_of u ≡ None →
-      has_path down ≡ false → is_reserved (leg_kind (Some g')) ≡ true → Rest q p i u d down [] →
+      has_path down ≡ false → is_reserved (leg_kind (Some g')) ≡ true → BackMeets u (Some g') → Rest q p i u d down [] →
       Rest q p i u (Some g') down []
-  downstream_takes u d g' down bare no_path reserved h = record {
+  downstream_takes u d g' down bare no_path reserved back h = record {
     going_down = h.going_down;
     going_up = tt;
     labels = rw bare tt;
@@ -175,13 +191,15 @@ module _ (q : Purpose) (p : Plan) (i : ℕ) where
     offer = offer_idle u (Some g') (not_asked (leg_kind (Some g')) reserved);
     sets = h.sets;
     bare = λ pending. bare;
+    back = back;
+    upstream = h.upstream;
   }
 
   -- 8. d is Asked, with labels that u sent on
   pub downstream_asked : (u d : Option Leg) (g' : Leg) (down : List Msg) → out_label_of u ≡ None →
-      has_path down ≡ false → OfferSent u (Some g') →
+      has_path down ≡ false → OfferSent u (Some g') → BackMeets u (Some g') →
       Rest q p i u d down [] → Rest q p i u (Some g') down []
-  downstream_asked u d g' down bare no_path offer h = record {
+  downstream_asked u d g' down bare no_path offer back h = record {
     going_down = h.going_down;
     going_up = tt;
     labels = rw bare tt;
@@ -189,13 +207,15 @@ module _ (q : Purpose) (p : Plan) (i : ℕ) where
     offer = offer;
     sets = h.sets;
     bare = λ pending. bare;
+    back = back;
+    upstream = h.upstream;
   }
 
   -- 9. u keeps its label out and the set that it sent on: it is Armed, Held or Live, or closes
   pub upstream_keeps : (g g' : Leg) (d : Option Leg) (down up : List Msg) → g'.out_label ≡ g.out_label →
-      g'.sent ≡ g.sent →
+      g'.sent ≡ g.sent → g'.back_in ≡ g.back_in →
       Rest q p i (Some g) d down up → Rest q p i (Some g') d down up
-  upstream_keeps g g' d down up out sent h = record {
+  upstream_keeps g g' d down up out sent back h = record {
     going_down = h.going_down;
     going_up = h.going_up;
     labels = rw out h.labels;
@@ -204,6 +224,8 @@ module _ (q : Purpose) (p : Plan) (i : ℕ) where
     offer = offer_upstream g g' d sent h.offer;
     sets = each-map (SetSent (Some g)) (SetSent (Some g')) down (λ m. set_upstream g g' m sent) h.sets;
     bare = λ pending. still (h.bare pending);
+    back = back_kept g g' d back h.back;
+    upstream = rw back h.upstream;
   }
     where
       still : g.out_label ≡ None → g'.out_label ≡ None
@@ -211,9 +233,9 @@ module _ (q : Purpose) (p : Plan) (i : ℕ) where
 
   -- 10. u takes the label of a Resv, which is d's
   pub upstream_connects : (g g' : Leg) (d : Option Leg) (down up : List Msg) (x : ℕ) → g'.out_label ≡ Some x →
-      in_label_of d ≡ Some x → g'.sent ≡ g.sent → is_reserved (leg_kind d) ≡ true →
+      in_label_of d ≡ Some x → g'.sent ≡ g.sent → g'.back_in ≡ g.back_in → is_reserved (leg_kind d) ≡ true →
       Rest q p i (Some g) d down up → Rest q p i (Some g') d down up
-  upstream_connects g g' d down up x out into sent reserved h = record {
+  upstream_connects g g' d down up x out into sent back reserved h = record {
     going_down = h.going_down;
     going_up = h.going_up;
     labels = rw (out, into) refl;
@@ -222,12 +244,14 @@ module _ (q : Purpose) (p : Plan) (i : ℕ) where
     offer = offer_upstream g g' d sent h.offer;
     sets = each-map (SetSent (Some g)) (SetSent (Some g')) down (λ m. set_upstream g g' m sent) h.sets;
     bare = λ pending. absurd (never_pending (leg_kind d) down reserved pending);
+    back = back_kept g g' d back h.back;
+    upstream = rw back h.upstream;
   }
 
-  -- 11. u goes
-  pub upstream_goes : (g : Leg) (d : Option Leg) (down up : List Msg) → Rest q p i (Some g) d down up →
-      Rest q p i None d down up
-  upstream_goes g d down up h = record {
+  -- 11. u goes, where d has let go and no Path is on the hop
+  pub upstream_goes : (g : Leg) (d : Option Leg) (down up : List Msg) → HasLetGo (role_of q) (leg_kind d) →
+      has_path down ≡ false → Rest q p i (Some g) d down up → Rest q p i None d down up
+  upstream_goes g d down up gone no_path h = record {
     going_down = h.going_down;
     going_up = h.going_up;
     labels = tt;
@@ -235,6 +259,8 @@ module _ (q : Purpose) (p : Plan) (i : ℕ) where
     offer = tt;
     sets = each-any (SetSent None) down (λ m. tt);
     bare = λ pending. refl;
+    back = let_go_back (role_of q) None d gone;
+    upstream = no_upstream g.back_in None down no_path h.upstream;
   }
 
 -- What was sent on

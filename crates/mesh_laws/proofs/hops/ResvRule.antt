@@ -111,7 +111,7 @@ module _ (t : Network) (q : Purpose) (s : Mesh) (l : Lsp) (p : Plan) (i : ℕ) (
           (resv_sent q p i _ _ _ g l e k x asked hop_of) (no_label_in place (connected g None x) refl))
           (λ j eq. absurd (omega arith))
           (resv_connects q p i _ _ _ g l e k x asked hop_of (connected g None x)
-          (kind None) refl refl)
+          (kind None) refl refl refl)
           (λ j eq gone. absurd cc) refl
 
       -- elsewhere: no label is left, or one goes back
@@ -130,7 +130,7 @@ module _ (t : Network) (q : Purpose) (s : Mesh) (l : Lsp) (p : Plan) (i : ℕ) (
           (closed_fits t q l p i g fits below)
           (λ m eq. asked_lets_go q p m _ _ _ g (hop_before m eq) (Some (closed g)) g.lsp g.egress n label_code asked
           (StillWaits (closed_torn t q l p i g fits)) refl)
-          (resv_closes q p i _ _ _ g l e k x asked hop_of (closed g) g.lsp g.egress k (rw asked refl) refl refl
+          (resv_closes q p i _ _ _ g l e k x asked hop_of (closed g) g.lsp g.egress k (rw asked refl) refl refl refl
           over)
           (λ m eq gone. absurd cc) refl
 
@@ -159,9 +159,9 @@ module _ (t : Network) (q : Purpose) (s : Mesh) (l : Lsp) (p : Plan) (i : ℕ) (
           }))
           (λ m eq. let at_j : m ≡ j = omega arith in
           asked_reserved q p m _ _ _ g (hop_before m eq) (connected g (Some y) x) g.lsp g.egress (link_at p j) y
-          asked (kind (Some y)) refl offered (rw at_j refl))
+          asked (kind (Some y)) refl refl offered (rw at_j refl))
           (resv_connects q p i _ _ _ g l e k x asked hop_of (connected g (Some y) x)
-          (kind (Some y)) refl refl)
+          (kind (Some y)) refl refl refl)
           (λ m eq gone. absurd cc) refl
 
       goes_back : (j : ℕ) → suc j ≡ i → (o : Option ℕ) →

@@ -35,8 +35,8 @@ pub chain_begun : (t : Network) (q : Purpose) (l : Lsp) (p : Plan) (leg : NodeId
     path_kind role ≡ PlainPath → IsRoute t l.ingress p →
     leg (node_at p 0) ≡ Some g → LegFits t q l p 0 g → g.phase ≡ Asked → g.out_label ≡ None →
     ((n : NodeId) → n.0 ≢ (node_at p 0).0 → leg n ≡ None) →
-    mail (node_at p 0) (node_at p 1) ≡ Path l e k r set None role ∷ [] → set ≡ g.sent →
-    DownFits q p 0 (Path l e k r set None role) →
+    mail (node_at p 0) (node_at p 1) ≡ Path l e k r set g.back_in role ∷ [] → set ≡ g.sent →
+    DownFits q p 0 (Path l e k r set g.back_in role) →
     ((a b : NodeId) → (a.0 ≢ (node_at p 0).0) ⊎ (b.0 ≢ (node_at p 1).0) → mail a b ≡ []) →
     Chain t q l p leg mail
 chain_begun t q l p leg mail g e k r set role plain route here fits asked bare else_none sent is_sent down_fits
@@ -47,7 +47,7 @@ chain_begun t q l p leg mail g e k r set role plain route here fits asked bare e
       ways = λ a b. way a b (is_or_not a.0 (node_at p 0).0) (is_or_not b.0 (node_at p 1).0);
       each = λ n small. at_or_else (λ n. HopAt q p leg mail n) n 0
           (λ at. rw (here, no_leg 1 (omega arith) (omega arith), sent, no_up 0 route.long)
-          (hop_asks q p 0 g l e k r set None role plain asked bare is_sent down_fits))
+          (hop_asks q p 0 g l e k r set g.back_in role plain asked bare is_sent refl down_fits))
           (λ ne. rw
           (no_leg n (omega arith) ne, no_leg (suc n) (omega arith) (omega arith), no_down n small ne, no_up n small)
           (hop_idle q p n));

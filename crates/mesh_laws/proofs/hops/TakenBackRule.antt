@@ -72,7 +72,7 @@ module _ (t : Network) (q : Purpose) (s : Mesh) (l : Lsp) (p : Plan) (i : ℕ) (
       message = Path l e k r set label (Back false work primary)
 
       abbrev asks : PathRequest
-      asks = record { arrival = arrival l e u k; route = r; set = set; role = purpose }
+      asks = record { arrival = arrival l e u k; route = r; set = set; upstream = label; role = purpose }
 
       own : is_message_of l message ≡ true
       own = same_lsp-refl l
@@ -132,7 +132,7 @@ module _ (t : Network) (q : Purpose) (s : Mesh) (l : Lsp) (p : Plan) (i : ℕ) (
             (puts (with_phase Held g) (to_node next m ∷ [])) (Some (with_phase Held g)) [] (m ∷ [])
             (rw mine refl) (sends_on t l l.ingress p route (suc i) m small mine) held (rw append-nil before)
             (λ _. takes_back_on q p (suc i) g (leg_at s l next) m _ _ backup live refl (fits.egress, refl, left, tells)
-            refl (λ gone. absurd (never gone)) (hop_out small))
+            refl refl (λ gone. absurd (never gone)) (hop_out small))
             (λ none. absurd cc)
             (λ _ gone. absurd (never (rw gone refl)))
           where

@@ -103,7 +103,7 @@ module _ (t : Network) (q : Purpose) (s : Mesh) (l : Lsp) (p : Plan) (i : ℕ) (
         (tear_lets_go q p i (leg_at s l u) l e k (messages_of l rest) _ g (Some (closed g)) g.lsp g.egress d torn_code
         (phase_stands g.phase stands) (StillWaits (closed_torn t q l p (suc i) g fits)) refl (rw here at hop))
         (λ _. leg_closes q p (suc i) _ _ _ g (closed g) g.lsp g.egress (link_at p (suc i))
-        (phase_stands g.phase stands) (closed_kind t q l p (suc i) g fits) refl refl refl
+        (phase_stands g.phase stands) (closed_kind t q l p (suc i) g fits) refl refl refl refl
         (rw here at (chain.each (suc i) small)))
         (λ gone. absurd cc)
         (λ _ none path. chain.fresh (suc i) small (record {

@@ -96,7 +96,7 @@ module _ (t : Network) (s : Mesh) (o : Routes) (c : CallRec) (l : Lsp) (q : Purp
       first_moves t s o l q p pl (arms c g) (with_phase Armed g) m refl (rw next refl) (same_of g.lsp l fits.own)
       (same_of g.lsp l fits.own) (armed_fits t q l p 0 g fits held small) never
       (arms_on q p 0 g (leg_at s l (node_at p 1)) m _ _ held path.kind (fits.egress, refl, fits.route, path.tells) refl
-      (λ gone. absurd (never gone)) hop)
+      refl (λ gone. absurd (never gone)) hop)
 
   -- or Held again
   disarms_chain : IsLiveBackup g →
@@ -111,7 +111,7 @@ module _ (t : Network) (s : Mesh) (o : Routes) (c : CallRec) (l : Lsp) (q : Purp
       first_moves t s o l q p pl (disarms c g) (with_phase Held g) m refl (rw next refl) (same_of g.lsp l fits.own)
       (same_of g.lsp l fits.own) (live_held_fits t q l p 0 g fits is.live back) never
       (takes_back_on q p 0 g (leg_at s l (node_at p 1)) m _ _ back is.live path.kind
-      (fits.egress, refl, fits.route, path.tells) refl (λ gone. absurd (never gone)) hop)
+      (fits.egress, refl, fits.route, path.tells) refl refl (λ gone. absurd (never gone)) hop)
 
 module _ (c : CallRec) (g : Leg) where
   pub own_arms : IsOf g.lsp (arms c g)

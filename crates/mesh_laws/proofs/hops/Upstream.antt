@@ -20,6 +20,7 @@ use Rattle.mesh_laws.proofs.hops.AnswersTaken.{ResvTaken, resv_asked}
 use Rattle.mesh_laws.proofs.hops.AnswersTaken.{resv_torn, removal_taken, contention_torn}
 use Rattle.mesh_laws.proofs.hops.Rows.{tears}
 use Rattle.mesh_laws.proofs.hops.Purposes.{Purpose, role_of, DownFits}
+use Rattle.mesh_laws.proofs.hops.IdleHops.{no_path_down}
 use Rattle.mesh_laws.proofs.hops.Rest.{up_taken, down_sent, upstream_keeps, upstream_connects, upstream_goes}
 use Rattle.mesh_laws.proofs.hops.Chain.{Hop}
 
@@ -38,15 +39,17 @@ module _ (q : Purpose) (p : Plan) (i : ℕ) where
           offer = tt;
           sets = tt;
           bare = λ pending. refl;
+          back = tt;
+          upstream = tt;
         };
   }
 
   -- a leg is Asked, and its Path goes on
   pub hop_asks : (g : Leg) (l : Lsp) (e : NodeId) (k : LinkId) (r : List Step) (set : List ℕ) (label : Option ℕ)
       (s : PathRole) →
-      path_kind s ≡ PlainPath → g.phase ≡ Asked → g.out_label ≡ None → set ≡ g.sent →
+      path_kind s ≡ PlainPath → g.phase ≡ Asked → g.out_label ≡ None → set ≡ g.sent → label ≡ g.back_in →
       DownFits q p i (Path l e k r set label s) → Hop q p i (Some g) None (Path l e k r set label s ∷ []) []
-  hop_asks g l e k r set label s plain asked bare is fits = record {
+  hop_asks g l e k r set label s plain asked bare is back fits = record {
     shape = rw (asked, plain) Asking;
     rest = record {
       going_down = (fits, tt);
@@ -56,6 +59,8 @@ module _ (q : Purpose) (p : Plan) (i : ℕ) where
       offer = tt;
       sets = (is, tt);
       bare = λ pending. bare;
+      back = tt;
+      upstream = (back, tt);
     };
   }
 
@@ -76,22 +81,23 @@ module _ (q : Purpose) (p : Plan) (i : ℕ) where
 
       -- it has its label
       pub resv_connects : (g' : Leg) → leg_kind (Some g') ≡ reserved_leg (role_of q) → g'.out_label ≡ Some x →
-          g'.sent ≡ g.sent →
+          g'.sent ≡ g.sent → g'.back_in ≡ g.back_in →
           Hop q p i (Some g') d (down ++ []) up
-      resv_connects g' kind out sent = rw append-nil (record {
+      resv_connects g' kind out sent back = rw append-nil (record {
         shape = rw (kind, taken.none, taken.last) taken.connected;
-        rest = upstream_connects q p i g g' d down up x out (h.rest.answers.0 next_reserved).0 sent next_reserved
+        rest = upstream_connects q p i g g' d down up x out (h.rest.answers.0 next_reserved).0 sent back next_reserved
             (up_taken q p i (Some g) d (Resv l e k x) down up h.rest);
       })
 
       -- it closes, and a PathTear goes on
       pub resv_closes : (g' : Leg) (l' : Lsp) (e' : NodeId) (k' : LinkId) → leg_kind (Some g') ≡ ClosingLeg →
-          g'.out_label ≡ g.out_label → g'.sent ≡ g.sent → k' ≡ link_at p i →
+          g'.out_label ≡ g.out_label → g'.sent ≡ g.sent → g'.back_in ≡ g.back_in → k' ≡ link_at p i →
           Hop q p i (Some g') d (down ++ PathTear l' e' k' ∷ []) up
-      resv_closes g' l' e' k' kind out sent over = record {
+      resv_closes g' l' e' k' kind out sent back over = record {
         shape = rw (kind, map-append, taken.none, taken.last) taken.torn;
-        rest = down_sent q p i (Some g') d (PathTear l' e' k') down up over tt (λ _. refl)
-            (upstream_keeps q p i g g' d down up out sent (up_taken q p i (Some g) d (Resv l e k x) down up h.rest));
+        rest = down_sent q p i (Some g') d (PathTear l' e' k') down up over tt tt (λ _. refl)
+            (upstream_keeps q p i g g' d down up out sent back
+            (up_taken q p i (Some g) d (Resv l e k x) down up h.rest));
       }
 
     -- by a torn one, which stays as it is
@@ -114,18 +120,22 @@ module _ (q : Purpose) (p : Plan) (i : ℕ) where
     pub removal_leaves : (l : Lsp) (e at : NodeId) (code : ErrCode) →
         Hop q p i (Some g) d down (PathErr l e at true code ∷ up) →
         Hop q p i None d (down ++ []) up
-    removal_leaves l e at code h = rw append-nil (record {
-      shape = (removal_taken (role_of q) _ _ _ _ h.shape).gone;
-      rest = upstream_goes q p i g d down up (up_taken q p i (Some g) d (PathErr l e at true code) down up h.rest);
-    })
+    removal_leaves l e at code h =
+        let t = removal_taken (role_of q) _ _ _ _ h.shape in
+        rw append-nil (record {
+          shape = t.gone;
+          rest = upstream_goes q p i g d down up t.let_go (no_path_down down t.down_is)
+              (up_taken q p i (Some g) d (PathErr l e at true code) down up h.rest);
+        })
 
     -- A leg that stands closes, and a PathTear goes on
     pub leg_closes : (g' : Leg) (l : Lsp) (e : NodeId) (k : LinkId) → Stands (leg_kind (Some g)) →
         leg_kind (Some g') ≡ torn_leg (role_of q) (leg_kind (Some g)) → g'.out_label ≡ g.out_label → g'.sent ≡ g.sent →
-        k ≡ link_at p i → Hop q p i (Some g) d down up → Hop q p i (Some g') d (down ++ PathTear l e k ∷ []) up
-    leg_closes g' l e k stands kind out sent over h = record {
+        g'.back_in ≡ g.back_in → k ≡ link_at p i → Hop q p i (Some g) d down up →
+        Hop q p i (Some g') d (down ++ PathTear l e k ∷ []) up
+    leg_closes g' l e k stands kind out sent back over h = record {
       shape = rw (kind, map-append) (tears (role_of q) _ _ _ _ stands h.shape);
       rest =
-          down_sent q p i (Some g') d (PathTear l e k) down up over tt (λ _. refl)
-          (upstream_keeps q p i g g' d down up out sent h.rest);
+          down_sent q p i (Some g') d (PathTear l e k) down up over tt tt (λ _. refl)
+          (upstream_keeps q p i g g' d down up out sent back h.rest);
     }

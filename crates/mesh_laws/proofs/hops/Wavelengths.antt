@@ -1,5 +1,5 @@
 -- The wavelength of an LSP that is joined changes along its route at converting nodes alone.
-use Rattle.std.proofs.Common.{◌≡◌, ◌<◌, ℕ, suc, true, false, List, length, refl, sym, ap, ◌∙◌, subst, arith}
+use Rattle.std.proofs.Common.{◌≡◌, ◌<◌, ℕ, suc, true, false, List, length, refl, sym, ap, ◌∙◌, subst, arith, Bool}
 use Rattle.std.specs.Prelude.{slice_get, Option, Some, None, IfSome}
 use Rattle.std.proofs.lemmas.Option.{slice_get_within}
 use Rattle.std.proofs.lemmas.List.Elements.{All-from_recursion}
@@ -19,7 +19,7 @@ use Rattle.mesh_rules.specs.LocalNodes.{converts, fibre_in, labels_of, local_nod
 use Rattle.mesh_rules.specs.Machine.{Mesh, start}
 use Rattle.mesh_nodes.proofs.CallList.{all-calls_found}
 use Rattle.mesh_laws.specs.HopLaw.{leg_at}
-use Rattle.mesh_laws.specs.JoinedLaw.{CallIsJoined, HasItsLabel, HopIsJoined, IsHeldOrLive, IsJoined, IsLive, LspIsJoined}
+use Rattle.mesh_laws.specs.JoinedLaw.{CallIsJoined, HasItsLabel, HopIsJoined, IsHeldOrLive, IsJoined, IsLive, LspIsJoined, goes_both_ways}
 use Rattle.mesh_laws.specs.LabelLaw.{KeepsLabels}
 use Rattle.mesh_laws.specs.StandLaw.{has_backup, is_standing_call}
 use Rattle.mesh_laws.specs.WavelengthLaw.{CallKeepsWavelengths, EveryCallKeepsItsWavelengths, KeepsWavelength, LspKeepsWavelength, wavelength_from}
@@ -44,14 +44,14 @@ module _ (t : Network) (events : List MeshEvent) (run : IsRun t start events) wh
   kept : (l : Lsp) (n : NodeId) (g : Leg) → leg_at s l n ≡ Some g → KeepsLabels (local_node t n) g
   kept l n g here = keeps t events l n g (o l) (follows t events run l) here
 
-  left-on : (P : Phase → Type 0) (l : Lsp) (hop : Step) (h : HopIsJoined t s P l hop) →
+  left-on : (P : Phase → Type 0) (b : Bool) (l : Lsp) (hop : Step) (h : HopIsJoined t s P b l hop) →
       wavelength_from s l hop.node ≡ Some h.label
-  left-on P l hop h = let there = h.from_there in rw there h.leaves
+  left-on P b l hop h = let there = h.from_there in rw there h.leaves
 
   -- an LSP that is joined over each step of its route
-  module _ (P : Phase → Type 0) (l : Lsp) (q : Purpose) (steps : List Step) (e : NodeId)
+  module _ (P : Phase → Type 0) (b : Bool) (l : Lsp) (q : Purpose) (steps : List Step) (e : NodeId)
       (planned : Planned t s o l q (plan steps e))
-      (joined : (i : ℕ) (hop : Step) → slice_get steps i ≡ Some hop → HopIsJoined t s P l hop) where
+      (joined : (i : ℕ) (hop : Step) → slice_get steps i ≡ Some hop → HopIsJoined t s P b l hop) where
     abbrev p : Plan
     p = plan steps e
 
@@ -106,44 +106,47 @@ module _ (t : Network) (events : List MeshEvent) (run : IsRun t start events) wh
     keeps-route : KeepsWavelength t s l steps
     keeps-route = record {
       of_link = λ i hop there.
-          ((joined i hop there).label, left-on P l hop (joined i hop there), of-link i hop there);
+          ((joined i hop there).label, left-on P b l hop (joined i hop there), of-link i hop there);
       one = λ i hop next there then fixed.
-          left-on P l next (joined (suc i) next then) ∙ ap Some (sym (one-label i hop next there then fixed))
-          ∙ sym (left-on P l hop (joined i hop there));
+          left-on P b l next (joined (suc i) next then) ∙ ap Some (sym (one-label i hop next there then fixed))
+          ∙ sym (left-on P b l hop (joined i hop there));
     }
 
-  joined-keeps : (P : Phase → Type 0) (d : NodeId) (l : Lsp) → LspIsJoined t events P d l →
+  joined-keeps : (P : Phase → Type 0) (b : Bool) (d : NodeId) (l : Lsp) → LspIsJoined t events P b d l →
       LspKeepsWavelength t events l
-  joined-keeps P d l joined route sent =
+  joined-keeps P b d l joined route sent =
       let at_route : o l ≡ Some joined.route = joined.sent in
       let same : joined.route ≡ route = cc (at_route, sent) in
       let along : Follows t s o l (Some joined.route) = subst (Follows t s o l) joined.sent (follows t events run l) in
       subst (KeepsWavelength t s l) same
-      (keeps-route P l along.1 joined.route along.0 along.2 joined.hops)
+      (keeps-route P b l along.1 joined.route along.0 along.2 joined.hops)
 
-  named-keeps : (P : Phase → Type 0) (d : NodeId) (w : Option Lsp) → IsJoined t events P d w →
+  named-keeps : (P : Phase → Type 0) (b : Bool) (d : NodeId) (w : Option Lsp) → IsJoined t events P b d w →
       IfSome w (LspKeepsWavelength t events)
-  named-keeps P d None joined = absurd joined
-  named-keeps P d (Some l) joined = joined-keeps P d l joined
+  named-keeps P b d None joined = absurd joined
+  named-keeps P b d (Some l) joined = joined-keeps P b d l joined
 
   module _ (c : CallRec) where
+    abbrev way : Bool
+    way = goes_both_ways s c.work
+
     work-keeps : (f : CallState) → CallIsJoined t events c f → is_standing_call f ≡ true →
         IfSome c.work (LspKeepsWavelength t events)
-    work-keeps Bare joined stands = named-keeps IsLive c.egress c.work joined
-    work-keeps Pairing joined stands = named-keeps IsLive c.egress c.work joined
-    work-keeps Guarded joined stands = named-keeps IsLive c.egress c.work joined.0
-    work-keeps Turning joined stands = named-keeps IsLive c.egress c.work joined.0
-    work-keeps Turned joined stands = named-keeps IsLive c.egress c.work joined.0
-    work-keeps Stuck joined stands = named-keeps IsLive c.egress c.work joined.0
+    work-keeps Bare joined stands = named-keeps IsLive way c.egress c.work joined
+    work-keeps Pairing joined stands = named-keeps IsLive way c.egress c.work joined
+    work-keeps Guarded joined stands = named-keeps IsLive way c.egress c.work joined.0
+    work-keeps Turning joined stands = named-keeps IsLive way c.egress c.work joined.0
+    work-keeps Turned joined stands = named-keeps IsLive way c.egress c.work joined.0
+    work-keeps Stuck joined stands = named-keeps IsLive way c.egress c.work joined.0
     work-keeps Asking joined stands = absurd (cc stands)
     work-keeps Blocked joined stands = absurd (cc stands)
 
     back-keeps : (f : CallState) → CallIsJoined t events c f → has_backup f ≡ true →
         IfSome c.back (LspKeepsWavelength t events)
-    back-keeps Guarded joined has = named-keeps IsHeldOrLive c.egress c.back joined.1
-    back-keeps Turning joined has = named-keeps HasItsLabel c.egress c.back joined.1
-    back-keeps Turned joined has = named-keeps IsLive c.egress c.back joined.1
-    back-keeps Stuck joined has = named-keeps IsHeldOrLive c.egress c.back joined.1
+    back-keeps Guarded joined has = named-keeps IsHeldOrLive way c.egress c.back joined.1
+    back-keeps Turning joined has = named-keeps HasItsLabel way c.egress c.back joined.1
+    back-keeps Turned joined has = named-keeps IsLive way c.egress c.back joined.1
+    back-keeps Stuck joined has = named-keeps IsHeldOrLive way c.egress c.back joined.1
     back-keeps Asking joined has = absurd (cc has)
     back-keeps Bare joined has = absurd (cc has)
     back-keeps Pairing joined has = absurd (cc has)

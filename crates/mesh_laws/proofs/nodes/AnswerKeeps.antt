@@ -20,7 +20,8 @@ use Rattle.mesh_rules.specs.Tears.{torn, tear_with}
 use Rattle.mesh_nodes.proofs.Cases.{if_cases, both_left, both_right}
 use Rattle.mesh_laws.proofs.nodes.Facts.{NodeFacts}
 use Rattle.mesh_nodes.proofs.LegList.{found-lsp}
-use Rattle.mesh_laws.proofs.nodes.NewLegs.{beside, alone_fibre, back-has, connected-stands, ingress-stands}
+use Rattle.mesh_laws.proofs.nodes.ChosenLabels.{through-has}
+use Rattle.mesh_laws.proofs.nodes.ConnectedLegs.{beside, alone_fibre, connected-stands, ingress-stands, ingress-takes}
 use Rattle.mesh_laws.proofs.nodes.ActivationKeeps.{keeps-contended, keeps-resv_again}
 use Rattle.mesh_laws.proofs.nodes.CallStepKeeps.{keeps-connected_here, keeps-refused_here}
 use Rattle.mesh_laws.proofs.nodes.ClosedLegs.{closed-stands}
@@ -39,16 +40,16 @@ asked-is Falling e = absurd (cc e)
 -- Resv
 
 keeps-passed_back : (p : LocalNode) (s : NodeState) (a : Arrival) (g : Leg) (h : Neighbour) (x : ℕ) (o : Option ℕ) →
-    NodeFacts p.id.0 s → find_leg g.lsp s.legs ≡ Some g → previous g ≡ Some h → is_some g.next ≡ true →
-    has g.sent x ≡ true → label_through p (labels_left p s g h) x ≡ o → Keeps p s (passed_back p a g h x o)
-keeps-passed_back p s a g h x None facts here is goes_on sent looked =
+    NodeFacts p.id.0 s → find_leg g.lsp s.legs ≡ Some g → g.phase ≡ Asked → previous g ≡ Some h →
+    is_some g.next ≡ true → has g.sent x ≡ true → label_through p (labels_left p s g h) x ≡ o →
+    Keeps p s (passed_back p a g h x o)
+keeps-passed_back p s a g h x None facts here asked is goes_on sent looked =
     keeps-leg p.id.0 s (closed g) (has_previous-away p.id.0 s.lsp g h (facts.leg g.lsp g here) is)
     (closed-stands p.id.0 s.lsp s.legs g (leg_part p.id.0 s facts) here goes_on) facts
-keeps-passed_back p s a g h x (Some y) facts here is goes_on sent looked =
-    let leg = facts.leg g.lsp g here in
-    keeps-leg p.id.0 s (connected g (Some y) x) (has_previous-away p.id.0 s.lsp g h leg is)
-    (connected-stands p s.lsp s.legs g h x y leg (beside g.prev g.in_fibre h is).fibre goes_on sent
-    (back-has p (labels_left p s g h) x y looked)) facts
+keeps-passed_back p s a g h x (Some y) facts here asked is goes_on sent looked =
+    keeps-leg p.id.0 s (connected g (Some y) x) (has_previous-away p.id.0 s.lsp g h (facts.leg g.lsp g here) is)
+    (connected-stands p s.lsp s.legs (leg_part p.id.0 s facts) g here asked goes_on h x y
+    (beside g.prev g.in_fibre h is).fibre sent (through-has p (labels_left p s g h) x y looked)) facts
 
 keeps-answered : (p : LocalNode) (s : NodeState) (a : Arrival) (x : ℕ) (g : Leg) (o : Option Neighbour) →
     NodeFacts p.id.0 s → find_leg g.lsp s.legs ≡ Some g → g.phase ≡ Asked → is_some g.next ≡ true →
@@ -57,10 +58,12 @@ keeps-answered : (p : LocalNode) (s : NodeState) (a : Arrival) (x : ℕ) (g : Le
 keeps-answered p s a x g None facts here asked goes_on sent is =
     let mine = facts.leg g.lsp g here in
     keeps-connected_here p s g facts here asked (no_previous-here p.id.0 s.lsp g mine is) x
-    (ingress-stands p.id.0 s.lsp s.legs g x mine (alone_fibre g.prev g.in_fibre mine.in_fibre is) goes_on sent)
+    (ingress-stands p s.lsp s.legs (leg_part p.id.0 s facts) g here asked goes_on x
+    (alone_fibre g.prev g.in_fibre mine.in_fibre is) sent)
+    (ingress-takes p s.lsp s.legs (leg_part p.id.0 s facts) g here asked goes_on x)
 keeps-answered p s a x g (Some h) facts here asked goes_on sent is =
     keeps-passed_back p s a g h x (label_through p (labels_left p s g h) x)
-    facts here is goes_on sent refl
+    facts here asked is goes_on sent refl
 
 pub keeps-on_resv : (p : LocalNode) (s : NodeState) (a : Arrival) (x : ℕ) (o : Option Leg) → NodeFacts p.id.0 s →
     find_leg a.lsp s.legs ≡ o → Keeps p s (resv_with p s a x o)

@@ -59,7 +59,7 @@ backs-item t n p s rise backed (Order (Setup k from to protected both via backup
     (both_right _ (has_backup_way t from to protected via backup) fits.0) in
     setup-holds MayGo p s
     (record { call = k; from = from; egress = to; protected = protected; both = both; via = via; backup = backup })
-    (λ a. CanBeBacked t) (λ a cause known. can) (λ route out over first ordered. can) (find_call k s.calls)
+    (λ a. CanBeBacked t) (λ a cause known. can) (λ route out over first ordered has. can) (find_call k s.calls)
 backs-item t n p s rise backed (Order (Release k from)) fits =
     release-holds OfAny MayGo (CanBeBacked t) (CanBeBacked t) (still-backed t) p s (λ g m j f found first into. tt)
     rise backed from (find_call k s.calls)

@@ -168,6 +168,7 @@ module _ (n : ℕ) (s : NodeState) (facts : NodeFacts n s) (g : Leg) (here : fin
               (named-still Work (named-lsp n s.lsp s.legs Work c.egress c.work g.lsp fit.work work));
           back = subst (λ o. IfSome o (IsNamed n s.lsp legs' Back c.egress)) (sym alone) tt;
           guards = λ w b h is_work is_back found. absurd (cc (alone, is_back));
+          ways = λ w b k h is_work is_back at_w at_b. absurd (cc (alone, is_back));
           reports = subst (λ state. fits_reports state (has_any c.work_reports) (has_any c.back_reports) ≡ true)
               (is-asking e asked) fit.reports;
         }
@@ -203,6 +204,7 @@ module _ (n : ℕ) (s : NodeState) (facts : NodeFacts n s) (g : Leg) (here : fin
           work = tt;
           back = subst (λ o. IfSome o (IsNamed n s.lsp legs_left Back c.egress)) (sym none) tt;
           guards = λ w b h is_work is_back found. absurd (cc is_work);
+          ways = λ w b k h is_work is_back at_w at_b. absurd (cc is_work);
           reports = subst (λ state. fits_reports state (has_any c.work_reports) (has_any c.back_reports) ≡ true)
               (is-asking e asked) fit.reports;
         })
@@ -229,6 +231,7 @@ module _ (n : ℕ) (s : NodeState) (facts : NodeFacts n s) (g : Leg) (here : fin
           work = named-stays n s.lsp s.lsp Work c.egress c.work s.legs legs_left (omega arith) stays fit.work;
           back = tt;
           guards = λ w b h is_work is_back found. absurd (cc is_back);
+          ways = λ w b k h is_work is_back at_w at_b. absurd (cc is_back);
           reports = refl;
         })
         (λ y has. elim (named-by (unbacked c cause) y has) [

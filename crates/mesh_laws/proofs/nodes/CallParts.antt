@@ -84,6 +84,8 @@ call-stays n a b legs legs' c le stay facts = record {
   work = named-stays n a b _ c.egress c.work legs legs' le work facts.work;
   back = named-stays n a b _ c.egress c.back legs legs' le back facts.back;
   guards = λ w l g is_work is_back found. facts.guards w l g is_work is_back (sym (back l is_back) ∙ found);
+  ways = λ w l g h is_work is_back at_w at_l.
+      facts.ways w l g h is_work is_back (sym (work w is_work) ∙ at_w) (sym (back l is_back) ∙ at_l);
   reports = facts.reports;
 }
   where

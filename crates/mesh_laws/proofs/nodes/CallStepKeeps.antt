@@ -29,6 +29,7 @@ use Rattle.mesh_laws.proofs.nodes.LegParts.{LegPart, MayStand, part-with_leg, pa
 use Rattle.mesh_laws.proofs.nodes.PairKeeps.{keeps-pair}
 use Rattle.mesh_laws.proofs.nodes.Parts.{leg_part, node_facts}
 use Rattle.mesh_laws.proofs.nodes.PathKeeps.{Keeps}
+use Rattle.mesh_laws.proofs.nodes.Sharing.{TakeNoMore}
 
 -- the leg is put in its place, and then the answer is carried out
 pub after-puts : (p : LocalNode) (s : NodeState) (a : Answer) (h : Leg) →
@@ -39,7 +40,8 @@ module _ (p : LocalNode) (s : NodeState) (g : Leg) (facts : NodeFacts p.id.0 s) 
     (asked : g.phase ≡ Asked) (begins : g.lsp.ingress.0 ≡ p.id.0) where
   -- A Resv
 
-  module _ (x : ℕ) (may : MayStand p.id.0 s.lsp s.legs (connected g None x)) where
+  module _ (x : ℕ) (may : MayStand p.id.0 s.lsp s.legs (connected g None x))
+      (less : TakeNoMore s.legs (with_leg (connected g None x) s.legs)) where
     legs_kept : LegPart p.id.0 s.lsp (with_leg (connected g None x) s.legs)
     legs_kept = part-with_leg p.id.0 s.lsp s.lsp (connected g None x) s.legs (omega arith) (leg_part p.id.0 s facts) may
 
@@ -53,7 +55,7 @@ module _ (p : LocalNode) (s : NodeState) (g : Leg) (facts : NodeFacts p.id.0 s) 
           after-puts p s (pair p s c (connected g None x)) (connected g None x)
           (keeps-pair p s (with_leg (connected g None x) s.legs) (with_call (bare c) s.calls) (bare c)
           (connected g None x)
-          legs_kept (call-bare p.id.0 s facts g here c called x e asked)
+          legs_kept (call-bare p.id.0 s facts g here c called x e asked) less
           (record {
             found = rw (find-with_call (bare c) s.calls c.call, itself) refl;
             state = refl;

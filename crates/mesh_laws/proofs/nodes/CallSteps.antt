@@ -14,18 +14,18 @@ use Rattle.ason_base.specs.declared.network.LinkSpec.{LinkSpec}
 use Rattle.ason_base.specs.declared.steps.Step.{Step}
 use Rattle.ason_base.specs.declared.tables.CallRec.{CallRec}
 use Rattle.ason_base.specs.declared.tables.Leg.{Leg}
-use Rattle.ason_base.specs.Codes.{busy_code}
+use Rattle.ason_base.specs.Codes.{busy_code, label_code}
 use Rattle.ason_base.specs.Lsps.{is_lsp}
 use Rattle.ason_base.specs.Risks.{unknown_link}
 use Rattle.mesh_rules.specs.declared.limits.TheConstants.{LAST_NUMBER}
 use Rattle.mesh_rules.specs.CallSteps.{call_answered, call_contended, call_refused, call_turned}
 use Rattle.mesh_rules.specs.Calls.{bare, blocked, call_with, guarded, is_asking, is_pairing, is_turned, is_turning, names, pairing, stuck, turned, turning, unbacked}
 use Rattle.mesh_rules.specs.Changes.{Answer}
-use Rattle.mesh_rules.specs.FirstLegs.{first_link, is_full}
+use Rattle.mesh_rules.specs.FirstLegs.{first_link, is_full, lacks_first_back}
 use Rattle.mesh_rules.specs.KnownRows.{known_rows}
 use Rattle.mesh_rules.specs.Legs.{is_contended, is_held, is_in_use, is_work, leg_of}
 use Rattle.mesh_rules.specs.LocalNodes.{LocalNode}
-use Rattle.mesh_rules.specs.Pairs.{beside_lsp, admitted_backup, backup_route, over_backup, pair, pair_over, route_from}
+use Rattle.mesh_rules.specs.Pairs.{beside_lsp, admitted_backup, backup_route, guarding, is_two_way, over_backup, pair, pair_over, route_from}
 use Rattle.mesh_rules.specs.Reports.{call_reported, fibres_after, with_back_reports, with_report, with_work_reports}
 use Rattle.mesh_rules.specs.State.{NodeState}
 use Rattle.mesh_rules.specs.Turns.{decide, decided, go_back, has_any, turn}
@@ -71,8 +71,11 @@ module _ (Rep : Lsp → Fibre → Type 0) (G : CallNo → Type 0) (P R : CallRec
       (λ e. stays c (unbacked c Spent) refl refl refl refl (to-unbacked Rep c Spent refl lone) here)
       (λ e. if_cases Holds (is_full s) _ _
       (λ f. stays c (unbacked c Full) refl refl refl refl (to-unbacked Rep c Full refl lone) here)
-      (λ f. stays c (pairing c (beside_lsp w.lsp s.lsp)) refl refl refl refl
-      (to-pairing Rep c (beside_lsp w.lsp s.lsp) lone) here))
+      (λ f. if_cases Holds (lacks_first_back p s (is_two_way w) (guarding p w) out) _ _
+      (λ h. stays c (unbacked c (Code label_code)) refl refl refl refl
+      (to-unbacked Rep c (Code label_code) refl lone) here)
+      (λ h. stays c (pairing c (beside_lsp w.lsp s.lsp)) refl refl refl refl
+      (to-pairing Rep c (beside_lsp w.lsp s.lsp) lone) here)))
 
   pub holds-over : (c : CallRec) (w : Leg) (route : List Step) (o : Option LinkSpec) → IsLone c → P c →
       Holds (over_backup p s c w route o)

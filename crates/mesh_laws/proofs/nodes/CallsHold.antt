@@ -120,20 +120,19 @@ module _ (Rep : Lsp → Fibre → Type 0) (G : CallNo → Type 0) (P R : CallRec
   holds-at_egress m link risks offered None = tt
   holds-at_egress m link risks offered (Some x) = tt
 
-  holds-in_transit : (m : PathRequest) (link : LinkSpec) (risks : List Risk) (route : List Step) (offered : List ℕ)
-      (o : Option LinkSpec) → Holds (in_transit p m link risks route offered o)
-  holds-in_transit m link risks route offered None = tt
-  holds-in_transit m link risks route offered (Some out) = tt
+  holds-in_transit : (m : PathRequest) (link : LinkSpec) (route : List Step) (o : Option LinkSpec) →
+      Holds (in_transit p s m link route o)
+  holds-in_transit m link route None = tt
+  holds-in_transit m link route (Some out) = tt
 
-  holds-admitted_path : (m : PathRequest) (link : LinkSpec) (risks : List Risk) (offered : List ℕ) (route : List Step) →
-      Holds (admitted p m link risks offered route)
-  holds-admitted_path m link risks offered [] = holds-at_egress m link risks offered (least offered)
-  holds-admitted_path m link risks offered (hop ∷ route) =
-      holds-in_transit m link risks route offered (own_link p hop.link)
+  holds-admitted_path : (m : PathRequest) (link : LinkSpec) (route : List Step) → Holds (admitted p s m link route)
+  holds-admitted_path m link [] =
+      holds-at_egress m link (risks_here p s m) (offered_labels p s m link) (least (offered_labels p s m link))
+  holds-admitted_path m link (hop ∷ route) = holds-in_transit m link route (own_link p hop.link)
 
   holds-judged : (m : PathRequest) (link : LinkSpec) (o : Option ErrCode) → Holds (judged p s m link o)
   holds-judged m link (Some code) = tt
-  holds-judged m link None = holds-admitted_path m link (risks_here p s m) (offered_labels p s m link) m.route
+  holds-judged m link None = holds-admitted_path m link m.route
 
   holds-first_path : (m : PathRequest) (o : Option LinkSpec) → Holds (first_path p s m o)
   holds-first_path m None = tt
@@ -187,7 +186,8 @@ module _ (Rep : Lsp → Fibre → Type 0) (G : CallNo → Type 0) (P R : CallRec
 
   pub message-holds : (u : NodeId) (m : Msg) → Holds (on_message p s u m)
   message-holds u (Path l e k route set up r) =
-      holds-path (record { arrival = arrival l e u k; route = route; set = set; role = r }) (find_leg l s.legs)
+      holds-path (record { arrival = arrival l e u k; route = route; set = set; upstream = up; role = r })
+      (find_leg l s.legs)
   message-holds u (Resv l e k x) = holds-resv (arrival l e u k) x (find_leg l s.legs)
   message-holds u (PathTear l e k) = holds-tear (arrival l e u k) (find_leg l s.legs)
   message-holds u (PathErr l e at gone code) =

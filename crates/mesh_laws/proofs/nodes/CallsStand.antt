@@ -108,7 +108,7 @@ module _ (k : CallNo) (c : CallRec) (standing : is_standing_call c.state ≡ tru
     setup-stands w (Some d) known = tt
     setup-stands w None known =
         setup-holds Other p s w (λ a. On) (λ a cause known number. never number)
-        (λ route out over first ordered number. never number) None
+        (λ route out over first ordered has number. never number) None
       where
         never : {X : Type 0} → w.call ≡ k → X
         never number =

@@ -10,6 +10,7 @@ use Rattle.ason_base.specs.declared.calls.Role.TheVariants.{Work, Back}
 use Rattle.ason_base.specs.declared.tables.Leg.{Leg}
 use Rattle.mesh_rules.specs.Legs.{closed, closing_phase, find_leg, is_armed, is_at, is_held, is_marked, is_marking, is_work, reverse_of, sends, takes, uses}
 use Rattle.mesh_nodes.proofs.LabelPlaces.{either, none-at, or-first, or-second}
+use Rattle.mesh_laws.proofs.nodes.BackLabels.{back-closed}
 use Rattle.mesh_laws.proofs.nodes.Facts.{FitsPhase, LegFacts}
 use Rattle.mesh_laws.proofs.nodes.LegParts.{LegPart, MayStand}
 use Rattle.mesh_laws.proofs.nodes.Marks.{may-keep}
@@ -47,8 +48,7 @@ closed-facts n next g goes_on facts = record {
   phase = phase_closed g.phase g.role g goes_on;
   offered = tt;
   sent = facts.sent;
-  back_in = facts.back_in;
-  back_out = refl;
+  back = back-closed g facts.back;
 }
 
 -- it takes and sends no more, and is marked only where it was

@@ -20,6 +20,7 @@ use Rattle.mesh_rules.specs.declared.changes.LegChange.TheVariants as leg
 use Rattle.mesh_rules.specs.Calls.{find_call, names, with_call}
 use Rattle.mesh_rules.specs.Changes.{Answer, changed, nothing}
 use Rattle.mesh_rules.specs.Legs.{find_leg, following, is_contended, is_held, is_in_use, leg_of, with_leg, with_phase}
+use Rattle.mesh_rules.specs.Pairs.{is_two_way}
 use Rattle.mesh_rules.specs.State.{NodeState}
 use Rattle.mesh_rules.specs.Turns.{activating_path, arms, call_put, decide, decided, disarms, go_back, has_any, taking_path, turn}
 use Rattle.mesh_nodes.proofs.Cases.{if_cases}
@@ -113,6 +114,13 @@ module _ (n : ℕ) (s : NodeState) (facts : NodeFacts n s) (c : CallRec) (found 
                 let one : leg_as g f i o ≡ h = cc (there, there') in
                 subst (λ (k : Leg). GuardsWork w b k.path_role) one
                 (subst (λ k. GuardsWork w k g.path_role) own (fit.guards w g.lsp g is_work back here)));
+            ways = λ w b k h is_work is_back at_w at_b.
+                (let own : g.lsp ≡ b = cc (back, is_back) in
+                let there' : find_leg g.lsp legs' ≡ Some h =
+                subst (λ m. find_leg m legs' ≡ Some h) (sym own) at_b in
+                let one : leg_as g f i o ≡ h = cc (there, there') in
+                subst (λ m. is_two_way m ≡ is_two_way k) one
+                (fit.ways w g.lsp k g is_work back (sym (work-stays w is_work) ∙ at_w) here));
             reports = reports;
           }
 
@@ -251,6 +259,7 @@ module _ (n : ℕ) (s : NodeState) (facts : NodeFacts n s) (c : CallRec) (found 
           work = fit-alone.work;
           back = fit-alone.back;
           guards = fit-alone.guards;
+          ways = fit-alone.ways;
           reports = reports;
         })
         (λ x has. has) (λ x has never. has) (λ h is. named))

@@ -20,7 +20,7 @@ use Rattle.mesh_rules.specs.Machine.{Mesh}
 use Rattle.mesh_nodes.specs.Order.{CallsRise, LegsRise}
 use Rattle.mesh_nodes.specs.Routes.{AreRowsOf}
 use Rattle.mesh_laws.specs.CallLaw.{FitsLegs}
-use Rattle.mesh_laws.specs.LabelLaw.{MayShare}
+use Rattle.mesh_laws.specs.LabelLaw.{HasBackLabels, MayShare}
 use Rattle.mesh_laws.specs.NodeLaw.{DeskFits}
 
 -- A leg
@@ -59,8 +59,7 @@ pub record LegFacts (n : ℕ) (next : ℕ) (g : Leg) : Type 0 where
   -- the label in is one of those that were offered, the label out one of those that were sent on
   pub offered : IfSome g.in_label (λ x. IsTrue (has g.offered x))
   pub sent : IfSome g.out_label (λ x. IsTrue (has g.sent x))
-  pub back_in : g.back_in ≡ None
-  pub back_out : g.back_out ≡ None
+  pub back : HasBackLabels g
 
 -- legs that take the same label of the same fibre are one LSP's, or may share it
 abbrev pub LabelsFit : List Leg → Type 0

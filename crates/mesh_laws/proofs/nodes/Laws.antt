@@ -1,5 +1,5 @@
--- What the facts of a node say of the places in its lists: each label is shared lawfully, a Live leg has its labels, and
--- the state of each call fits its legs.
+-- What the facts of a node say of the places in its lists: each label is shared lawfully, a Live leg has its labels,
+-- the leg of a two-way LSP has those for the way back, and the state of each call fits its legs.
 use Rattle.std.proofs.Common.{◌≡◌, ◌<◌, ℕ, Bool, true, false, not, nat_eq, List, [], ◌∷◌, refl, sym, subst, ◌∙◌, arith, inl, inr}
 use Rattle.std.specs.Prelude.{◌&&◌, Some, IsTrue}
 use Rattle.std.specs.List.{AllByRecursion, AllPairs}
@@ -19,7 +19,7 @@ use Rattle.mesh_rules.specs.Events.{after}
 use Rattle.mesh_rules.specs.LocalNodes.{LocalNode, local_node}
 use Rattle.mesh_rules.specs.Machine.{start}
 use Rattle.mesh_rules.specs.State.{NodeState, new_node}
-use Rattle.mesh_laws.specs.LabelLaw.{AreNotBothMarked, EveryLabelIsShared, EveryLiveLegIsLabelled, IsLabelled, LabelsAreShared, ShareLawfully}
+use Rattle.mesh_laws.specs.LabelLaw.{AreNotBothMarked, EveryLabelIsShared, EveryLegHasBackLabels, EveryLiveLegIsLabelled, HasBackLabels, IsLabelled, LabelsAreShared, ShareLawfully}
 use Rattle.mesh_laws.specs.LearntLaw.{EveryLearntRowIsTrue}
 use Rattle.mesh_laws.specs.NodeLaw.{EveryNodeSharesLawfully, MayCome, NodeInput, Item, Message, Row, Tick, after_inputs, answer}
 use Rattle.mesh_laws.specs.CallLaw.{CallsFit, EveryCallFitsItsLegs, FitsLegs, IsOfOneCall, wants_call}
@@ -119,6 +119,12 @@ every_live t events run n =
     All-from_recursion (λ g. g.phase ≡ Live → IsLabelled g) _
     (all-found (λ g. g.phase ≡ Live → IsLabelled g) _ facts.legs_rise
     (λ l g found live. live-labelled g.phase g (facts.leg l g found).phase live))
+
+pub every_back : EveryLegHasBackLabels
+every_back t events run n =
+    let facts = (facts-hold t events run).node n in
+    All-from_recursion HasBackLabels _
+    (all-found HasBackLabels _ facts.legs_rise (λ l g found. (facts.leg l g found).back))
 
 -- Calls
 

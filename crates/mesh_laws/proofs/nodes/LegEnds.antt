@@ -11,7 +11,7 @@ use Rattle.mesh_rules.specs.Legs.{find_leg, is_over, leg_of, neighbour_over, pre
 use Rattle.mesh_nodes.proofs.Cases.{not-true}
 use Rattle.mesh_nodes.proofs.LegList.{found-lsp}
 use Rattle.mesh_laws.proofs.nodes.Facts.{LegFacts}
-use Rattle.mesh_laws.proofs.nodes.NewLegs.{alone, beside}
+use Rattle.mesh_laws.proofs.nodes.ConnectedLegs.{alone, beside}
 
 -- a leg with a previous node is away from its ingress
 pub has_previous-away : (n next : ℕ) (g : Leg) (h : Neighbour) → LegFacts n next g → previous g ≡ Some h →

@@ -1,20 +1,20 @@
--- Why a leg may take the place of its LSP's leg: it takes and uses no more, and is marked only where that was, or where
--- no marked leg uses a label of it.
+-- Why a leg may stand. It isn't marked, and each label that it takes is usable for it, or was its LSP's. Or it takes and
+-- uses no more than its LSP's leg, and is marked only where that was, or where no marked leg uses a label of it.
 use Rattle.std.proofs.Common.{◌≡◌, ℕ, Bool, true, false, not, List, refl, sym, ap, subst, ◌∙◌, inl, inr}
-use Rattle.std.specs.Prelude.{◌&&◌, ◌||◌, Option, Some}
+use Rattle.std.specs.Prelude.{◌⊎◌, ◌&&◌, ◌||◌, Option, Some}
 use Rattle.ason_base.specs.declared.ids.Fibre.{Fibre}
 use Rattle.ason_base.specs.declared.ids.Lsp.{Lsp}
 use Rattle.ason_base.specs.declared.tables.Leg.{Leg}
 use Rattle.ason_base.specs.Lsps.{same_lsp}
 use Rattle.ason_base.specs.Risks.{AreDisjoint}
-use Rattle.mesh_rules.specs.Legs.{find_leg, is_at, is_busy, is_busy_at, is_contended, is_marked, reverse_of, sends, takes, uses}
+use Rattle.mesh_rules.specs.Legs.{find_leg, is_at, is_busy, is_busy_at, is_contended, is_marked, is_usable, reverse_of, sends, takes, uses}
 use Rattle.mesh_nodes.proofs.Cases.{neither_left, neither_right}
 use Rattle.mesh_nodes.proofs.LabelPlaces.{at-is, either}
 use Rattle.mesh_nodes.proofs.LegList.{found-lsp, same_lsp-eq, same_lsp-refl}
 use Rattle.mesh_laws.specs.LabelLaw.{MayShare}
-use Rattle.mesh_laws.proofs.nodes.Facts.{LegFacts}
+use Rattle.mesh_laws.proofs.nodes.Facts.{LabelsFit, LegFacts}
 use Rattle.mesh_laws.proofs.nodes.LegParts.{LegPart, MayStand}
-use Rattle.mesh_laws.proofs.nodes.Sharing.{none-found}
+use Rattle.mesh_laws.proofs.nodes.Sharing.{TakeNoMore, Took, none-found, read-shares}
 
 -- one LSP isn't another
 pub other : (l m : Lsp) (P : Type 0) → same_lsp l m ≡ false → l ≡ m → P
@@ -73,6 +73,33 @@ free-of legs g f x free used =
     two : (leaves || back_leaves) ≡ false
     two = neither_right back_enters (leaves || back_leaves) three
 
+-- A leg that isn't marked
+
+-- it may share a label that its LSP's leg took, as that did
+took-shares : (legs : List Leg) → LabelsFit legs → (g : Leg) (f : Fibre) (x : ℕ) (m : Lsp) (h : Leg) →
+    Took legs g f x → same_lsp g.lsp m ≡ false → find_leg m legs ≡ Some h → takes f x h ≡ true → MayShare g h
+took-shares legs labels g f x m h was apart there that =
+    elim (labels f x g.lsp m was.leg h was.found there was.took that) [
+      | inl same ↦ other g.lsp m (MayShare g h) apart same
+      | inr both ↦ record {
+        backups = (sym was.role ∙ both.backups.0, both.backups.1);
+        apart = subst (λ r. AreDisjoint r h.risks) was.risks both.apart;
+      }
+    ]
+
+-- each label that it takes was its LSP's, or is usable for it among the legs that a rule read, which took what these take
+pub may-take : (n next : ℕ) (read legs : List Leg) → LabelsFit legs → TakeNoMore read legs → (g : Leg) →
+    ((f : Fibre) (x : ℕ) → takes f x g ≡ true → (is_usable g.role g.risks read f x ≡ true) ⊎ Took legs g f x) →
+    is_marked g ≡ false → LegFacts n next g → MayStand n next legs g
+may-take n next read legs labels less g why plain facts = record {
+  facts = facts;
+  shares = λ f x m h apart there this that. elim (why f x this) [
+    | inl usable ↦ read-shares read legs g f x m h less usable there that
+    | inr was ↦ took-shares legs labels g f x m h was apart there that
+  ];
+  alone = λ f x m h apart there this that mark. absurd (cc (mark, plain));
+}
+
 -- A leg in place of its LSP's leg
 
 module _ (n next : ℕ) (legs : List Leg) (part : LegPart n next legs) (v g : Leg) (facts : LegFacts n next g)
@@ -80,13 +107,9 @@ module _ (n next : ℕ) (legs : List Leg) (part : LegPart n next legs) (v g : Le
     (takes_less : (f : Fibre) (x : ℕ) → takes f x g ≡ true → takes f x v ≡ true) where
   shared : (f : Fibre) (x : ℕ) (m : Lsp) (h : Leg) → same_lsp g.lsp m ≡ false → find_leg m legs ≡ Some h →
       takes f x g ≡ true → takes f x h ≡ true → MayShare g h
-  shared f x m h apart there this that = elim (part.labels f x g.lsp m v h found there (takes_less f x this) that) [
-    | inl same ↦ other g.lsp m (MayShare g h) apart same
-    | inr both ↦ record {
-      backups = (sym role ∙ both.backups.0, both.backups.1);
-      apart = subst (λ r. AreDisjoint r h.risks) risks both.apart;
-    }
-  ]
+  shared f x m h apart there this that =
+      took-shares legs part.labels g f x m h
+      (record { leg = v; found = found; role = role; risks = risks; took = takes_less f x this }) apart there that
 
   -- it uses no more, and is marked only where that was
   pub may-keep : ((f : Fibre) (x : ℕ) → uses f x g ≡ true → uses f x v ≡ true) →

@@ -1,70 +1,35 @@
--- The legs that rules make may stand: they have the facts of a leg, and their label in is usable for them.
-use Rattle.std.proofs.Common.{◌≡◌, ◌<◌, ℕ, Bool, true, false, cond, not, nat_eq, List, [], ◌∷◌, refl, sym, ap, subst, ◌∙◌, arith}
-use Rattle.std.specs.Prelude.{◌&&◌, ◌||◌, Option, Some, None, IsTrue, IfSome, is_some}
-use Rattle.ason_base.specs.Labels.{has, meet, least, up_to}
-use Rattle.ason_base.proofs.MaskMembers.{has-filter}
+-- The legs that rules make may stand: they have the facts of a leg, and a label that they take is usable for them.
+use Rattle.std.proofs.Common.{◌≡◌, ◌<◌, ℕ, Bool, true, false, not, nat_eq, List, refl, sym, ap, subst, ◌∙◌, arith, inl, inr}
+use Rattle.std.specs.Prelude.{◌⊎◌, ◌&&◌, ◌||◌, Option, Some, None, is_some}
+use Rattle.std.proofs.Math.Bool.{and-false, and-true}
+use Rattle.ason_base.specs.Labels.{has}
 use Rattle.ason_base.specs.declared.ids.Fibre.{Fibre}
-use Rattle.ason_base.specs.declared.ids.NodeId.{NodeId}
 use Rattle.ason_base.specs.declared.network.LinkSpec.{LinkSpec}
-use Rattle.ason_base.specs.declared.network.TeRow.{TeRow}
 use Rattle.ason_base.specs.declared.steps.Step.{Step}
 use Rattle.ason_base.specs.declared.calls.Phase.TheVariants.{Asked}
 use Rattle.ason_base.specs.declared.calls.Role.{Role}
 use Rattle.ason_base.specs.declared.calls.Role.TheVariants.{Work, Back}
 use Rattle.ason_base.specs.declared.risks.Risk.{Risk}
 use Rattle.ason_base.specs.declared.tables.Leg.{Leg}
-use Rattle.mesh_rules.specs.declared.neighbours.Neighbour.{Neighbour}
-use Rattle.mesh_rules.specs.FirstLegs.{NewLsp, first_leg}
-use Rattle.mesh_rules.specs.LocalNodes.{LocalNode, own_link, labels_of, fibre_in}
-use Rattle.mesh_rules.specs.Legs.{is_armed, is_held, is_marked, is_marking, is_usable, is_work, usable, connected, neighbour_over, reserved, label_through, only}
+use Rattle.mesh_rules.specs.FirstLegs.{NewLsp, first_back, first_leg, lacks_first_back}
+use Rattle.mesh_rules.specs.KnownRows.{known_rows}
+use Rattle.mesh_rules.specs.LocalNodes.{LocalNode, fibre_in, fibre_out}
+use Rattle.mesh_rules.specs.Legs.{is_armed, is_at, is_held, is_marking, is_usable, is_work, reserved, reverse, reverse_of, usable}
 use Rattle.mesh_rules.specs.State.{NodeState}
-use Rattle.mesh_rules.specs.Paths.{PathRequest, egress_leg, transit_leg, offered_labels, risks_here, role_of}
-use Rattle.mesh_nodes.proofs.Cases.{both_left, both_right, not-true}
-use Rattle.mesh_laws.proofs.nodes.Facts.{FitsPhase, HasItsLabels, LegFacts}
-use Rattle.mesh_laws.proofs.nodes.LegParts.{MayStand, taken, with_usable}
+use Rattle.mesh_rules.specs.Paths.{PathRequest, back_label, back_through, egress_leg, is_none, lacks_back, offered_labels, risks_here, role_of, transit_leg}
+use Rattle.mesh_nodes.proofs.Cases.{not-true}
+use Rattle.mesh_nodes.proofs.LabelPlaces.{at-is, either, none-at}
+use Rattle.mesh_laws.proofs.nodes.BackLabels.{reserved-stands}
+use Rattle.mesh_laws.proofs.nodes.ChosenLabels.{back-has, first-has, first-usable, has-right, some-of, usable-is}
+use Rattle.mesh_laws.proofs.nodes.Facts.{FitsPhase, HasItsLabels, LabelsFit, LegFacts}
+use Rattle.mesh_laws.proofs.nodes.LegParts.{MayStand}
+use Rattle.mesh_laws.proofs.nodes.Marks.{may-take}
+use Rattle.mesh_laws.proofs.nodes.Sharing.{TakeNoMore, take-same}
 
--- Labels
+pub some : {X : Type 0} (x y : X) → Some x ≡ Some y → x ≡ y
+some x y e = cc e
 
-pub least-has : (xs : List ℕ) (y : ℕ) → least xs ≡ Some y → has xs y ≡ true
-least-has [] y e = cc
-least-has (x ∷ xs) y e = let is : x ≡ y = cc in let test : nat_eq x y ≡ true = grind arith in rw test refl
-
-pub has-left : (a b : List ℕ) (x : ℕ) → has (meet a b) x ≡ true → has a x ≡ true
-has-left a b x h = both_left (has a x) (has b x) (sym (has-filter (has b) a x) ∙ h)
-
-pub has-right : (a b : List ℕ) (x : ℕ) → has (meet a b) x ≡ true → has b x ≡ true
-has-right a b x h = both_right (has a x) (has b x) (sym (has-filter (has b) a x) ∙ h)
-
--- a label that is listed is usable
-pub usable-is : (p : LocalNode) (legs : List Leg) (r : Role) (risks : List Risk) (f : Fibre) (x : ℕ) →
-    has (usable p legs r risks f) x ≡ true → is_usable r risks legs f x ≡ true
-usable-is p legs r risks f x h =
-    let all = up_to (labels_of (own_link p f.link)) in
-    both_right (has all x) (is_usable r risks legs f x) (sym (has-filter (is_usable r risks legs f) all x) ∙ h)
-
--- the label that goes back is one of those that were looked at
-pub back-has : (p : LocalNode) (labels : List ℕ) (x y : ℕ) → label_through p labels x ≡ Some y → has labels y ≡ true
-back-has p labels x y e = go p.convert e
-  where
-    one : (b : Bool) → has labels x ≡ b → only x b ≡ Some y → has labels y ≡ true
-    one true h e = let is : x ≡ y = cc e in subst (λ z. has labels z ≡ true) is h
-    one false h e = absurd (cc e)
-
-    go : (b : Bool) → cond b (least labels) (only x (has labels x)) ≡ Some y → has labels y ≡ true
-    go true e = least-has labels y e
-    go false e = one (has labels x) refl e
-
--- A leg that takes no label, and isn't marked
-
-no_label : (n next : ℕ) (legs : List Leg) (g : Leg) → g.in_label ≡ None → is_marked g ≡ false → LegFacts n next g →
-    MayStand n next legs g
-no_label n next legs g none plain facts =
-    record {
-      facts = facts;
-      shares = λ f x m h apart found this that.
-          let label = (taken n next f x g facts this).label in absurd (cc (none, label));
-      alone = λ f x m h apart found this that mark. absurd (cc (mark, plain));
-    }
+-- Phases
 
 -- an Asked leg isn't marked
 asked-plain : (r : Role) → (not (is_work r) && is_marking Asked) ≡ false
@@ -85,11 +50,20 @@ pub ingress-leaves : (n next : ℕ) (g : Leg) → LegFacts n next g → g.lsp.in
 ingress-leaves n next g facts here =
     not-true (nat_eq g.egress.0 n) (sym facts.next_node ∙ ingress-goes_on n next g facts here)
 
-pub first-stands : (p : LocalNode) (rows : List TeRow) (l : NewLsp) (next : ℕ) (legs : List Leg) →
-    l.lsp.ingress.0 ≡ p.id.0 → nat_eq l.egress.0 p.id.0 ≡ false → l.lsp.lsp < next →
-    MayStand p.id.0 next legs (first_leg p rows l)
-first-stands p rows l next legs here away small =
-    no_label p.id.0 next legs (first_leg p rows l) refl (asked-plain (role_of l.role)) (record {
+-- the first leg of an LSP, which takes its label for the way back; read are the legs among which that was chosen
+pub first-stands : (p : LocalNode) (s : NodeState) (l : NewLsp) (both : Bool) (next : ℕ) (legs : List Leg) →
+    l.back ≡ first_back p s both l.role l.out → lacks_first_back p s both l.role l.out ≡ false →
+    l.lsp.ingress.0 ≡ p.id.0 → nat_eq l.egress.0 p.id.0 ≡ false → l.lsp.lsp < next → LabelsFit legs →
+    TakeNoMore s.legs legs → MayStand p.id.0 next legs (first_leg p (known_rows p s) l)
+first-stands p s l both next legs back has here away small labels less =
+    let g : Leg = first_leg p (known_rows p s) l in
+    may-take p.id.0 next s.legs legs labels less g
+    (λ f x this.
+    let at = at-is (Some (reverse (fibre_out l.out p.id))) l.back f x this in
+    let fibre : reverse (fibre_out l.out p.id) ≡ f = some _ f at.0 in
+    inl (subst (λ k. is_usable g.role g.risks s.legs k x ≡ true) fibre
+    (first-usable p s both l.role l.out x (sym back ∙ at.1))))
+    (asked-plain (role_of l.role)) (record {
       prev = (let test : nat_eq l.lsp.ingress.0 p.id.0 ≡ true = grind arith in rw test refl);
       in_fibre = refl;
       next_node = rw away refl;
@@ -101,8 +75,13 @@ first-stands p rows l next legs here away small =
       phase = (refl, refl, refl);
       offered = tt;
       sent = tt;
-      back_in = refl;
-      back_out = refl;
+      back = (
+        both,
+        record {
+          enters = ap is_some back ∙ first-has p s both l.role l.out has;
+          leaves = sym (and-false both);
+        },
+      );
     })
 
 -- Away from the ingress
@@ -110,11 +89,8 @@ first-stands p rows l next legs here away small =
 away : (a n : ℕ) (P : Type 0) → nat_eq a n ≡ false → a ≡ n → P
 away a n P e f = let same : nat_eq a n ≡ true = grind arith in absurd (cc (e, same))
 
-some : {X : Type 0} (x y : X) → Some x ≡ Some y → x ≡ y
-some x y e = cc e
-
 -- a leg that has its label fits its phase, and isn't marked yet
-phase_reserved : (r : Role) (g : Leg) → HasItsLabels g → FitsPhase (reserved r) g
+pub phase_reserved : (r : Role) (g : Leg) → HasItsLabels g → FitsPhase (reserved r) g
 phase_reserved Work g labels = labels
 phase_reserved Back g labels = labels
 
@@ -123,7 +99,7 @@ reserved-plain Work = refl
 reserved-plain Back = refl
 
 -- reserved without a cross-connection it is a backup's
-reserved-back : (r : Role) → (is_held (reserved r) || is_armed (reserved r)) ≡ true → r ≡ Back
+pub reserved-back : (r : Role) → (is_held (reserved r) || is_armed (reserved r)) ≡ true → r ≡ Back
 reserved-back Work e = absurd (cc e)
 reserved-back Back e = refl
 
@@ -132,10 +108,13 @@ module _ (p : LocalNode) (s : NodeState) (m : PathRequest) (link : LinkSpec) (ne
   abbrev risks : List Risk
   risks = risks_here p s m
 
-  pub egress-stands : (x : ℕ) → nat_eq m.arrival.egress.0 p.id.0 ≡ true → has (offered_labels p s m link) x ≡ true →
+  pub egress-stands : (x : ℕ) → LabelsFit s.legs → nat_eq m.arrival.egress.0 p.id.0 ≡ true →
+      has (offered_labels p s m link) x ≡ true →
       MayStand p.id.0 next s.legs (egress_leg p m link risks (offered_labels p s m link) x)
-  egress-stands x here offered =
-      with_usable p.id.0 next s.legs (egress_leg p m link risks (offered_labels p s m link) x)
+  egress-stands x labels here offered =
+      may-take p.id.0 next s.legs s.legs labels (take-same s.legs) g
+      (λ f y this. inl (only f y (either (is_at g.in_fibre (Some x) f y) (is_at None None f y) this)))
+      (reserved-plain (role_of m.role))
       (record {
         prev = rw far refl;
         in_fibre = refl;
@@ -145,27 +124,40 @@ module _ (p : LocalNode) (s : NodeState) (m : PathRequest) (link : LinkSpec) (ne
         number = away m.arrival.lsp.ingress.0 p.id.0 (m.arrival.lsp.lsp < next) far;
         role = refl;
         held = reserved-back (role_of m.role);
-        phase =
-            phase_reserved (role_of m.role) (egress_leg p m link risks (offered_labels p s m link) x) (refl, refl);
+        phase = phase_reserved (role_of m.role) g (refl, refl);
         offered = offered;
         sent = tt;
-        back_in = refl;
-        back_out = refl;
+        back = (
+          is_some m.upstream,
+          record {
+            enters = sym (and-false (is_some m.upstream));
+            leaves = rw (reserved-stands (role_of m.role), and-true (is_some m.upstream)) refl;
+          },
+        );
       })
-      (λ f y taken.
-      let fibre : fibre_in link p.id ≡ f = some (fibre_in link p.id) f taken.fibre in
-      let label : x ≡ y = some x y taken.label in
-      let usable_here : List ℕ = usable p s.legs (role_of m.role) risks (fibre_in link p.id) in
-      subst (λ z. is_usable (role_of m.role) risks s.legs f z ≡ true) label
-      (subst (λ z. is_usable (role_of m.role) risks s.legs z x ≡ true) fibre
-      (usable-is p s.legs (role_of m.role) risks (fibre_in link p.id) x (has-right m.set usable_here x offered))))
-      (reserved-plain (role_of m.role))
+    where
+      g : Leg
+      g = egress_leg p m link risks (offered_labels p s m link) x
 
-  pub transit-stands : (out : LinkSpec) (route : List Step) (offered : List ℕ) →
-      nat_eq m.arrival.egress.0 p.id.0 ≡ false →
-      MayStand p.id.0 next s.legs (transit_leg p m link risks out route offered)
-  transit-stands out route offered on =
-      no_label p.id.0 next s.legs (transit_leg p m link risks out route offered) refl (asked-plain (role_of m.role))
+      only : (f : Fibre) (y : ℕ) → (is_at g.in_fibre (Some x) f y ≡ true) ⊎ (is_at None None f y ≡ true) →
+          is_usable g.role g.risks s.legs f y ≡ true
+      only f y (inl on) =
+          let at = at-is g.in_fibre (Some x) f y on in
+          let usable_here : List ℕ = usable p s.legs (role_of m.role) risks (fibre_in link p.id) in
+          subst (λ z. is_usable g.role g.risks s.legs f z ≡ true) (some x y at.1)
+          (subst (λ k. is_usable g.role g.risks s.legs k x ≡ true) (some (fibre_in link p.id) f at.0)
+          (usable-is p s.legs g.role risks (fibre_in link p.id) x (has-right m.set usable_here x offered)))
+      only f y (inr on) = absurd (cc on)
+
+  pub transit-stands : (out : LinkSpec) (route : List Step) → LabelsFit s.legs →
+      nat_eq m.arrival.egress.0 p.id.0 ≡ false → lacks_back p s m (Some out) ≡ false →
+      MayStand p.id.0 next s.legs
+      (transit_leg p m link risks out route (offered_labels p s m link) (back_label p s m out))
+  transit-stands out route labels on has =
+      may-take p.id.0 next s.legs s.legs labels (take-same s.legs) g
+      (λ f x this.
+      inl (only f x (either (is_at g.in_fibre None f x) (is_at (reverse_of g.out_fibre) g.back_in f x) this)))
+      (asked-plain (role_of m.role))
       (record {
         prev = rw far refl;
         in_fibre = refl;
@@ -178,79 +170,34 @@ module _ (p : LocalNode) (s : NodeState) (m : PathRequest) (link : LinkSpec) (ne
         phase = (refl, refl, refl);
         offered = tt;
         sent = tt;
-        back_in = refl;
-        back_out = refl;
+        back = (
+          is_some m.upstream,
+          record {
+            enters = back-chosen m.upstream has;
+            leaves = sym (and-true (is_some m.upstream));
+          },
+        );
       })
+    where
+      back_fibre : Fibre
+      back_fibre = reverse (fibre_out out p.id)
 
--- A leg whose Resv came
+      usable_back : List ℕ
+      usable_back = usable p s.legs (role_of m.role) risks back_fibre
 
-pub record Beside (o : Option NodeId) (f : Option Fibre) (h : Neighbour) : Type 0 where
-  pub node : o ≡ Some h.node
-  pub fibre : f ≡ Some h.fibre
+      g : Leg
+      g = transit_leg p m link risks out route (offered_labels p s m link) (back_label p s m out)
 
-pub beside : (o : Option NodeId) (f : Option Fibre) (h : Neighbour) → neighbour_over o f ≡ Some h → Beside o f h
-beside None f h e = absurd (cc e)
-beside (Some n) None h e = absurd (cc e)
-beside (Some n) (Some f) h e =
-    let is : record { node = n; fibre = f } ≡ h = some _ _ e in
-    record { node = ap (λ x. Some x.node) is; fibre = ap (λ x. Some x.fibre) is }
+      back-chosen : (up : Option ℕ) → (is_some up && is_none (back_through p usable_back up)) ≡ false →
+          is_some (back_through p usable_back up) ≡ (is_some up && true)
+      back-chosen None e = refl
+      back-chosen (Some x) e = some-of (back_through p usable_back (Some x)) e
 
-pub alone : (o : Option NodeId) (f : Option Fibre) → is_some f ≡ is_some o → neighbour_over o f ≡ None → o ≡ None
-alone None f both e = refl
-alone (Some n) None both e = absurd (cc both)
-alone (Some n) (Some f) both e = absurd (cc e)
-
-pub alone_fibre : (o : Option NodeId) (f : Option Fibre) → is_some f ≡ is_some o → neighbour_over o f ≡ None → f ≡ None
-alone_fibre None None both e = refl
-alone_fibre None (Some f) both e = absurd (cc both)
-alone_fibre (Some n) None both e = absurd (cc both)
-alone_fibre (Some n) (Some f) both e = absurd (cc e)
-
-is_some-of : {X : Type 0} (o : Option X) (x : X) → o ≡ Some x → is_some o ≡ true
-is_some-of o x e = ap is_some e
-
--- the labels as they should be, in any leg that is otherwise this one
-pub connected-facts : (n next : ℕ) (g : Leg) (label : Option ℕ) (x : ℕ) → LegFacts n next g →
-    is_some label ≡ is_some g.in_fibre → is_some g.next ≡ true → IfSome label (λ y. IsTrue (has g.offered y)) →
-    has g.sent x ≡ true →
-    LegFacts n next (connected g label x)
-connected-facts n next g label x facts fits goes_on offered sent = record {
-  prev = facts.prev;
-  in_fibre = facts.in_fibre;
-  next_node = facts.next_node;
-  out_fibre = facts.out_fibre;
-  one_end = facts.one_end;
-  number = facts.number;
-  role = facts.role;
-  held = reserved-back g.role;
-  phase = phase_reserved g.role (connected g label x) (fits, sym (facts.out_fibre ∙ goes_on));
-  offered = offered;
-  sent = sent;
-  back_in = facts.back_in;
-  back_out = facts.back_out;
-}
-
-pub connected-stands : (p : LocalNode) (next : ℕ) (legs : List Leg) (g : Leg) (h : Neighbour) (x y : ℕ) →
-    LegFacts p.id.0 next g → g.in_fibre ≡ Some h.fibre → is_some g.next ≡ true → has g.sent x ≡ true →
-    has (meet g.offered (usable p legs g.role g.risks h.fibre)) y ≡ true →
-    MayStand p.id.0 next legs (connected g (Some y) x)
-connected-stands p next legs g h x y facts fibre goes_on sent looked =
-    with_usable p.id.0 next legs (connected g (Some y) x)
-    (connected-facts p.id.0 next g (Some y) x facts (sym (is_some-of g.in_fibre h.fibre fibre)) goes_on
-    (has-left g.offered usable_here y looked) sent)
-    (λ f z taken.
-    let on : h.fibre ≡ f = some h.fibre f (sym fibre ∙ taken.fibre) in
-    let label : y ≡ z = some y z taken.label in
-    subst (λ w. is_usable g.role g.risks legs f w ≡ true) label
-    (subst (λ w. is_usable g.role g.risks legs w y ≡ true) on
-    (usable-is p legs g.role g.risks h.fibre y (has-right g.offered usable_here y looked))))
-    (reserved-plain g.role)
-  where
-    usable_here : List ℕ
-    usable_here = usable p legs g.role g.risks h.fibre
-
-pub ingress-stands : (n next : ℕ) (legs : List Leg) (g : Leg) (x : ℕ) → LegFacts n next g → g.in_fibre ≡ None →
-    is_some g.next ≡ true → has g.sent x ≡ true → MayStand n next legs (connected g None x)
-ingress-stands n next legs g x facts none goes_on sent =
-    no_label n next legs (connected g None x) refl (reserved-plain g.role)
-    (connected-facts n next g None x facts (sym (ap is_some none)) goes_on tt sent)
+      only : (f : Fibre) (x : ℕ) →
+          (is_at g.in_fibre None f x ≡ true) ⊎ (is_at (reverse_of g.out_fibre) g.back_in f x ≡ true) →
+          is_usable g.role g.risks s.legs f x ≡ true
+      only f x (inl e) = absurd (let none = none-at g.in_fibre f x in cc (none, e))
+      only f x (inr e) =
+          let at = at-is (reverse_of g.out_fibre) g.back_in f x e in
+          subst (λ k. is_usable g.role g.risks s.legs k x ≡ true) (some back_fibre f at.0)
+          (usable-is p s.legs g.role risks back_fibre x (back-has p usable_back m.upstream x at.1))

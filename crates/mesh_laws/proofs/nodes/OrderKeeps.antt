@@ -29,6 +29,7 @@ use Rattle.mesh_laws.proofs.nodes.PathKeeps.{Keeps}
 use Rattle.mesh_laws.proofs.nodes.ReleaseKeeps.{keeps-release}
 use Rattle.mesh_laws.proofs.nodes.RevertKeeps.{keeps-revert}
 use Rattle.mesh_laws.proofs.nodes.SetupKeeps.{keeps-setup}
+use Rattle.mesh_laws.proofs.nodes.Sharing.{take-same}
 
 -- Protect
 
@@ -48,7 +49,7 @@ module _ (p : LocalNode) (s : NodeState) (c : CallRec) (found : find_call c.call
   keeps-protects None bare is = facts
   keeps-protects (Some w) bare is =
       let own = leg_of-own c.work s.legs w is in
-      keeps-pair p s s.legs s.calls c w (leg_part p.id.0 s facts) (call_part p.id.0 s facts)
+      keeps-pair p s s.legs s.calls c w (leg_part p.id.0 s facts) (call_part p.id.0 s facts) (take-same s.legs)
       (record { found = found; state = bare-is c.state bare; work = own.0; leg = own.1 }) facts.calls_rise
       (λ d number. put-once c.call d s.calls number)
 

@@ -1,11 +1,13 @@
 -- Asking for a backup beside a call's working LSP keeps the facts of a node.
 use Rattle.std.proofs.Common.{◌≡◌, ◌+◌, true, false, nat_lt, List, drop, refl, sym, ap, subst, ◌∙◌, arith, inl, inr}
 use Rattle.std.specs.Prelude.{◌⊎◌, Option, Some, None, is_some}
+use Rattle.std.proofs.Math.Bool.{and-true}
 use Rattle.ason_base.specs.Lsps.{same_lsp}
 use Rattle.ason_base.specs.Risks.{unknown_link}
 use Rattle.ason_base.specs.declared.calls.CallState.TheVariants.{Bare}
 use Rattle.ason_base.specs.declared.calls.Cause.{Cause}
-use Rattle.ason_base.specs.declared.calls.Cause.TheVariants.{Full, NoBackup, Spent}
+use Rattle.ason_base.specs.Codes.{label_code}
+use Rattle.ason_base.specs.declared.calls.Cause.TheVariants.{Code, Full, NoBackup, Spent}
 use Rattle.ason_base.specs.declared.calls.Phase.TheVariants.{Live}
 use Rattle.ason_base.specs.declared.calls.Role.TheVariants.{Work, Back}
 use Rattle.ason_base.specs.declared.ids.CallNo.{CallNo}
@@ -17,23 +19,25 @@ use Rattle.ason_base.specs.declared.tables.Leg.{Leg}
 use Rattle.mesh_rules.specs.declared.limits.TheConstants.{LAST_NUMBER}
 use Rattle.mesh_rules.specs.Calls.{find_call, names, pairing, unbacked, with_call}
 use Rattle.mesh_rules.specs.Changes.{Answer, changed}
-use Rattle.mesh_rules.specs.FirstLegs.{first_leg, first_link, is_full}
+use Rattle.mesh_rules.specs.FirstLegs.{first_leg, first_link, is_full, lacks_first_back}
 use Rattle.mesh_rules.specs.KnownRows.{known_rows}
 use Rattle.mesh_rules.specs.Legs.{find_leg, leg_of, with_leg}
 use Rattle.mesh_rules.specs.LocalNodes.{LocalNode}
-use Rattle.mesh_rules.specs.Pairs.{admitted_backup, backup_lsp, backup_route, begins_backup, beside_lsp, leaves_bare, over_backup, pair, pair_over, route_from}
+use Rattle.mesh_rules.specs.Pairs.{admitted_backup, backup_lsp, backup_route, begins_backup, beside_lsp, guarding, is_two_way, leaves_bare, over_backup, pair, pair_over, route_from}
 use Rattle.mesh_rules.specs.State.{NodeState}
 use Rattle.mesh_nodes.specs.Order.{CallsRise}
 use Rattle.mesh_nodes.proofs.Cases.{if_cases}
 use Rattle.mesh_nodes.proofs.CallList.{rise-with_call}
 use Rattle.mesh_nodes.proofs.LegList.{find-with_leg, same_lsp-eq, same_lsp-refl}
 use Rattle.mesh_laws.specs.CallLaw.{FitsLegs, GuardsWork, IsNamed, phase_of}
+use Rattle.mesh_laws.proofs.nodes.ChosenLabels.{first-has}
 use Rattle.mesh_laws.proofs.nodes.Facts.{NodeFacts}
 use Rattle.mesh_laws.proofs.nodes.CallKeeps.{named-leg, no_leg}
 use Rattle.mesh_laws.proofs.nodes.CallParts.{Becomes, CallPart, Replaced, leg_of-stays, named-by, named-lsp, named-stays, names-back, names-work, new-unnamed, other-stays, together-part}
 use Rattle.mesh_laws.proofs.nodes.LegParts.{LegPart, part-with_leg}
 use Rattle.mesh_laws.proofs.nodes.NewLegs.{first-stands, ingress-leaves}
 use Rattle.mesh_laws.proofs.nodes.Parts.{node_facts, work-row}
+use Rattle.mesh_laws.proofs.nodes.Sharing.{TakeNoMore}
 use Rattle.mesh_laws.proofs.nodes.States.{Row, bare-legs}
 
 -- the call stands, with this working leg and without a backup
@@ -43,12 +47,11 @@ pub record IsBareCall (legs : List Leg) (calls : List CallRec) (c : CallRec) (w 
   pub work : c.work ≡ Some w.lsp
   pub leg : find_leg w.lsp legs ≡ Some w
 
--- These legs and calls stand when the rule is carried out. s is what it reads; a call that it puts in its
--- place there is
--- in the same place among these calls.
+-- These legs and calls stand when the rule is carried out. s is what it reads: what these legs take was taken there,
+-- and a call that it puts in its place there is in the same place among these calls.
 module _ (p : LocalNode) (s : NodeState) (legs : List Leg) (calls : List CallRec) (c : CallRec) (w : Leg)
     (leg_part : LegPart p.id.0 s.lsp legs) (call_part : CallPart p.id.0 s.lsp legs calls)
-    (bare : IsBareCall legs calls c w) (rise : CallsRise s.calls)
+    (less : TakeNoMore s.legs legs) (bare : IsBareCall legs calls c w) (rise : CallsRise s.calls)
     (put : (d : CallRec) → d.call ≡ c.call → Replaced c.call (Some d) calls (with_call d s.calls)) where
   abbrev pub After : Answer → Type 0
   After a = NodeFacts p.id.0 (changed (record s { legs = legs }) a)
@@ -108,6 +111,7 @@ module _ (p : LocalNode) (s : NodeState) (legs : List Leg) (calls : List CallRec
           work = fit.work;
           back = tt;
           guards = λ x b h is_work is_back there. absurd (cc is_back);
+          ways = λ x b k h is_work is_back at_x at_b. absurd (cc is_back);
           reports = refl;
         }));
         number = λ e is. (let one : d ≡ e = cc is in ap (λ y. y.call) (sym one));
@@ -116,7 +120,8 @@ module _ (p : LocalNode) (s : NodeState) (legs : List Leg) (calls : List CallRec
 
   -- With one
 
-  module _ (out : LinkSpec) (route : List Step) where
+  module _ (out : LinkSpec) (route : List Step)
+      (has : lacks_first_back p s (is_two_way w) (guarding p w) out ≡ false) where
     abbrev l : Lsp
     l = beside_lsp w.lsp s.lsp
 
@@ -146,6 +151,9 @@ module _ (p : LocalNode) (s : NodeState) (legs : List Leg) (calls : List CallRec
     egress : w.egress ≡ c.egress
     egress = (named-leg p.id.0 s.lsp legs Work c.egress w.lsp w working bare.leg).1
 
+    back-as_work : is_two_way g ≡ is_two_way w
+    back-as_work = first-has p s (is_two_way w) (guarding p w) out has ∙ and-true (is_two_way w)
+
     paired : FitsLegs p.id.0 (s.lsp + 1) legs' d
     paired =
         let first = leg_of-stays c.work legs legs' work-stays in
@@ -167,6 +175,15 @@ module _ (p : LocalNode) (s : NodeState) (legs : List Leg) (calls : List CallRec
               let one : g ≡ h = cc (found, there'') in
               subst (λ (k : Leg). GuardsWork x b k.path_role) one (subst (λ k. GuardsWork x k g.path_role) own
               (subst (λ k. GuardsWork k l g.path_role) first_work refl)));
+          ways = λ x b k h is_work is_back at_x at_b.
+              (let first_work : w.lsp ≡ x = (let at_work = bare.work in cc (at_work, is_work)) in
+              let at_w : find_leg w.lsp legs' ≡ Some k = subst (λ m. find_leg m legs' ≡ Some k) (sym first_work) at_x in
+              let itself : w ≡ k = (let stays = work-stays w.lsp bare.work ∙ bare.leg in cc (stays, at_w)) in
+              let own : l ≡ b = cc is_back in
+              let at_l : find_leg l legs' ≡ Some h = subst (λ m. find_leg m legs' ≡ Some h) (sym own) at_b in
+              let one : g ≡ h = cc (found, at_l) in
+              subst (λ m. is_two_way h ≡ is_two_way m) itself
+              (subst (λ m. is_two_way m ≡ is_two_way w) one back-as_work));
           reports = refl;
         }
 
@@ -174,8 +191,9 @@ module _ (p : LocalNode) (s : NodeState) (legs : List Leg) (calls : List CallRec
     keeps-begins_backup =
         node_facts p.id.0 (changed (record s { legs = legs }) (begins_backup p s c w out route))
         (part-with_leg p.id.0 s.lsp (s.lsp + 1) g legs (omega arith) leg_part
-        (first-stands p (known_rows p s) (backup_lsp p s w out route) (s.lsp + 1) legs working.ingress
-        (ingress-leaves p.id.0 s.lsp w (leg_part.leg w.lsp w bare.leg) working.ingress) (omega arith)))
+        (first-stands p s (backup_lsp p s w out route) (is_two_way w) (s.lsp + 1) legs refl has working.ingress
+        (ingress-leaves p.id.0 s.lsp w (leg_part.leg w.lsp w bare.leg) working.ingress) (omega arith)
+        leg_part.labels less))
         (together-part p.id.0 s.lsp (s.lsp + 1) (same_lsp l) c.call (Some d) legs legs' calls (with_call d s.calls)
         (omega arith) (rise-with_call d s.calls rise) (put d refl)
         (record {
@@ -208,7 +226,9 @@ module _ (p : LocalNode) (s : NodeState) (legs : List Leg) (calls : List CallRec
   keeps-admitted_backup : (out : LinkSpec) (route : List Step) → After (admitted_backup p s c w out route)
   keeps-admitted_backup out route =
       if_cases After (nat_lt LAST_NUMBER s.lsp) _ _ (λ e. keeps-leaves_bare Spent)
-      (λ e. if_cases After (is_full s) _ _ (λ f. keeps-leaves_bare Full) (λ f. keeps-begins_backup out route))
+      (λ e. if_cases After (is_full s) _ _ (λ f. keeps-leaves_bare Full)
+      (λ f. if_cases After (lacks_first_back p s (is_two_way w) (guarding p w) out) _ _
+      (λ h. keeps-leaves_bare (Code label_code)) (λ h. keeps-begins_backup out route h)))
 
   keeps-over_backup : (route : List Step) (o : Option LinkSpec) → After (over_backup p s c w route o)
   keeps-over_backup route None = keeps-leaves_bare NoBackup

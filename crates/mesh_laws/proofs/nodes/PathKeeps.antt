@@ -8,11 +8,12 @@ use Rattle.ason_base.specs.declared.network.LinkSpec.{LinkSpec}
 use Rattle.mesh_rules.specs.Changes.{Answer, changed}
 use Rattle.mesh_rules.specs.LocalNodes.{LocalNode, own_link, leads}
 use Rattle.mesh_rules.specs.State.{NodeState}
-use Rattle.mesh_rules.specs.Paths.{PathRequest, Check, is_active, leads_on, first_failure, checks, offered_labels, egress_leg, risks_here, transit_leg}
+use Rattle.mesh_rules.specs.Paths.{PathRequest, Check, back_label, is_active, lacks_back, leads_on, link_on, first_failure, checks, offered_labels, egress_leg, risks_here, transit_leg}
 use Rattle.mesh_rules.specs.Paths.{at_egress, in_transit, admitted, judged, first_path}
 use Rattle.mesh_nodes.proofs.Cases.{if_cases, both_left, both_right, not-true}
+use Rattle.mesh_laws.proofs.nodes.ChosenLabels.{least-has}
 use Rattle.mesh_laws.proofs.nodes.Facts.{NodeFacts}
-use Rattle.mesh_laws.proofs.nodes.NewLegs.{least-has, egress-stands, transit-stands}
+use Rattle.mesh_laws.proofs.nodes.NewLegs.{egress-stands, transit-stands}
 use Rattle.mesh_laws.proofs.nodes.Parts.{keeps-leg}
 
 -- the answer keeps the facts
@@ -47,28 +48,30 @@ module _ (p : LocalNode) (s : NodeState) (m : PathRequest) (facts : NodeFacts p.
     keeps-at_egress (Some x) here is =
         let last : nat_eq m.arrival.egress.0 p.id.0 ≡ true = grind arith in
         keeps-leg p.id.0 s (egress_leg p m link (risks_here p s m) (offered_labels p s m link) x) far
-        (egress-stands p s m link s.lsp far x last (least-has (offered_labels p s m link) x is)) facts
+        (egress-stands p s m link s.lsp far x facts.labels last (least-has (offered_labels p s m link) x is)) facts
 
-    keeps-in_transit : (route : List Step) (offered : List ℕ) (o : Option LinkSpec) →
-        nat_eq m.arrival.egress.0 p.id.0 ≡ false →
-        Keeps p s (in_transit p m link (risks_here p s m) route offered o)
-    keeps-in_transit route offered None on = facts
-    keeps-in_transit route offered (Some out) on =
-        keeps-leg p.id.0 s (transit_leg p m link (risks_here p s m) out route offered) far
-        (transit-stands p s m link s.lsp far out route offered on) facts
+    keeps-in_transit : (route : List Step) (o : Option LinkSpec) → nat_eq m.arrival.egress.0 p.id.0 ≡ false →
+        lacks_back p s m o ≡ false → Keeps p s (in_transit p s m link route o)
+    keeps-in_transit route None on has = facts
+    keeps-in_transit route (Some out) on has =
+        keeps-leg p.id.0 s
+        (transit_leg p m link (risks_here p s m) out route (offered_labels p s m link) (back_label p s m out)) far
+        (transit-stands p s m link s.lsp far out route facts.labels on has) facts
 
     keeps-admitted : (route : List Step) → leads_on p m.arrival route ≡ true →
-        Keeps p s (admitted p m link (risks_here p s m) (offered_labels p s m link) route)
-    keeps-admitted [] on = keeps-at_egress (least (offered_labels p s m link)) on refl
-    keeps-admitted (hop ∷ route) on =
+        lacks_back p s m (link_on p route) ≡ false → Keeps p s (admitted p s m link route)
+    keeps-admitted [] on has = keeps-at_egress (least (offered_labels p s m link)) on refl
+    keeps-admitted (hop ∷ route) on has =
         let apart : nat_eq p.id.0 m.arrival.egress.0 ≡ false =
         not-true _ (both_left (not (nat_eq p.id.0 m.arrival.egress.0)) _ on) in
         let away : nat_eq m.arrival.egress.0 p.id.0 ≡ false = grind arith in
-        keeps-in_transit route (offered_labels p s m link) (own_link p hop.link) away
+        keeps-in_transit route (own_link p hop.link) away has
 
     keeps-judged : (o : Option ErrCode) → first_failure (checks p s m link) ≡ o → Keeps p s (judged p s m link o)
     keeps-judged (Some code) is = facts
-    keeps-judged None is = keeps-admitted m.route (not-false _ (none_fails (checks p s m link) is).1.0)
+    keeps-judged None is =
+        let none = none_fails (checks p s m link) is in
+        keeps-admitted m.route (not-false _ none.1.0) none.1.1.1.1.1.0
 
   keeps-first_path : (o : Option LinkSpec) → Keeps p s (first_path p s m o)
   keeps-first_path None = facts

@@ -9,6 +9,7 @@ use Rattle.ason_base.specs.declared.tables.Leg.{Leg}
 use Rattle.ason_base.specs.Lsps.{same_lsp}
 use Rattle.mesh_rules.specs.Legs.{find_leg, is_armed, is_beyond_asked, is_contended, is_held, is_marking, is_work, with_phase}
 use Rattle.mesh_nodes.proofs.Cases.{both_right}
+use Rattle.mesh_laws.proofs.nodes.BackLabels.{back-kept, beyond-stands}
 use Rattle.mesh_laws.proofs.nodes.Facts.{FitsPhase, HasItsLabels, LegFacts}
 use Rattle.mesh_laws.proofs.nodes.LegParts.{LegPart, MayStand}
 use Rattle.mesh_laws.proofs.nodes.Marks.{may-arm, may-keep}
@@ -94,8 +95,8 @@ phase-facts n next f g facts beyond later back = record {
   phase = fits-phase f (with_phase f g) (labels-of g.phase g facts.phase beyond) later;
   offered = facts.offered;
   sent = facts.sent;
-  back_in = facts.back_in;
-  back_out = facts.back_out;
+  back = back-kept g (with_phase f g) refl refl refl refl
+      (beyond-stands g.phase beyond ∙ sym (beyond-stands f later)) facts.back;
 }
 
 module _ (n next : ℕ) (legs : List Leg) (f : Phase) (g : Leg) (part : LegPart n next legs)

@@ -4,8 +4,6 @@ use Rattle.std.specs.Prelude.{◌⊎◌, ◌||◌, Option, Some, None, IfSome}
 use Rattle.ason_base.specs.declared.ids.CallNo.{CallNo}
 use Rattle.ason_base.specs.declared.ids.Lsp.{Lsp}
 use Rattle.ason_base.specs.declared.ids.NodeId.{NodeId}
-use Rattle.ason_base.specs.declared.calls.Phase.{Phase}
-use Rattle.ason_base.specs.declared.calls.Phase.TheVariants.{Asked, Held, Armed, Live, Closing, Falling}
 use Rattle.ason_base.specs.declared.calls.Role.{Role}
 use Rattle.ason_base.specs.declared.calls.Role.TheVariants.{Work, Back}
 use Rattle.ason_base.specs.declared.tables.CallRec.{CallRec}
@@ -14,7 +12,7 @@ use Rattle.ason_base.specs.Lsps.{is_lsp, same_lsp}
 use Rattle.mesh_rules.specs.declared.changes.CallChange.TheVariants as call
 use Rattle.mesh_rules.specs.Calls.{find_call, names, without_call}
 use Rattle.mesh_rules.specs.Changes.{Answer, changed, changes_calls, followed_by}
-use Rattle.mesh_rules.specs.Legs.{closed, closing_phase, find_leg, has_lsp, is_closing, leg_of, with_leg}
+use Rattle.mesh_rules.specs.Legs.{closed, find_leg, has_lsp, is_closing, leg_of, with_leg}
 use Rattle.mesh_rules.specs.LocalNodes.{LocalNode}
 use Rattle.mesh_rules.specs.Releases.{release_with, releases, tears}
 use Rattle.mesh_rules.specs.State.{NodeState}
@@ -24,6 +22,7 @@ use Rattle.mesh_nodes.proofs.LegList.{find-with_leg, found-lsp}
 use Rattle.mesh_laws.specs.CallLaw.{FitsLegs, IsNamed}
 use Rattle.mesh_laws.proofs.nodes.Facts.{NodeFacts}
 use Rattle.mesh_laws.proofs.nodes.CallParts.{CallPart, lsp-is, named-lsp, together-part}
+use Rattle.mesh_laws.proofs.nodes.BackLabels.{closed-closing}
 use Rattle.mesh_laws.proofs.nodes.ClosedLegs.{closed-stands}
 use Rattle.mesh_laws.proofs.nodes.LegParts.{LegPart, part-with_leg}
 use Rattle.mesh_laws.proofs.nodes.NewLegs.{ingress-goes_on}
@@ -36,16 +35,6 @@ use Rattle.mesh_laws.proofs.nodes.PathKeeps.{Keeps}
 abbrev closes : Option Leg → List Leg → List Leg
 closes None legs = legs
 closes (Some g) legs = with_leg (closed g) legs
-
-closed-closing : (f : Phase) (r : Role) → is_closing (closing_phase f r) ≡ true
-closed-closing Asked r = refl
-closed-closing Held r = refl
-closed-closing Armed Work = refl
-closed-closing Armed Back = refl
-closed-closing Live Work = refl
-closed-closing Live Back = refl
-closed-closing Closing r = refl
-closed-closing Falling r = refl
 
 -- a leg of these that begins here
 abbrev IsOwn : ℕ → List Leg → Leg → Type 0

@@ -6,13 +6,15 @@ use Rattle.ason_base.specs.declared.steps.Step.{Step}
 use Rattle.ason_base.specs.declared.network.LinkSpec.{LinkSpec}
 use Rattle.ason_base.specs.declared.calls.CallState.TheVariants.{Asking, Blocked}
 use Rattle.ason_base.specs.declared.calls.Cause.{Cause}
-use Rattle.ason_base.specs.declared.calls.Cause.TheVariants.{Unset, NoRoute, Spent, Full}
+use Rattle.ason_base.specs.Codes.{label_code}
+use Rattle.ason_base.specs.declared.calls.Cause.TheVariants.{Code, Unset, NoRoute, Spent, Full}
+use Rattle.ason_base.specs.declared.messages.PathRole.TheVariants.{Work}
 use Rattle.ason_base.specs.declared.tables.CallRec.{CallRec}
 use Rattle.ason_base.specs.declared.tables.Leg.{Leg}
 use Rattle.ason_base.specs.Lsps.{same_lsp}
 use Rattle.mesh_rules.specs.Calls.{find_call, names, with_call}
 use Rattle.mesh_rules.specs.Changes.{changed}
-use Rattle.mesh_rules.specs.FirstLegs.{first_leg, first_link, is_full}
+use Rattle.mesh_rules.specs.FirstLegs.{first_leg, first_link, is_full, lacks_first_back}
 use Rattle.mesh_rules.specs.KnownRows.{known_rows}
 use Rattle.mesh_rules.specs.LeastRoutes.{Trip, least_trip}
 use Rattle.mesh_rules.specs.Legs.{find_leg, with_leg}
@@ -29,6 +31,7 @@ use Rattle.mesh_laws.proofs.nodes.LegParts.{part-with_leg}
 use Rattle.mesh_laws.proofs.nodes.NewLegs.{first-stands}
 use Rattle.mesh_laws.proofs.nodes.Parts.{call_part, leg_part, node_facts}
 use Rattle.mesh_laws.proofs.nodes.PathKeeps.{Keeps}
+use Rattle.mesh_laws.proofs.nodes.Sharing.{take-same}
 
 module _ (p : LocalNode) (s : NodeState) (w : SetupRequest) (away : nat_eq w.egress.0 p.id.0 ≡ false)
     (unknown : find_call w.call s.calls ≡ None) (facts : NodeFacts p.id.0 s) where
@@ -45,13 +48,15 @@ module _ (p : LocalNode) (s : NodeState) (w : SetupRequest) (away : nat_eq w.egr
         work = tt;
         back = tt;
         guards = λ x b h is_work is_back there. absurd (cc is_back);
+        ways = λ x b k h is_work is_back at_x at_b. absurd (cc is_back);
         reports = refl;
       })
       (call_part p.id.0 s facts))
 
   -- It is asked for
 
-  module _ (out : LinkSpec) (route : List Step) where
+  module _ (out : LinkSpec) (route : List Step)
+      (has : lacks_first_back p s w.both (Work w.protected) out ≡ false) where
     abbrev l : Lsp
     l = next_lsp p s
 
@@ -78,6 +83,7 @@ module _ (p : LocalNode) (s : NodeState) (w : SetupRequest) (away : nat_eq w.egr
           work = record { ingress = refl; number = omega arith; leg = (g, found, refl, refl) };
           back = tt;
           guards = λ x b h is_work is_back there'. absurd (cc is_back);
+          ways = λ x b k h is_work is_back at_x at_b. absurd (cc is_back);
           reports = refl;
         }
 
@@ -85,7 +91,8 @@ module _ (p : LocalNode) (s : NodeState) (w : SetupRequest) (away : nat_eq w.egr
     keeps-begins =
         node_facts p.id.0 (changed s (begins p s w out route))
         (part-with_leg p.id.0 s.lsp (s.lsp + 1) g s.legs (omega arith) (leg_part p.id.0 s facts)
-        (first-stands p (known_rows p s) (working_lsp p s w out route) (s.lsp + 1) s.legs refl away (omega arith)))
+        (first-stands p s (working_lsp p s w out route) w.both (s.lsp + 1) s.legs refl has refl away (omega arith)
+        facts.labels (take-same s.legs)))
         (together-part p.id.0 s.lsp (s.lsp + 1) (same_lsp l) w.call (Some c) s.legs legs' s.calls
         (with_call c s.calls)
         (omega arith) (rise-with_call c s.calls facts.calls_rise) (find-with_call c s.calls)
@@ -112,7 +119,9 @@ module _ (p : LocalNode) (s : NodeState) (w : SetupRequest) (away : nat_eq w.egr
   keeps-admitted : (out : LinkSpec) (route : List Step) → Keeps p s (admitted_setup p s w out route)
   keeps-admitted out route =
       if_cases (Keeps p s) (is_spent s) _ _ (λ e. keeps-refused Spent)
-      (λ e. if_cases (Keeps p s) (is_full s) _ _ (λ f. keeps-refused Full) (λ f. keeps-begins out route))
+      (λ e. if_cases (Keeps p s) (is_full s) _ _ (λ f. keeps-refused Full)
+      (λ f. if_cases (Keeps p s) (lacks_first_back p s w.both (Work w.protected) out) _ _
+      (λ h. keeps-refused (Code label_code)) (λ h. keeps-begins out route h)))
 
   keeps-over_first : (route : List Step) (o : Option LinkSpec) → Keeps p s (over_first p s w route o)
   keeps-over_first route None = facts

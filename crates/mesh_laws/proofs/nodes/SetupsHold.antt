@@ -2,14 +2,16 @@
 use Rattle.std.proofs.Common.{true, false, ◌⊎◌, inl, inr, ◌≡◌, List, refl}
 use Rattle.std.specs.Prelude.{Option, Some, None, drop}
 use Rattle.ason_base.specs.declared.calls.CallState.TheVariants.{Asking, Blocked}
-use Rattle.ason_base.specs.declared.calls.Cause.TheVariants.{Full, NoRoute, Spent, Unset}
+use Rattle.ason_base.specs.Codes.{label_code}
+use Rattle.ason_base.specs.declared.calls.Cause.TheVariants.{Code, Full, NoRoute, Spent, Unset}
 use Rattle.ason_base.specs.declared.calls.Cause.{Cause}
+use Rattle.ason_base.specs.declared.messages.PathRole.TheVariants.{Work}
 use Rattle.ason_base.specs.declared.ids.CallNo.{CallNo}
 use Rattle.ason_base.specs.declared.network.LinkSpec.{LinkSpec}
 use Rattle.ason_base.specs.declared.steps.Step.{Step}
 use Rattle.ason_base.specs.declared.tables.CallRec.{CallRec}
 use Rattle.mesh_rules.specs.Changes.{Answer}
-use Rattle.mesh_rules.specs.FirstLegs.{first_link, is_full}
+use Rattle.mesh_rules.specs.FirstLegs.{first_link, is_full, lacks_first_back}
 use Rattle.mesh_rules.specs.KnownRows.{known_rows}
 use Rattle.mesh_rules.specs.LeastRoutes.{Trip, least_trip}
 use Rattle.mesh_rules.specs.LocalNodes.{LocalNode}
@@ -25,6 +27,7 @@ module _ (G : CallNo → Type 0) (p : LocalNode) (s : NodeState) (w : SetupReque
     (lone : (a : Answer) (cause : Cause) → is_unset cause ≡ false → Q a (call_record w Blocked None cause))
     (begun : (route : List Step) (out : LinkSpec) → (w.via ≡ Some route) ⊎ (w.via ≡ None) →
     first_link p route ≡ Some out → is_order_here p w ≡ true →
+    lacks_first_back p s w.both (Work w.protected) out ≡ false →
     Q (begins p s w out (drop 1 route)) (call_record w Asking (Some (next_lsp p s)) Unset)) where
   abbrev pub SetUp : Answer → Type 0
   SetUp a = AreChanges G (Q a) a.calls
@@ -39,7 +42,8 @@ module _ (G : CallNo → Type 0) (p : LocalNode) (s : NodeState) (w : SetupReque
     over_first-holds route way (Some out) first =
         if_cases SetUp (is_spent s) _ _ (λ e. refused-holds Spent refl)
         (λ e. if_cases SetUp (is_full s) _ _ (λ f. refused-holds Full refl)
-        (λ f. (begun route out way first ordered, tt)))
+        (λ f. if_cases SetUp (lacks_first_back p s w.both (Work w.protected) out) _ _
+        (λ h. refused-holds (Code label_code) refl) (λ h. (begun route out way first ordered h, tt))))
 
     over_found-holds : w.via ≡ None → (o : Option Trip) → SetUp (over_found p s w o)
     over_found-holds none None = refused-holds NoRoute refl

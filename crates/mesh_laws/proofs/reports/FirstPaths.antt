@@ -6,7 +6,6 @@ use Rattle.ason_base.specs.Lsps.{has_fibre}
 use Rattle.ason_base.specs.declared.codes.ErrCode.{ErrCode}
 use Rattle.ason_base.specs.declared.ids.Lsp.{Lsp}
 use Rattle.ason_base.specs.declared.network.LinkSpec.{LinkSpec}
-use Rattle.ason_base.specs.declared.risks.Risk.{Risk}
 use Rattle.ason_base.specs.declared.steps.Step.{Step}
 use Rattle.mesh_rules.specs.Changes.{Answer}
 use Rattle.mesh_rules.specs.LocalNodes.{LocalNode, fibre_in, leads, own_link}
@@ -21,22 +20,21 @@ use Rattle.mesh_laws.proofs.nodes.PathKeeps.{none_fails}
 
 module _ (p : LocalNode) (s : NodeState) (m : PathRequest) where
   -- no call changes
-  no_calls-admitted : (link : LinkSpec) (risks : List Risk) (offered : List ℕ) (route : List Step) →
-      (admitted p m link risks offered route).calls ≡ []
-  no_calls-admitted link risks offered [] = ends (least offered)
+  no_calls-admitted : (link : LinkSpec) (route : List Step) → (admitted p s m link route).calls ≡ []
+  no_calls-admitted link [] = ends (least (offered_labels p s m link))
     where
-      ends : (x : Option ℕ) → (at_egress p m link risks offered x).calls ≡ []
+      ends : (x : Option ℕ) → (at_egress p m link (risks_here p s m) (offered_labels p s m link) x).calls ≡ []
       ends None = refl
       ends (Some x) = refl
-  no_calls-admitted link risks offered (hop ∷ route) = passes (own_link p hop.link)
+  no_calls-admitted link (hop ∷ route) = passes (own_link p hop.link)
     where
-      passes : (o : Option LinkSpec) → (in_transit p m link risks route offered o).calls ≡ []
+      passes : (o : Option LinkSpec) → (in_transit p s m link route o).calls ≡ []
       passes None = refl
       passes (Some out) = refl
 
   no_calls-judged : (link : LinkSpec) (o : Option ErrCode) → (judged p s m link o).calls ≡ []
   no_calls-judged link (Some code) = refl
-  no_calls-judged link None = no_calls-admitted link (risks_here p s m) (offered_labels p s m link) m.route
+  no_calls-judged link None = no_calls-admitted link m.route
 
   pub no_calls-first_path : (o : Option LinkSpec) → (first_path p s m o).calls ≡ []
   no_calls-first_path None = refl

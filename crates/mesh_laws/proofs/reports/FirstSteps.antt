@@ -58,7 +58,7 @@ module _ (t : Network) (s : Mesh) (o : Routes) (l : Lsp) (q : Purpose) (p : Plan
   m = Path l e k steps set label purpose
 
   abbrev asks : PathRequest
-  asks = record { arrival = arrival l e (node_at p i) k; route = steps; set = set; role = purpose }
+  asks = record { arrival = arrival l e (node_at p i) k; route = steps; set = set; upstream = label; role = purpose }
 
   abbrev place : LocalNode
   place = local_node t (node_at p (suc i))

@@ -5,7 +5,7 @@ use Rattle.ason_base.specs.Lsps.{is_lsp, same_lsp}
 use Rattle.ason_base.specs.Risks.{unknown_link}
 use Rattle.ason_base.specs.declared.calls.CallState.{CallState}
 use Rattle.ason_base.specs.declared.calls.CallState.TheVariants.{Asking, Bare, Blocked, Guarded, Pairing, Stuck, Turned, Turning}
-use Rattle.ason_base.specs.Codes.{busy_code}
+use Rattle.ason_base.specs.Codes.{busy_code, label_code}
 use Rattle.ason_base.specs.declared.calls.Cause.{Cause}
 use Rattle.ason_base.specs.declared.calls.Cause.TheVariants.{BackDown, Code, Full, NoBackup, Spent}
 use Rattle.ason_base.specs.declared.calls.Phase.{Phase}
@@ -24,11 +24,11 @@ use Rattle.mesh_rules.specs.declared.neighbours.Neighbour.{Neighbour}
 use Rattle.mesh_rules.specs.Activations.{path_to, taken_on}
 use Rattle.mesh_rules.specs.Calls.{find_call, guarded, pairing, stuck, turning, unbacked}
 use Rattle.mesh_rules.specs.Changes.{changes_calls}
-use Rattle.mesh_rules.specs.FirstLegs.{NewLsp, asks_for, first_link, is_full}
+use Rattle.mesh_rules.specs.FirstLegs.{NewLsp, asks_for, first_link, is_full, lacks_first_back}
 use Rattle.mesh_rules.specs.KnownRows.{known_rows}
 use Rattle.mesh_rules.specs.Legs.{find_leg, following, is_closing, is_contended, is_held, is_in_use, with_phase}
 use Rattle.mesh_rules.specs.LocalNodes.{LocalNode}
-use Rattle.mesh_rules.specs.Pairs.{backup_lsp, backup_route, beside_lsp, over_backup, pair, pair_over, route_from}
+use Rattle.mesh_rules.specs.Pairs.{backup_lsp, backup_route, beside_lsp, guarding, is_two_way, over_backup, pair, pair_over, route_from}
 use Rattle.mesh_rules.specs.Paths.{is_active}
 use Rattle.mesh_rules.specs.State.{NodeState}
 use Rattle.mesh_rules.specs.Turns.{activating, activating_path, arms, call_put, decide, decided, disarms, go_back, has_any, taking_back, taking_path, turn}
@@ -201,10 +201,12 @@ module _ (p : LocalNode) (s r : NodeState) (l : Lsp) (c : CallRec) (there : find
       over route (Some out) =
           if_cases (IsGentle s l) (nat_lt LAST_NUMBER r.lsp) _ _ (λ e. leaves-gentle Spent)
           (λ e. if_cases (IsGentle s l) (is_full r) _ _ (λ f. leaves-gentle Full)
-          (λ f. asks-gentle p s r l (backup_lsp p r w out (drop 1 route)) (pairing c (beside_lsp w.lsp r.lsp))
+          (λ f. if_cases (IsGentle s l) (lacks_first_back p r (is_two_way w) (guarding p w) out) _ _
+          (λ h. leaves-gentle (Code label_code))
+          (λ h. asks-gentle p s r l (backup_lsp p r w out (drop 1 route)) (pairing c (beside_lsp w.lsp r.lsp))
           (record { tunnel = r.tunnel; lsp = r.lsp + 1 }) apart
           (put-call l s.calls c (pairing c (beside_lsp w.lsp r.lsp)) there refl
-          (pairing-keeps (beside_lsp w.lsp r.lsp) apart))))
+          (pairing-keeps (beside_lsp w.lsp r.lsp) apart)))))
 
       along : (o : Option (List Step)) → IsGentle s l (pair_over p r c w o)
       along None = leaves-gentle NoBackup

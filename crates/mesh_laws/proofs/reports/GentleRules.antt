@@ -16,7 +16,6 @@ use Rattle.ason_base.specs.declared.messages.Msg.TheVariants.{Path, Resv, PathEr
 use Rattle.ason_base.specs.declared.messages.PathRole.{PathRole}
 use Rattle.ason_base.specs.declared.messages.PathRole.TheVariants.{Work, Back}
 use Rattle.ason_base.specs.declared.network.LinkSpec.{LinkSpec}
-use Rattle.ason_base.specs.declared.risks.Risk.{Risk}
 use Rattle.ason_base.specs.declared.steps.Step.{Step}
 use Rattle.ason_base.specs.declared.tables.Leg.{Leg}
 use Rattle.ason_base.specs.declared.tables.Out.{Out}
@@ -30,7 +29,7 @@ use Rattle.mesh_rules.specs.Legs.{closed, connected, find_leg, following, is_act
 use Rattle.mesh_rules.specs.LocalNodes.{LocalNode, leads, own_link}
 use Rattle.mesh_rules.specs.Notifies.{Notice, notice_passed, notice_told, notify_with}
 use Rattle.mesh_rules.specs.PathErrs.{PathFailure, err_passed, path_err_with, removed}
-use Rattle.mesh_rules.specs.Paths.{PathRequest, admitted, at_egress, checks, egress_leg, error_to, first_failure, first_path, in_transit, is_active, judged, offered_labels, risks_here, set_on, transit_leg}
+use Rattle.mesh_rules.specs.Paths.{PathRequest, admitted, at_egress, back_label, checks, egress_leg, error_to, first_failure, first_path, in_transit, is_active, judged, offered_labels, risks_here, set_on, transit_leg}
 use Rattle.mesh_rules.specs.Pairs.{beside_lsp, route_from}
 use Rattle.mesh_rules.specs.Reports.{fibre_into, reported, reported_on}
 use Rattle.mesh_rules.specs.Resvs.{answered, is_expected, labels_left, passed_back, resv_with}
@@ -236,30 +235,30 @@ module _ (p : LocalNode) (s : NodeState) (facts : NodeFacts p.id.0 s) (l : Lsp) 
         mild-gentle s l (puts g outs) (other-leg l (find_leg l s.legs) g (rw own apart)) mild refl
         (same-calls l s.calls)
 
-    admitted-gentle : (link : LinkSpec) (risks : List Risk) (offered : List ℕ) (route : List Step) →
-        IsGentle s l (admitted p m link risks offered route)
-    admitted-gentle link risks offered [] = ends (least offered)
+    admitted-gentle : (link : LinkSpec) (route : List Step) → IsGentle s l (admitted p s m link route)
+    admitted-gentle link [] = ends (least (offered_labels p s m link))
       where
-        ends : (x : Option ℕ) → IsGentle s l (at_egress p m link risks offered x)
+        ends : (x : Option ℕ) → IsGentle s l (at_egress p m link (risks_here p s m) (offered_labels p s m link) x)
         ends None = nothing-gentle s l
         ends (Some x) =
-            other-puts (egress_leg p m link risks offered x)
+            other-puts (egress_leg p m link (risks_here p s m) (offered_labels p s m link) x)
             (to_node m.arrival.from (Resv m.arrival.lsp m.arrival.egress link.id x) ∷ []) refl
             ((λ own. (refl, refl)), tt)
-    admitted-gentle link risks offered (hop ∷ route) = passes (own_link p hop.link)
+    admitted-gentle link (hop ∷ route) = passes (own_link p hop.link)
       where
-        passes : (o : Option LinkSpec) → IsGentle s l (in_transit p m link risks route offered o)
+        passes : (o : Option LinkSpec) → IsGentle s l (in_transit p s m link route o)
         passes None = nothing-gentle s l
         passes (Some out) =
-            other-puts (transit_leg p m link risks out route offered)
+            other-puts
+            (transit_leg p m link (risks_here p s m) out route (offered_labels p s m link) (back_label p s m out))
             (to_node (other_end out p.id) (Path m.arrival.lsp m.arrival.egress out.id route
-            (set_on p out offered) None m.role) ∷ []) refl
+            (set_on p out (offered_labels p s m link)) (back_label p s m out) m.role) ∷ []) refl
             ((λ same. absurd (cc (same, apart))), tt)
 
     judged-gentle : (link : LinkSpec) (o : Option ErrCode) → IsGentle s l (judged p s m link o)
     judged-gentle link (Some code) =
         sends-gentle s l (error_to m.arrival.from p m.arrival code ∷ []) ((λ own. (refl, refl)), tt)
-    judged-gentle link None = admitted-gentle link (risks_here p s m) (offered_labels p s m link) m.route
+    judged-gentle link None = admitted-gentle link m.route
 
     pub first_path-gentle : (o : Option LinkSpec) → IsGentle s l (first_path p s m o)
     first_path-gentle None = nothing-gentle s l

@@ -3,7 +3,7 @@ use Rattle.std.proofs.Common.{◌≡◌, ◌+◌, Bool, true, false, cond, nat_e
 use Rattle.std.specs.Prelude.{◌&&◌, Option, Some, None}
 use Rattle.ason_base.specs.Lsps.{same_lsp}
 use Rattle.ason_base.specs.declared.calls.Cause.{Cause}
-use Rattle.ason_base.specs.declared.calls.Cause.TheVariants.{Full, NoRoute, Spent, Unset}
+use Rattle.ason_base.specs.declared.calls.Cause.TheVariants.{Code, Full, NoRoute, Spent, Unset}
 use Rattle.ason_base.specs.declared.calls.CallState.TheVariants.{Asking, Blocked}
 use Rattle.ason_base.specs.declared.calls.Role.TheVariants as role
 use Rattle.ason_base.specs.declared.commands.Command.{Command}
@@ -13,16 +13,18 @@ use Rattle.ason_base.specs.declared.ids.Lsp.{Lsp}
 use Rattle.ason_base.specs.declared.ids.NodeId.{NodeId}
 use Rattle.ason_base.specs.declared.messages.Msg.{Msg}
 use Rattle.ason_base.specs.declared.messages.Msg.TheVariants.{Path, Resv, PathTear, PathErr, Notify}
+use Rattle.ason_base.specs.declared.messages.PathRole.TheVariants.{Work}
 use Rattle.ason_base.specs.declared.network.LinkSpec.{LinkSpec}
 use Rattle.ason_base.specs.declared.steps.Step.{Step}
 use Rattle.ason_base.specs.declared.tables.CallRec.{CallRec}
 use Rattle.ason_base.specs.declared.tables.Leg.{Leg}
+use Rattle.ason_base.specs.Codes.{label_code}
 use Rattle.mesh_rules.specs.declared.changes.CallChange.TheVariants as call
 use Rattle.mesh_rules.specs.declared.changes.LegChange.TheVariants as leg
 use Rattle.mesh_rules.specs.declared.neighbours.Neighbour.{Neighbour}
 use Rattle.mesh_rules.specs.Calls.{find_call, is_bare, is_stuck, is_turned}
 use Rattle.mesh_rules.specs.Changes.{Answer, changed, changes_calls, followed_by, puts}
-use Rattle.mesh_rules.specs.FirstLegs.{first_link, is_full}
+use Rattle.mesh_rules.specs.FirstLegs.{first_link, is_full, lacks_first_back}
 use Rattle.mesh_rules.specs.KnownRows.{known_rows}
 use Rattle.mesh_rules.specs.LeastRoutes.{Trip, least_trip}
 use Rattle.mesh_rules.specs.Legs.{closed, find_leg, following, is_closing, leg_of}
@@ -47,12 +49,13 @@ use Rattle.mesh_nodes.proofs.Cases.{if_cases}
 use Rattle.mesh_nodes.proofs.LegList.{find-with_leg, found-lsp, same_lsp-eq}
 use Rattle.mesh_laws.specs.CallLaw.{FitsLegs}
 use Rattle.mesh_laws.specs.HopLaw.{is_notice_of, lsp_of}
+use Rattle.mesh_laws.proofs.nodes.BackLabels.{closed-closing}
 use Rattle.mesh_laws.proofs.nodes.CallParts.{named-lsp}
 use Rattle.mesh_laws.proofs.nodes.Facts.{NodeFacts}
 use Rattle.mesh_laws.proofs.reports.GentleWords.{AllMild, IsGentle, LegKeeps, is_plain}
 use Rattle.mesh_laws.proofs.reports.AnswerParts.{both-gentle, calls-gentle, goes-call, mild-gentle, nothing-gentle, put-other, same-calls}
 use Rattle.mesh_laws.proofs.reports.GentleAnswers.{asks-gentle, go_back-gentle, pair-gentle, turn-gentle}
-use Rattle.mesh_laws.proofs.reports.StoodLegs.{closing-closes, closing-done}
+use Rattle.mesh_laws.proofs.reports.StoodLegs.{closing-done}
 use Rattle.mesh_laws.proofs.reports.StandingCalls.{IsOld, leg-stands, leg-there, new-apart}
 use Rattle.mesh_laws.proofs.reports.GentleRules.{again-gentle, err-gentle, first_path-gentle, notify-gentle, resv-gentle, tear-gentle}
 
@@ -72,9 +75,11 @@ module _ (p : LocalNode) (s : NodeState) (facts : NodeFacts p.id.0 s) (l : Lsp) 
   admitted_setup-gentle w out route =
       if_cases (IsGentle s l) (is_spent s) _ _ (λ e. refused_setup-gentle w Spent)
       (λ e. if_cases (IsGentle s l) (is_full s) _ _ (λ f. refused_setup-gentle w Full)
-      (λ f. asks-gentle p s s l (working_lsp p s w out route) (call_record w Asking (Some (next_lsp p s)) Unset)
+      (λ f. if_cases (IsGentle s l) (lacks_first_back p s w.both (Work w.protected) out) _ _
+      (λ h. refused_setup-gentle w (Code label_code))
+      (λ h. asks-gentle p s s l (working_lsp p s w out route) (call_record w Asking (Some (next_lsp p s)) Unset)
       (record { tunnel = s.tunnel + 1; lsp = s.lsp + 1 }) next-apart
-      (put-other l s.calls (call_record w Asking (Some (next_lsp p s)) Unset) (rw next-apart refl))))
+      (put-other l s.calls (call_record w Asking (Some (next_lsp p s)) Unset) (rw next-apart refl)))))
 
   over_first-gentle : (w : SetupRequest) (route : List Step) (o : Option LinkSpec) →
       IsGentle s l (over_first p s w route o)
@@ -113,7 +118,7 @@ module _ (p : LocalNode) (s : NodeState) (facts : NodeFacts p.id.0 s) (l : Lsp) 
 
       go : (b : Bool) → same_lsp g.lsp l ≡ b → LegKeeps l (find_leg l r.legs) (leg.Put (closed g) ∷ [])
       go true e = record {
-        stands = λ h. absurd (never (is_closing (closed g).phase) (closing-closes g.phase g.role) (rw e at h));
+        stands = λ h. absurd (never (is_closing (closed g).phase) (closed-closing g.phase g.role) (rw e at h));
         gone = λ none. absurd (there (subst (λ k. find_leg k r.legs ≡ None) (sym (same_lsp-eq g.lsp l e)) none));
         waits = λ h. absurd (let h' = (rw e at h) in let done = closing-done g.phase g.role in cc (h', done));
       }
@@ -258,7 +263,7 @@ module _ (p : LocalNode) (s : NodeState) (facts : NodeFacts p.id.0 s) (l : Lsp) 
   pub message-gentle : (u : NodeId) (m : Msg) → is_notice_of l m ≡ false → (IsFirstPath m → ⊥) →
       IsGentle s l (on_message p s u m)
   message-gentle u (Path k e link route set up r) other not_first =
-      path-gentle (record { arrival = arrival k e u link; route = route; set = set; role = r }) (find_leg k s.legs) refl
+      path-gentle (record { arrival = arrival k e u link; route = route; set = set; upstream = up; role = r }) (find_leg k s.legs) refl
       (λ plain own none. not_first (rw plain refl, own, none))
   message-gentle u (Resv k e link x) other not_first =
       by-leg (λ o. IsGentle s l (resv_with p s (arrival k e u link) x o)) k (nothing-gentle s l)

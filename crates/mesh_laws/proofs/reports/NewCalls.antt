@@ -5,7 +5,7 @@ use Rattle.ason_base.specs.Lsps.{has_fibre, is_lsp}
 use Rattle.ason_base.specs.declared.calls.CallState.{CallState}
 use Rattle.ason_base.specs.declared.calls.CallState.TheVariants.{Asking, Blocked}
 use Rattle.ason_base.specs.declared.calls.Cause.{Cause}
-use Rattle.ason_base.specs.declared.calls.Cause.TheVariants.{Full, NoRoute, Spent, Unset}
+use Rattle.ason_base.specs.declared.calls.Cause.TheVariants.{Code, Full, NoRoute, Spent, Unset}
 use Rattle.ason_base.specs.declared.calls.Phase.TheVariants.{Held, Live}
 use Rattle.ason_base.specs.declared.commands.Command.{Command}
 use Rattle.ason_base.specs.declared.commands.Command.TheVariants.{Setup, Release, Protect, Retry, Revert, Fail, Repair}
@@ -24,6 +24,7 @@ use Rattle.ason_base.specs.declared.steps.Step.{Step}
 use Rattle.ason_base.specs.declared.tables.CallRec.{CallRec}
 use Rattle.ason_base.specs.declared.tables.Leg.{Leg}
 use Rattle.ason_base.specs.declared.tables.Out.{Out}
+use Rattle.ason_base.specs.Codes.{label_code}
 use Rattle.mesh_rules.specs.declared.arrivals.Arrival.{Arrival}
 use Rattle.mesh_rules.specs.declared.changes.CallChange.{CallChange}
 use Rattle.mesh_rules.specs.declared.changes.CallChange.TheVariants as call
@@ -34,7 +35,7 @@ use Rattle.mesh_rules.specs.Alarms.{enters}
 use Rattle.mesh_rules.specs.Calls.{call_with, calls_changed, find_call, is_bare, is_stuck, is_turned, names}
 use Rattle.mesh_rules.specs.Changes.{Answer}
 use Rattle.mesh_rules.specs.Events.{on_first, on_first_item}
-use Rattle.mesh_rules.specs.FirstLegs.{first_link, is_full}
+use Rattle.mesh_rules.specs.FirstLegs.{first_link, is_full, lacks_first_back}
 use Rattle.mesh_rules.specs.KnownRows.{known_rows}
 use Rattle.mesh_rules.specs.LeastRoutes.{Trip, least_trip}
 use Rattle.mesh_rules.specs.Legs.{connected, find_leg, following, is_active_backup, is_armed, is_asked, is_closing, is_contended, is_held, is_node, is_over, label_through, leg_of, previous, with_phase}
@@ -166,7 +167,7 @@ module _ (p : LocalNode) (s : NodeState) (rise : CallsRise s.calls) (l : Lsp)
 
   pub message-new : (u : NodeId) (m : Msg) → New (on_message p s u m)
   message-new u (Path j e k route set up r) =
-      path-new (record { arrival = arrival j e u k; route = route; set = set; role = r }) (find_leg j s.legs)
+      path-new (record { arrival = arrival j e u k; route = route; set = set; upstream = up; role = r }) (find_leg j s.legs)
   message-new u (Resv j e k x) = resv-new (arrival j e u k) x (find_leg j s.legs)
   message-new u (PathTear j e k) = tear-new (arrival j e u k) (find_leg j s.legs)
   message-new u (PathErr j e at gone code) =
@@ -200,7 +201,9 @@ module _ (p : LocalNode) (s : NodeState) (rise : CallsRise s.calls) (l : Lsp)
       over route (Some out) =
           if_cases New (is_spent s) _ _ (λ e. record-new w Blocked None Spent _ refl)
           (λ e. if_cases New (is_full s) _ _ (λ f. record-new w Blocked None Full _ refl)
-          (λ f. record-new w Asking (Some (next_lsp p s)) Unset _ refl))
+          (λ f. if_cases New (lacks_first_back p s w.both (Work w.protected) out) _ _
+          (λ h. record-new w Blocked None (Code label_code) _ refl)
+          (λ h. record-new w Asking (Some (next_lsp p s)) Unset _ refl)))
 
       found : (o : Option Trip) → New (over_found p s w o)
       found None = record-new w Blocked None NoRoute _ refl

@@ -2,7 +2,7 @@
 use Rattle.std.proofs.Common.{◌≡◌, Bool, true, false, cond, nat_eq, nat_lt, List, [], ◌∷◌, refl, sym, ◌∙◌, subst}
 use Rattle.std.specs.Prelude.{◌||◌, Option, Some, None, is_some}
 use Rattle.ason_base.specs.Lsps.{is_lsp}
-use Rattle.ason_base.specs.Codes.{busy_code}
+use Rattle.ason_base.specs.Codes.{busy_code, label_code}
 use Rattle.ason_base.specs.Risks.{unknown_link}
 use Rattle.ason_base.specs.declared.calls.Cause.{Cause}
 use Rattle.ason_base.specs.declared.calls.Cause.TheVariants.{Code, Full, NoBackup, Spent}
@@ -19,11 +19,11 @@ use Rattle.mesh_rules.specs.declared.limits.TheConstants.{LAST_NUMBER}
 use Rattle.mesh_rules.specs.CallSteps.{call_answered, call_contended, call_refused, call_turned}
 use Rattle.mesh_rules.specs.Calls.{bare, blocked, call_with, calls_changed, find_call, guarded, is_asking, is_pairing, is_turning, names, pairing, stuck, turned, unbacked}
 use Rattle.mesh_rules.specs.Changes.{Answer}
-use Rattle.mesh_rules.specs.FirstLegs.{first_link, is_full}
+use Rattle.mesh_rules.specs.FirstLegs.{first_link, is_full, lacks_first_back}
 use Rattle.mesh_rules.specs.KnownRows.{known_rows}
 use Rattle.mesh_rules.specs.Legs.{is_work}
 use Rattle.mesh_rules.specs.LocalNodes.{LocalNode}
-use Rattle.mesh_rules.specs.Pairs.{backup_route, beside_lsp, over_backup, pair, pair_over, route_from}
+use Rattle.mesh_rules.specs.Pairs.{backup_route, beside_lsp, guarding, is_two_way, over_backup, pair, pair_over, route_from}
 use Rattle.mesh_rules.specs.State.{NodeState}
 use Rattle.mesh_rules.specs.Turns.{decide}
 use Rattle.mesh_nodes.specs.Order.{CallsRise}
@@ -112,7 +112,9 @@ module _ (p : LocalNode) (s : NodeState) (rise : CallsRise s.calls) (l : Lsp)
       over route (Some out) =
           if_cases IsNew (nat_lt LAST_NUMBER s.lsp) _ _ (λ e. leaves-new c Spent _ there refl)
           (λ e. if_cases IsNew (is_full s) _ _ (λ f. leaves-new c Full _ there refl)
-          (λ f. pairing-new c (beside_lsp w.lsp s.lsp) _ there refl))
+          (λ f. if_cases IsNew (lacks_first_back p s (is_two_way w) (guarding p w) out) _ _
+          (λ h. leaves-new c (Code label_code) _ there refl)
+          (λ h. pairing-new c (beside_lsp w.lsp s.lsp) _ there refl)))
 
       along : (o : Option (List Step)) → IsNew (pair_over p s c w o)
       along None = leaves-new c NoBackup _ there refl

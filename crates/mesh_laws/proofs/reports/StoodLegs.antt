@@ -63,20 +63,6 @@ armed-stands Live e = absurd (cc e)
 armed-stands Closing e = absurd (cc e)
 armed-stands Falling e = absurd (cc e)
 
-pub closing-closes : (f : Phase) (r : Role) → is_closing (closing_phase f r) ≡ true
-closing-closes Armed role.Back = refl
-closing-closes Live role.Back = refl
-closing-closes Armed role.Work = refl
-closing-closes Live role.Work = refl
-closing-closes Asked role.Work = refl
-closing-closes Asked role.Back = refl
-closing-closes Held role.Work = refl
-closing-closes Held role.Back = refl
-closing-closes Closing role.Work = refl
-closing-closes Closing role.Back = refl
-closing-closes Falling role.Work = refl
-closing-closes Falling role.Back = refl
-
 -- a torn leg isn't Asked, nor is a leg with its label
 
 pub closing-done : (f : Phase) (r : Role) → is_asked (closing_phase f r) ≡ false

@@ -61,7 +61,7 @@ module _ (t : Network) (q : Purpose) (s : Mesh) (l : Lsp) (p : Plan) (i : ℕ) (
   message = Path l e k r set label (Back true work primary)
 
   abbrev asks : PathRequest
-  asks = record { arrival = arrival l e u k; route = r; set = set; role = Back true work primary }
+  asks = record { arrival = arrival l e u k; route = r; set = set; upstream = label; role = Back true work primary }
 
   abbrev IsPart : Answer → Type 0
   IsPart a = Part o s l u d message rest was a

@@ -1,7 +1,7 @@
 -- What a call does at its ingress: how much the work grows.
 use Rattle.std.proofs.Common.{◌≡◌, ◌<◌, ℕ, suc, ◌+◌, Bool, true, false, List, drop, length, refl, ap, subst, arith}
 use Rattle.std.specs.Prelude.{nat_lt, Option, Some, None, is_some}
-use Rattle.ason_base.specs.Codes.{busy_code}
+use Rattle.ason_base.specs.Codes.{busy_code, label_code}
 use Rattle.ason_base.specs.Network.{Network}
 use Rattle.ason_base.specs.Risks.{unknown_link}
 use Rattle.ason_base.specs.declared.codes.ErrCode.{ErrCode}
@@ -19,12 +19,12 @@ use Rattle.mesh_rules.specs.declared.limits.TheConstants.{LAST_NUMBER}
 use Rattle.mesh_rules.specs.Calls.{bare, blocked, guarded, is_asking, is_pairing, is_turning, pairing, stuck, turned}
 use Rattle.mesh_rules.specs.CallSteps.{call_answered, call_contended, call_refused, call_turned}
 use Rattle.mesh_rules.specs.Changes.{nothing}
-use Rattle.mesh_rules.specs.FirstLegs.{first_link, is_full}
+use Rattle.mesh_rules.specs.FirstLegs.{first_link, is_full, lacks_first_back}
 use Rattle.mesh_rules.specs.KnownRows.{known_rows}
 use Rattle.mesh_rules.specs.Legs.{following, is_contended, is_held, is_in_use, is_work}
 use Rattle.mesh_rules.specs.LocalNodes.{LocalNode, local_node}
 use Rattle.mesh_rules.specs.Machine.{Mesh}
-use Rattle.mesh_rules.specs.Pairs.{admitted_backup, backup_lsp, backup_route, beside_lsp, leaves_bare, over_backup, pair, pair_over, route_from}
+use Rattle.mesh_rules.specs.Pairs.{admitted_backup, backup_lsp, backup_route, beside_lsp, guarding, is_two_way, leaves_bare, over_backup, pair, pair_over, route_from}
 use Rattle.mesh_rules.specs.State.{NodeState}
 use Rattle.mesh_rules.specs.Turns.{activating_path, arms, call_put, decide, decided, disarms, go_back, has_any, taking_path, turn}
 use Rattle.mesh_laws.specs.HopLaw.{leg_at}
@@ -171,10 +171,12 @@ module _ (t : Network) (s : Mesh) (n : NodeId) (o : Routes) (f : EachFollows t s
       admitted-expand out route small =
           if_cases (Expands s n o 4223) (nat_lt LAST_NUMBER st.lsp) _ _ (λ h. bare-expand Spent)
           (λ h. if_cases (Expands s n o 4223) (is_full st) _ _ (λ h. bare-expand Full)
+          (λ h. if_cases (Expands s n o 4223) (lacks_first_back place st (is_two_way w) (guarding place w) out) _ _
+          (λ h. bare-expand (Code label_code))
           (λ h. (let blank = new-blank t s o n (beside_lsp w.lsp st.lsp) f here (omega (arith, number)) in
           expands-more s n o (suc (length route) + 4160) 4223 _ (omega arith)
           (begins-expand t s o n st (backup_lsp place st w out route) (pairing c (beside_lsp w.lsp st.lsp))
-          (record { tunnel = st.tunnel; lsp = st.lsp + 1 }) blank.1 blank.0 small))))
+          (record { tunnel = st.tunnel; lsp = st.lsp + 1 }) blank.1 blank.0 small)))))
 
       over-expand : (route : List Step) (out : Option LinkSpec) → first_link place route ≡ out →
           Expands s n o 4223 (over_backup place st c w route out)

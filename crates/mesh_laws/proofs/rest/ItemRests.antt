@@ -5,11 +5,12 @@ use Rattle.ason_base.specs.Network.{Network, is_node_id}
 use Rattle.ason_base.specs.declared.ids.Lsp.{Lsp}
 use Rattle.ason_base.specs.declared.ids.CallNo.{CallNo}
 use Rattle.ason_base.specs.declared.ids.NodeId.{NodeId}
+use Rattle.ason_base.specs.declared.messages.PathRole.TheVariants.{Work}
 use Rattle.ason_base.specs.declared.steps.Step.{Step}
 use Rattle.ason_base.specs.declared.network.LinkSpec.{LinkSpec}
 use Rattle.ason_base.specs.declared.calls.CallState.TheVariants.{Asking}
 use Rattle.ason_base.specs.declared.calls.Cause.{Cause}
-use Rattle.ason_base.specs.declared.calls.Cause.TheVariants.{Full, NoRoute, Spent, Unset}
+use Rattle.ason_base.specs.declared.calls.Cause.TheVariants.{Code, Full, NoRoute, Spent, Unset}
 use Rattle.ason_base.specs.declared.commands.Command.{Command}
 use Rattle.ason_base.specs.declared.commands.Command.TheVariants.{Setup, Release, Protect, Retry, Revert, Fail, Repair}
 use Rattle.ason_base.specs.declared.commands.DeskItem.{DeskItem}
@@ -24,7 +25,7 @@ use Rattle.mesh_rules.specs.Calls.{find_call, is_bare, is_stuck, is_turned}
 use Rattle.mesh_rules.specs.Changes.{Answer, changes_calls, followed_by, nothing}
 use Rattle.mesh_rules.specs.Commands.{is_searchable, is_valid}
 use Rattle.mesh_rules.specs.Events.{first_route, or_route}
-use Rattle.mesh_rules.specs.FirstLegs.{first_link, is_full}
+use Rattle.mesh_rules.specs.FirstLegs.{first_link, is_full, lacks_first_back}
 use Rattle.mesh_rules.specs.KnownRows.{known_rows}
 use Rattle.mesh_rules.specs.LeastRoutes.{Trip, least_trip}
 use Rattle.mesh_rules.specs.Legs.{closed, following, leg_of}
@@ -48,7 +49,7 @@ use Rattle.mesh_laws.proofs.hops.Released.{own_tears}
 use Rattle.mesh_laws.proofs.hops.Run.{ItemFits, StepFacts}
 use Rattle.mesh_laws.proofs.hops.Ticked.{turned_is}
 use Rattle.mesh_laws.proofs.hops.Views.{leg-here}
-use Rattle.ason_base.specs.Codes.{fibre_down_code, fibre_up_code}
+use Rattle.ason_base.specs.Codes.{fibre_down_code, fibre_up_code, label_code}
 use Rattle.ason_base.specs.Lsps.{has_fibre}
 use Rattle.ason_base.specs.declared.codes.ErrCode.{ErrCode}
 use Rattle.ason_base.specs.declared.ids.Fibre.{Fibre}
@@ -191,11 +192,13 @@ module _ (t : Network) (s : Mesh) (n : NodeId) (o : Routes) (f : EachFollows t s
     admitted out route small =
         if_cases (Expands s n o 4351) (is_spent state) _ _ (λ h. refused Spent)
         (λ h. if_cases (Expands s n o 4351) (is_full state) _ _ (λ h. refused Full)
+        (λ h. if_cases (Expands s n o 4351) (lacks_first_back place state w.both (Work w.protected) out) _ _
+        (λ h. refused (Code label_code))
         (λ h. (let blank = new-blank t s o n (next_lsp place state) f refl (omega arith) in
         expands-more s n o (suc (length route) + 4288) 4351 _ (omega arith)
         (begins-expand t s o n state (working_lsp place state w out route)
         (call_record w Asking (Some (next_lsp place state)) Unset)
-        (record { tunnel = state.tunnel + 1; lsp = state.lsp + 1 }) blank.1 blank.0 small))))
+        (record { tunnel = state.tunnel + 1; lsp = state.lsp + 1 }) blank.1 blank.0 small)))))
 
     over : (route : List Step) (out : Option LinkSpec) → first_link place route ≡ out →
         Expands s n o 4351 (over_first place state w route out)

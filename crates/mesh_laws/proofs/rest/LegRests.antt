@@ -65,7 +65,7 @@ module _ (t : Network) (s : Mesh) (o : Routes) (q : Purpose) (rest : List Msg) (
           (h : Option Leg) → leg_at s l (node_at p (suc i)) ≡ h →
           Part o s l (node_at p i) (node_at p (suc i)) (Path l e k r set label role) rest was
           (path_with (local_node t (node_at p (suc i))) (s.nodes (node_at p (suc i)).0)
-          (record { arrival = arrival l e (node_at p i) k; route = r; set = set; role = role }) h)
+          (record { arrival = arrival l e (node_at p i) k; route = r; set = set; upstream = label; role = role }) h)
       by_leg role was None here =
           first t q s l p i pl.route pl.chain below e k r set label role rest was o known short here
           (own_link (local_node t (node_at p (suc i))) k)

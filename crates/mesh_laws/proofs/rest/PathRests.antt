@@ -82,7 +82,7 @@ module _ (t : Network) (q : Purpose) (s : Mesh) (l : Lsp) (p : Plan) (i : ℕ) (
   message = Path l e k r set label purpose
 
   abbrev asks : PathRequest
-  asks = record { arrival = arrival l e u k; route = r; set = set; role = purpose }
+  asks = record { arrival = arrival l e u k; route = r; set = set; upstream = label; role = purpose }
 
   abbrev IsPart : Answer → Type 0
   IsPart a = Part o s l u d message rest was a
@@ -156,23 +156,24 @@ module _ (t : Network) (q : Purpose) (s : Mesh) (l : Lsp) (p : Plan) (i : ℕ) (
                 rw (← heavy, leg-before a, b) (omega arith));
           }
 
-      goes : (link : LinkSpec) (risks : List Risk) (further : List Step) (h : Step) (offered : List ℕ)
-          (out : Option LinkSpec) → r ≡ h ∷ further → IsPart (in_transit place asks link risks further offered out)
-      goes link risks further h offered None is = no-part
-      goes link risks further h offered (Some out) is = record {
+      goes : (link : LinkSpec) (further : List Step) (h : Step) (out : Option LinkSpec) → r ≡ h ∷ further →
+          IsPart (in_transit place state asks link further out)
+      goes link further h None is = no-part
+      goes link further h (Some out) is = record {
         light = rw (same_lsp-refl l) (light-new _);
         sends = rw (← heavy, is)
             (one-less _ _ _ (path-most purpose _ (suc (length further))) (path-less purpose (suc (length further))));
       }
 
-      admits : (link : LinkSpec) (risks : List Risk) (offered : List ℕ) (r' : List Step) → r ≡ r' →
-          IsPart (admitted place asks link risks offered r')
-      admits link risks offered [] is = ends link risks offered (least offered)
-      admits link risks offered (h ∷ further) is = goes link risks further h offered (own_link place h.link) is
+      admits : (link : LinkSpec) (r' : List Step) → r ≡ r' → IsPart (admitted place state asks link r')
+      admits link [] is =
+          ends link (risks_here place state asks) (offered_labels place state asks link)
+          (least (offered_labels place state asks link))
+      admits link (h ∷ further) is = goes link further h (own_link place h.link) is
 
       judges : (link : LinkSpec) (c : Option ErrCode) → IsPart (judged place state asks link c)
       judges link (Some code) = refused code
-      judges link None = admits link (risks_here place state asks) (offered_labels place state asks link) r refl
+      judges link None = admits link r refl
 
     -- The first Path of an LSP at a node weighs more than what the node sends.
     pub first : (link : Option LinkSpec) → IsPart (first_path place state asks link)

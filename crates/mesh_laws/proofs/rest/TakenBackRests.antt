@@ -60,7 +60,7 @@ module _ (t : Network) (q : Purpose) (s : Mesh) (l : Lsp) (p : Plan) (i : ℕ) (
   takes = Path l e k r set label (Back false work primary)
 
   abbrev asking : PathRequest
-  asking = record { arrival = arrival l e from k; route = r; set = set; role = Back false work primary }
+  asking = record { arrival = arrival l e from k; route = r; set = set; upstream = label; role = Back false work primary }
 
   abbrev IsPart : Answer → Type 0
   IsPart a = Part o s l from at takes rest was a

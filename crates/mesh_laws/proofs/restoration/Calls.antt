@@ -33,7 +33,7 @@ use Rattle.mesh_laws.specs.AloneLaw.{AllConcern, CallConcerns, LegConcerns, is_o
 use Rattle.mesh_laws.specs.BesideLaw.{BackupsGoBeside, CallGoesBeside}
 use Rattle.mesh_laws.specs.CallLaw.{CallsFit, FitsLegs, GuardsWork, IsNamed, fits, phase_of}
 use Rattle.mesh_laws.specs.HopLaw.{LspFits, leg_at}
-use Rattle.mesh_laws.specs.JoinedLaw.{CallIsJoined, CallsAreJoined, IsActivated, IsConnected, IsJoined, IsLive, LspIsJoined}
+use Rattle.mesh_laws.specs.JoinedLaw.{CallIsJoined, CallsAreJoined, IsActivated, IsConnected, IsJoined, IsLive, LspIsJoined, goes_both_ways}
 use Rattle.mesh_laws.specs.ReportLaw.{DesksTell, ReportsTell}
 use Rattle.mesh_laws.specs.RestorationLaw.{IsRestored, is_guarded, is_hit, is_label_reserved, is_route_cut}
 use Rattle.mesh_laws.specs.RiskLaw.{BackupsRecordRisks, RecordsRisks}
@@ -87,10 +87,10 @@ guarded-work (Some Live) (Some Held) e = refl
 guarded-work w b e = absurd (cc e)
 
 -- an LSP that is joined is there
-joined-lsp : (t : Network) (events : List MeshEvent) (e : NodeId) (o : Option Lsp) → IsJoined t events IsLive e o →
-    (l : Lsp) × (o ≡ Some l) × LspIsJoined t events IsLive e l
-joined-lsp t events e None joined = absurd joined
-joined-lsp t events e (Some l) joined = (l, refl, joined)
+joined-lsp : (t : Network) (events : List MeshEvent) (b : Bool) (e : NodeId) (o : Option Lsp) →
+    IsJoined t events IsLive b e o → (l : Lsp) × (o ≡ Some l) × LspIsJoined t events IsLive b e l
+joined-lsp t events b e None joined = absurd joined
+joined-lsp t events b e (Some l) joined = (l, refl, joined)
 
 -- what the laws of a state tell, as far as restoration needs it
 pub record LawsOf (t : Network) (events : List MeshEvent) : Type 0 where
@@ -116,10 +116,14 @@ module _ (t : Network) (events : List MeshEvent) (laws : LawsOf t events) (g : G
   -- One call
   module _ (n : ℕ) (c : CallRec) (there : Contains (s.nodes n).calls c)
       (fit : FitsLegs n (s.nodes n).lsp (s.nodes n).legs c) (beside : CallGoesBeside t events c) where
+    -- the call is two-way
+    abbrev both : Bool
+    both = goes_both_ways s c.work
+
     -- no fibre of the working LSP is reported: so none is down
-    work-up : (w : Lsp) → c.work ≡ Some w → LspIsJoined t events IsLive c.egress w →
+    work-up : (b : Bool) (w : Lsp) → c.work ≡ Some w → LspIsJoined t events IsLive b c.egress w →
         phase_of (leg_of c.work (s.nodes n).legs) ≡ Some Live → c.work_reports ≡ [] → is_hit t events (Some w) ≡ false
-    work-up w is joined phase none =
+    work-up b w is joined phase none =
         let named : IsNamed n (s.nodes n).lsp (s.nodes n).legs role.Work c.egress w =
         named-lsp n (s.nodes n).lsp (s.nodes n).legs role.Work c.egress c.work w fit.work is in
         let leg : Leg = named.leg.0 in
@@ -130,7 +134,7 @@ module _ (t : Network) (events : List MeshEvent) (laws : LawsOf t events) (g : G
         let mine : is_lsp c.work w ≡ true = rw is (same_lsp-refl w) in
         let call = call-is n (s.nodes n) w leg c (laws.calls n) there (rw mine refl) named.ingress named.leg.1
         (ap is_closing live) in
-        unreported-up t events quiet laws.desks laws.reports c.egress w leg here named.leg.3 joined c
+        unreported-up t events quiet laws.desks laws.reports b c.egress w leg here named.leg.3 joined c
         (subst (λ m. call_with w (s.nodes m).calls ≡ Some c) (sym named.ingress) call) (rw mine none)
 
     -- the group is on the working LSP's route, where the backup's leg records a risk of it
@@ -182,12 +186,12 @@ module _ (t : Network) (events : List MeshEvent) (laws : LawsOf t events) (g : G
     -- a call that waits, which its working LSP carries
     by-working : c.state ≡ Guarded → IsConnected t events c → IsRestored t events c
     by-working is joined =
-        let w = joined-lsp t events c.egress c.work joined in
+        let w = joined-lsp t events both c.egress c.work joined in
         let phases : fits Guarded (phase_of (leg_of c.work (s.nodes n).legs))
         (phase_of (leg_of c.back (s.nodes n).legs)) ≡ true = rw is at fit.state in
         let reports : not (has_any c.work_reports) ≡ true = rw is at fit.reports in
         let up : is_hit t events c.work ≡ false =
-        rw w.1 (work-up w.0 w.1 w.2 (guarded-work _ _ phases)
+        rw w.1 (work-up both w.0 w.1 w.2 (guarded-work _ _ phases)
         (none-reported c.work_reports (not-true (has_any c.work_reports) reports))) in
         record {
           turned = λ hit. absurd (cc (hit, up));
@@ -199,7 +203,7 @@ module _ (t : Network) (events : List MeshEvent) (laws : LawsOf t events) (g : G
     by-backup : (there : BackupThere c.back (s.nodes n).legs) → c.state ≡ Turned → there.leg.phase ≡ Live →
         IsConnected t events c → IsActivated t events c → IsRestored t events c
     by-backup there is live work joined =
-        let w = joined-lsp t events c.egress c.work work in
+        let w = joined-lsp t events both c.egress c.work work in
         let named = back-named there in
         let one : named.leg.0 ≡ there.leg = (let x = named.leg.1 in let y = there.here in cc (x, y)) in
         let back : there.leg.role ≡ role.Back = rw (← one) named.leg.2 in

@@ -67,8 +67,8 @@ module _ (t : Network) (events : List MeshEvent) (quiet : IsQuiet (after t start
       rw (silent l route e (place_at route e (suc i)) link.id (suc i)) at place
       ∙ known-cut (place_at route e (suc i)) link hop.link found on.touches_far
 
-  module _ (e : NodeId) (l : Lsp) (g : Leg) (here : leg_at s l l.ingress ≡ Some g) (ends : g.egress ≡ e)
-      (joined : LspIsJoined t events IsLive e l) where
+  module _ (b : Bool) (e : NodeId) (l : Lsp) (g : Leg) (here : leg_at s l l.ingress ≡ Some g) (ends : g.egress ≡ e)
+      (joined : LspIsJoined t events IsLive b e l) where
     -- both ends of a step
     step-stands : (i : ℕ) → i < length joined.route → IsTrue (is_standing (leg_at s l (place_at joined.route e i))) ×
         IsTrue (is_standing (leg_at s l (place_at joined.route e (suc i))))

@@ -1,5 +1,6 @@
--- What an answer leaves of labels that are sent, and of what the LSPs of legs are for.
-use Rattle.std.proofs.Common.{◌≡◌, ℕ, Bool, true, false, cond, List, [], ◌∷◌, refl, sym, subst, ◌∙◌, inl}
+-- What an answer leaves of labels that are sent, of what the LSPs of legs are for, of backups that are activated, and
+-- of legs that are two-way.
+use Rattle.std.proofs.Common.{◌≡◌, ℕ, Bool, true, false, cond, List, [], ◌∷◌, refl, sym, ap, subst, ◌∙◌, inl}
 use Rattle.std.specs.Prelude.{◌⊎◌, Option, Some, None}
 use Rattle.ason_base.specs.declared.ids.Fibre.{Fibre}
 use Rattle.ason_base.specs.declared.ids.Lsp.{Lsp}
@@ -9,10 +10,11 @@ use Rattle.mesh_rules.specs.declared.changes.LegChange.{LegChange}
 use Rattle.mesh_rules.specs.declared.changes.LegChange.TheVariants.{Goes, Put}
 use Rattle.mesh_rules.specs.Legs.{find_leg, legs_changed, with_leg, without_leg}
 use Rattle.mesh_rules.specs.LocalNodes.{LocalNode}
+use Rattle.mesh_rules.specs.Pairs.{is_two_way}
 use Rattle.mesh_rules.specs.State.{NodeState}
 use Rattle.mesh_nodes.proofs.LegList.{find-with_leg, find-without_leg, same_lsp-eq}
 use Rattle.mesh_laws.specs.HeardLaw.{sends_of}
-use Rattle.mesh_laws.proofs.sent.May.{AllMay, Given, May, SaidBefore, Says}
+use Rattle.mesh_laws.proofs.sent.May.{AllMay, Arms, Given, May, SaidBefore, Says, StaysWay, found-may}
 
 module _ (p : LocalNode) (s : NodeState) (Q : Given) where
   -- what a leg that is found afterwards may be
@@ -20,6 +22,8 @@ module _ (p : LocalNode) (s : NodeState) (Q : Given) where
     pub sent : (f : Fibre) (x : ℕ) → sends_of f x (Some g) ≡ true →
         (sends_of f x (find_leg l s.legs) ≡ true) ⊎ Q.labels l f x
     pub says : Says p s Q l g.path_role
+    pub arms : Arms p s Q g
+    pub way : StaysWay s l g
 
   abbrev AllFit : List Leg → Type 0
   AllFit legs = (l : Lsp) (g : Leg) → find_leg l legs ≡ Some g → Fits l g
@@ -28,6 +32,8 @@ module _ (p : LocalNode) (s : NodeState) (Q : Given) where
   fit_now l g found = record {
     sent = λ f x h. inl (subst (λ o. sends_of f x o ≡ true) (sym found) h);
     says = SaidBefore g found refl;
+    arms = (found-may p s Q l g found).arms;
+    way = λ h there given. (let one : g ≡ h = cc (found, there) in ap is_two_way one);
   }
 
   went : (k : Lsp) (legs : List Leg) → AllFit legs → AllFit (without_leg k legs)
@@ -42,7 +48,12 @@ module _ (p : LocalNode) (s : NodeState) (Q : Given) where
     where
       go : (b : Bool) → same_lsp h.lsp l ≡ b → cond b (Some h) (find_leg l legs) ≡ Some g → Fits l g
       go true e is =
-          let here : Fits h.lsp h = record { sent = may.sent; says = may.says } in
+          let here : Fits h.lsp h = record {
+            sent = may.sent;
+            says = may.says;
+            arms = may.arms;
+            way = may.way;
+          } in
           let same : h ≡ g = cc is in
           subst (λ k. Fits k g) (same_lsp-eq h.lsp l e) (subst (Fits h.lsp) same here)
       go false e is = was l g is

@@ -1,11 +1,10 @@
 -- A removal leaves no leg of its LSP; and what a message brings goes back over the link that it came by.
 use Rattle.std.proofs.Common.{◌≡◌, ◌≢◌, ◌<◌, ℕ, suc, Bool, true, false, cond, not, List, [], ◌∷◌, refl, sym, ap, ◌∙◌, arith, inl, inr}
 use Rattle.std.specs.Prelude.{◌⊎◌, map, Option, Some, None}
-use Rattle.ason_base.specs.Network.{Network, far_end, find_link, receiver_of, sender_of}
+use Rattle.ason_base.specs.Network.{Network, receiver_of, sender_of}
 use Rattle.ason_base.specs.Lsps.{same_lsp}
 use Rattle.ason_base.specs.declared.calls.Phase.{Phase}
 use Rattle.ason_base.specs.declared.calls.Phase.TheVariants.{Asked, Held, Armed, Live, Closing, Falling}
-use Rattle.ason_base.specs.declared.calls.Role.{Role}
 use Rattle.ason_base.specs.declared.codes.ErrCode.{ErrCode}
 use Rattle.ason_base.specs.declared.ids.Fibre.{Fibre}
 use Rattle.ason_base.specs.declared.ids.Lsp.{Lsp}
@@ -26,16 +25,16 @@ use Rattle.mesh_rules.specs.PathErrs.{PathFailure, err_passed, removed}
 use Rattle.mesh_rules.specs.State.{NodeState}
 use Rattle.mesh_nodes.proofs.Cases.{if_cases}
 use Rattle.mesh_nodes.proofs.LegList.{find-without_leg, found-lsp, same_lsp-refl}
-use Rattle.mesh_laws.specs.HopShapes.{AskedLeg, NoLeg, IsTorn, leg_kind, msg_kind, phase_kind}
+use Rattle.mesh_laws.specs.HopShapes.{AskedLeg, NoLeg, IsTorn, StillWaits, leg_kind, msg_kind, phase_kind}
 use Rattle.mesh_laws.specs.HeardLaw.{brings}
-use Rattle.mesh_laws.proofs.hops.Plans.{Plan, IsRoute, distinct, fibre_at, hops, link_at, lt_true, node_at, same}
-use Rattle.mesh_laws.proofs.sent.Ends.{receiver-at}
+use Rattle.mesh_laws.proofs.hops.Plans.{Plan, IsRoute, distinct, fibre_at, hops, lt_true, node_at, same}
+use Rattle.mesh_laws.proofs.sent.Ends.{receiver-at, receiver-back, sender-at, sender-back}
 use Rattle.mesh_laws.proofs.hops.AnswersTaken.{RemovalTaken, removal_taken}
 use Rattle.mesh_laws.proofs.hops.RowStates.{nothing_torn}
-use Rattle.mesh_laws.proofs.hops.Purposes.{Purpose, UpFits, role_of}
+use Rattle.mesh_laws.proofs.hops.WayBack.{kind_torn}
+use Rattle.mesh_laws.proofs.hops.Purposes.{DownFits, HasUpstream, Purpose, UpFits, role_of}
 use Rattle.mesh_laws.proofs.hops.Chain.{Chain, HopAt, LegFits}
-use Rattle.mesh_laws.proofs.sent.May.{IsPlain}
-use Rattle.mesh_laws.proofs.sent.Takes.{up-link}
+use Rattle.mesh_laws.proofs.sent.Takes.{down-link, up-link}
 
 -- A removal
 
@@ -91,14 +90,6 @@ asked-is Live e = absurd (cc e)
 asked-is Closing e = absurd (cc e)
 asked-is Falling e = absurd (cc e)
 
-torn-is : (r : Role) (f : Phase) → IsTorn r (phase_kind f) → is_closing f ≡ true
-torn-is r Asked torn = elim torn [ ]
-torn-is r Held torn = elim torn [ ]
-torn-is r Armed torn = elim torn [ ]
-torn-is r Live torn = elim torn [ ]
-torn-is r Closing torn = refl
-torn-is r Falling torn = refl
-
 -- a fibre of the same link is this one or its reverse
 one-of-two : (f g : Fibre) → f.link.0 ≡ g.link.0 → (f ≡ g) ⊎ (f ≡ reverse g)
 one-of-two f g link = go f.forward g.forward refl refl
@@ -151,21 +142,29 @@ module _ (t : Network) (q : Purpose) (l : Lsp) (p : Plan) (from : NodeId) (route
           phase : (leg_kind (leg (node_at p i)) ≡ AskedLeg) ⊎ IsTorn (role_of q) (leg_kind (leg (node_at p i))) →
               (is_asked g.phase ≡ true) ⊎ (is_closing g.phase ≡ true)
           phase (inl asked) = inl (asked-is g.phase (rw is at asked))
-          phase (inr torn) = inr (torn-is (role_of q) g.phase (rw is at torn))
+          phase (inr torn) = inr (kind_torn (role_of q) g.phase (StillWaits (rw is at torn)))
 
   -- what a message that came up to place i brings is of the fibre on
-  pub up-over : (f : Fibre) (x : ℕ) (m : Msg) → UpFits p i m → IsPlain m → brings f x m ≡ true →
+  pub up-over : (f : Fibre) (x : ℕ) (m : Msg) → UpFits p i m → brings f x m ≡ true →
       sender_of t f ≡ Some (node_at p i) → receiver_of t f ≡ Some (node_at p (suc i))
-  up-over f x m fits plain h sends = go (one-of-two f (fibre_at t p i) (up-link p i f x m fits plain h))
+  up-over f x m fits h sends = go (one-of-two f (fibre_at t p i) (up-link p i f x m fits h))
     where
-      twice : (b : Bool) → not (not b) ≡ b
-      twice true = refl
-      twice false = refl
-
       go : (f ≡ fibre_at t p i) ⊎ (f ≡ reverse (fibre_at t p i)) → receiver_of t f ≡ Some (node_at p (suc i))
       go (inl is) = ap (receiver_of t) is ∙ receiver-at t p i apart (route.links i small)
       go (inr is) =
-          let back : sender_of t f ≡ receiver_of t (fibre_at t p i) =
-          ap (sender_of t) is ∙ ap (λ b. far_end (find_link t (link_at p i)) b) (twice (fibre_at t p i).forward) in
-          let there : sender_of t f ≡ Some (node_at p (suc i)) = back ∙ receiver-at t p i apart (route.links i small) in
+          let there : sender_of t f ≡ Some (node_at p (suc i)) =
+          ap (sender_of t) is ∙ sender-back t p i apart (route.links i small) in
           absurd (apart (ap (λ n. n.0) (some-is _ _ (sym sends ∙ there))))
+
+  -- and down to the place after it, of the fibre back
+  pub down-over : (f : Fibre) (x : ℕ) (b : Option ℕ) (m : Msg) → DownFits q p i m → HasUpstream b m →
+      brings f x m ≡ true → sender_of t f ≡ Some (node_at p (suc i)) → receiver_of t f ≡ Some (node_at p i)
+  down-over f x b m fits label h sends =
+      go (one-of-two f (fibre_at t p i) (down-link q p i f x b m fits label h))
+    where
+      go : (f ≡ fibre_at t p i) ⊎ (f ≡ reverse (fibre_at t p i)) → receiver_of t f ≡ Some (node_at p i)
+      go (inr is) = ap (receiver_of t) is ∙ receiver-back t p i apart (route.links i small)
+      go (inl is) =
+          let here : sender_of t f ≡ Some (node_at p i) =
+          ap (sender_of t) is ∙ sender-at t p i apart (route.links i small) in
+          absurd (apart (ap (λ n. n.0) (some-is _ _ (sym here ∙ sends))))

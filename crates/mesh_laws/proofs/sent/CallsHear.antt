@@ -1,14 +1,16 @@
 -- What a call's steps do with labels that are sent: none lets go of an LSP, and no leg sends more.
 use Rattle.std.proofs.Common.{◌≡◌, ◌≤◌, Bool, true, false, drop, nat_lt, List, refl, arith}
 use Rattle.std.specs.Prelude.{Option, Some, None, IfSome, is_some}
-use Rattle.ason_base.specs.Codes.{busy_code}
+use Rattle.ason_base.specs.Codes.{busy_code, label_code}
 use Rattle.ason_base.specs.Risks.{unknown_link}
 use Rattle.ason_base.specs.declared.calls.CallState.{CallState}
 use Rattle.ason_base.specs.declared.calls.CallState.TheVariants.{Asking, Bare, Blocked, Guarded, Pairing, Stuck, Turned, Turning}
 use Rattle.ason_base.specs.declared.calls.Cause.{Cause}
 use Rattle.ason_base.specs.declared.calls.Cause.TheVariants.{BackDown, Code, Full, NoBackup, Spent}
-use Rattle.ason_base.specs.declared.calls.Phase.TheVariants.{Armed, Held}
+use Rattle.ason_base.specs.declared.calls.Phase.TheVariants.{Armed}
+use Rattle.ason_base.specs.declared.calls.Role.TheVariants.{Back}
 use Rattle.ason_base.specs.declared.codes.ErrCode.{ErrCode}
+use Rattle.ason_base.specs.declared.ids.CallNo.{CallNo}
 use Rattle.ason_base.specs.declared.network.LinkSpec.{LinkSpec}
 use Rattle.ason_base.specs.declared.steps.Step.{Step}
 use Rattle.ason_base.specs.declared.tables.CallRec.{CallRec}
@@ -16,25 +18,28 @@ use Rattle.ason_base.specs.declared.tables.Leg.{Leg}
 use Rattle.mesh_rules.specs.declared.limits.TheConstants.{LAST_NUMBER}
 use Rattle.mesh_rules.specs.declared.neighbours.Neighbour.{Neighbour}
 use Rattle.mesh_rules.specs.CallSteps.{call_answered, call_contended, call_refused, call_turned}
-use Rattle.mesh_rules.specs.Calls.{bare, blocked, guarded, is_asking, is_pairing, is_turning, stuck, turned}
+use Rattle.mesh_rules.specs.Calls.{bare, blocked, find_call, guarded, is_asking, is_pairing, is_turning, stuck, turned}
 use Rattle.mesh_rules.specs.Changes.{Answer, nothing}
-use Rattle.mesh_rules.specs.FirstLegs.{NewLsp, first_leg, first_link, is_full}
+use Rattle.mesh_rules.specs.FirstLegs.{NewLsp, first_leg, first_link, is_full, lacks_first_back}
 use Rattle.mesh_rules.specs.KnownRows.{known_rows}
-use Rattle.mesh_rules.specs.Legs.{following, is_contended, is_held, is_in_use, is_work}
+use Rattle.mesh_rules.specs.Legs.{following, is_contended, is_held, is_in_use, is_work, leg_of}
 use Rattle.mesh_rules.specs.LocalNodes.{LocalNode}
-use Rattle.mesh_rules.specs.Pairs.{backup_lsp, backup_route, leaves_bare, over_backup, pair, pair_over, route_from}
+use Rattle.mesh_rules.specs.Pairs.{backup_lsp, backup_route, guarding, is_two_way, leaves_bare, over_backup, pair}
+use Rattle.mesh_rules.specs.Pairs.{pair_over, route_from}
 use Rattle.mesh_rules.specs.State.{NodeState}
 use Rattle.mesh_rules.specs.Turns.{activating_path, call_put, decide, decided, go_back, has_any, taking_path, turn}
 use Rattle.mesh_nodes.proofs.Cases.{if_cases}
+use Rattle.mesh_laws.proofs.hops.NamedPhases.{named_is}
+use Rattle.mesh_laws.proofs.hops.Plans.{same_node}
+use Rattle.mesh_laws.proofs.nodes.Facts.{NodeFacts}
+use Rattle.mesh_laws.proofs.nodes.LegEnds.{leg_of-own}
 use Rattle.mesh_laws.proofs.sent.LegsHear.{first-sends}
-use Rattle.mesh_laws.proofs.sent.May.{Calm, Given, May, NoneRemoves, SaidFirst, idle, phased-may}
+use Rattle.mesh_laws.proofs.sent.May.{Calm, Given, May, MayHere, NoneRemoves, SaidFirst, found-may, held-may}
+use Rattle.mesh_laws.proofs.sent.May.{here-may, idle}
 
 module _ (p : LocalNode) (s : NodeState) (Q : Given) where
   abbrev IsCalm : Answer → Type 0
   IsCalm a = Calm p s Q a
-
-  abbrev IsGood : Leg → Type 0
-  IsGood g = May p s Q g
 
   still : IsCalm nothing
   still = idle p s Q
@@ -44,37 +49,42 @@ module _ (p : LocalNode) (s : NodeState) (Q : Given) where
   first-may n here new = record {
     sent = λ f x h. absurd (first-sends p (known_rows p s) n f x h);
     says = SaidFirst here new;
-    plain = refl;
+    arms = λ back used away. absurd (cc used);
+    way = λ h there given. absurd (omega arith);
   }
 
   -- What a call makes of its state, its backup and its working LSP, a lemma for each of the definitions
   pub put-calm : (c : CallRec) → Calm p s Q (call_put c)
   put-calm c = record { legs = tt; sent = tt }
 
-  activating-none : (b : Leg) (o : Option Neighbour) → IsGood b → NoneRemoves (activating_path b o)
-  activating-none b None may = tt
-  activating-none b (Some h) may = ((refl, may.plain), tt)
+  activating-none : (b : Leg) (o : Option Neighbour) → NoneRemoves (activating_path b o)
+  activating-none b None = tt
+  activating-none b (Some h) = (refl, tt)
 
-  taking-none : (b : Leg) (o : Option Neighbour) → IsGood b → NoneRemoves (taking_path b o)
-  taking-none b None may = tt
-  taking-none b (Some h) may = ((refl, may.plain), tt)
+  taking-none : (b : Leg) (o : Option Neighbour) → NoneRemoves (taking_path b o)
+  taking-none b None = tt
+  taking-none b (Some h) = (refl, tt)
 
-  pub turn-calm : (c : CallRec) (o : Option Leg) → IfSome o (May p s Q) → Calm p s Q (turn s.legs c o)
+  pub turn-calm : (c : CallRec) (o : Option Leg) → IfSome o (MayHere p s Q) → Calm p s Q (turn s.legs c o)
   turn-calm c None may = put-calm c
   turn-calm c (Some b) may =
       if_cases IsCalm (is_held b.phase) _ _
       (λ e. if_cases IsCalm (is_contended s.legs b) _ _ (λ busy. put-calm (stuck c (Code busy_code)))
-      (λ free. record { legs = (phased-may p s Q Armed b may, tt); sent = activating-none b (following b) may }))
+      (λ free. record { legs = ((here-may p s Q Armed b may).0, tt); sent = activating-none b (following b) }))
       (λ e. put-calm c)
 
   pub go_back-calm : (c : CallRec) (o : Option Leg) → IfSome o (May p s Q) → Calm p s Q (go_back c o)
   go_back-calm c None may = put-calm c
   go_back-calm c (Some b) may =
       if_cases IsCalm (is_in_use b.phase) _ _
-      (λ e. record { legs = (phased-may p s Q Held b may, tt); sent = taking-none b (following b) may })
+      (λ e. record { legs = (held-may p s Q b may, tt); sent = taking-none b (following b) })
       (λ e. put-calm c)
 
-  decided-calm : (c : CallRec) (o : Option Leg) (state : CallState) (works backs : Bool) → IfSome o (May p s Q) →
+  may-of : (o : Option Leg) → IfSome o (MayHere p s Q) → IfSome o (May p s Q)
+  may-of None may = tt
+  may-of (Some b) may = may.0
+
+  decided-calm : (c : CallRec) (o : Option Leg) (state : CallState) (works backs : Bool) → IfSome o (MayHere p s Q) →
       IsCalm (decided s.legs c o state works backs)
   decided-calm c o Asking works backs may = put-calm c
   decided-calm c o Blocked works backs may = put-calm c
@@ -85,12 +95,12 @@ module _ (p : LocalNode) (s : NodeState) (Q : Given) where
   decided-calm c o Guarded false backs may = put-calm c
   decided-calm c o Turning works backs may = put-calm c
   decided-calm c o Turned true backs may = put-calm c
-  decided-calm c o Turned false true may = go_back-calm c o may
+  decided-calm c o Turned false true may = go_back-calm c o (may-of o may)
   decided-calm c o Turned false false may = put-calm c
   decided-calm c o Stuck true backs may = put-calm c
   decided-calm c o Stuck false backs may = put-calm (guarded c)
 
-  pub decide-calm : (c : CallRec) (o : Option Leg) → IfSome o (May p s Q) → Calm p s Q (decide s.legs c o)
+  pub decide-calm : (c : CallRec) (o : Option Leg) → IfSome o (MayHere p s Q) → Calm p s Q (decide s.legs c o)
   decide-calm c o may = decided-calm c o c.state (has_any c.work_reports) (has_any c.back_reports) may
 
   bare-calm : (c : CallRec) (cause : Cause) → IsCalm (leaves_bare c cause)
@@ -107,30 +117,31 @@ module _ (p : LocalNode) (s : NodeState) (Q : Given) where
       over route (Some out) =
           if_cases IsCalm (nat_lt LAST_NUMBER s.lsp) _ _ (λ e. bare-calm c Spent)
           (λ e. if_cases IsCalm (is_full s) _ _ (λ e. bare-calm c Full)
+          (λ e. if_cases IsCalm (lacks_first_back p s (is_two_way w) (guarding p w) out) _ _
+          (λ e. bare-calm c (Code label_code))
           (λ e. record {
             legs = (first-may (backup_lsp p s w out (drop 1 route)) here (omega arith), tt);
-            sent = ((refl, refl), tt);
-          }))
+            sent = (refl, tt);
+          })))
 
       along : (o : Option (List Step)) → IsCalm (pair_over p s c w o)
       along None = bare-calm c NoBackup
       along (Some route) = over route (first_link p route)
 
-  pub answered-calm : (g : Leg) (o : Option CallRec) → g.lsp.ingress ≡ p.id → May p s Q g →
-      Calm p s Q (call_answered p s g o)
-  answered-calm g None here may = still
-  answered-calm g (Some c) here may =
+  pub answered-calm : (g : Leg) (o : Option CallRec) → MayHere p s Q g → Calm p s Q (call_answered p s g o)
+  answered-calm g None may = still
+  answered-calm g (Some c) may =
       if_cases IsCalm (is_work g.role) _ _
       (λ e. if_cases IsCalm (is_asking c.state) _ _
-      (λ e. if_cases IsCalm c.protected _ _ (λ e. pair-calm c g here) (λ e. put-calm (bare c))) (λ e. still))
+      (λ e. if_cases IsCalm c.protected _ _ (λ e. pair-calm c g may.1) (λ e. put-calm (bare c))) (λ e. still))
       (λ e. if_cases IsCalm (is_pairing c.state) _ _ (λ e. decide-calm (guarded c) (Some g) may) (λ e. still))
 
-  pub turned-calm : (b : Leg) (o : Option CallRec) → May p s Q b → Calm p s Q (call_turned s b o)
+  pub turned-calm : (b : Leg) (o : Option CallRec) → MayHere p s Q b → Calm p s Q (call_turned s b o)
   turned-calm b None may = still
   turned-calm b (Some c) may =
       if_cases IsCalm (is_turning c.state) _ _ (λ e. decide-calm (turned c) (Some b) may) (λ e. still)
 
-  pub contended-calm : (b : Leg) (o : Option CallRec) → May p s Q b → Calm p s Q (call_contended s b o)
+  pub contended-calm : (b : Leg) (o : Option CallRec) → MayHere p s Q b → Calm p s Q (call_contended s b o)
   contended-calm b None may = still
   contended-calm b (Some c) may =
       if_cases IsCalm (is_turning c.state) _ _ (λ e. decide-calm (stuck c (Code busy_code)) (Some b) may)
@@ -142,3 +153,15 @@ module _ (p : LocalNode) (s : NodeState) (Q : Given) where
       if_cases IsCalm (is_work g.role) _ _
       (λ e. if_cases IsCalm (is_asking c.state) _ _ (λ e. put-calm (blocked c (Code code))) (λ e. still))
       (λ e. if_cases IsCalm (is_pairing c.state) _ _ (λ e. bare-calm c (Code code)) (λ e. still))
+
+-- the leg of a call's backup begins here
+pub backup-may : (p : LocalNode) (s : NodeState) (Q : Given) → NodeFacts p.id.0 s → (k : CallNo) (c : CallRec) →
+    find_call k s.calls ≡ Some c → IfSome (leg_of c.back s.legs) (MayHere p s Q)
+backup-may p s Q facts k c found = go (leg_of c.back s.legs) refl
+  where
+    go : (o : Option Leg) → leg_of c.back s.legs ≡ o → IfSome o (MayHere p s Q)
+    go None is = tt
+    go (Some b) is =
+        let own = leg_of-own c.back s.legs b is in
+        let named = named_is p.id.0 s.lsp s.legs Back c.egress c.back b.lsp (facts.call k c found).back own.0 in
+        (found-may p s Q b.lsp b own.1, same_node b.lsp.ingress p.id named.ingress)

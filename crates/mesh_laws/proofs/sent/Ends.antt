@@ -59,6 +59,13 @@ module _ (t : Network) (p : Plan) (i : ℕ) (apart : (node_at p i).0 ≢ (node_a
   pub receiver-back : receiver_of t (reverse (fibre_at t p i)) ≡ Some (node_at p i)
   receiver-back = sender-at
 
+  pub sender-back : sender_of t (reverse (fibre_at t p i)) ≡ Some (node_at p (suc i))
+  sender-back = ap (far_end (find_link t (link_at p i))) (twice (fibre_at t p i).forward) ∙ receiver-at
+    where
+      twice : (b : Bool) → not (not b) ≡ b
+      twice true = refl
+      twice false = refl
+
 -- a fibre is known by its link and its ends
 pub one-fibre : (t : Network) (f g : Fibre) (u d : NodeId) → u.0 ≢ d.0 → f.link.0 ≡ g.link.0 →
     receiver_of t f ≡ Some d → sender_of t f ≡ Some u → receiver_of t g ≡ Some d → f ≡ g

@@ -35,7 +35,7 @@ to-removes b (o ∷ outs) h = go (nat_eq o.to.0 b) (to-removes b outs h.1)
     go : (c : Bool) → NoneLetsGo (sent_to b outs) →
         NoneLetsGo
         (map (λ o. o.msg) (cond c (o ∷ filter (λ o. nat_eq o.to.0 b) outs) (filter (λ o. nat_eq o.to.0 b) outs)))
-    go true more = (h.0.0, more)
+    go true more = (h.0, more)
     go false more = more
 
 bare-brings : (f : Fibre) (x : ℕ) (m : Msg) → is_labelled m ≡ false → brings f x m ≡ false

@@ -24,10 +24,8 @@ use Rattle.mesh_laws.proofs.hops.Planned.{Follows, Routes}
 use Rattle.mesh_laws.proofs.hops.Plans.{Plan, node_at, plan, same, same_node}
 use Rattle.mesh_laws.proofs.hops.Purposes.{role_of}
 use Rattle.mesh_laws.proofs.hops.Rows.{no_removal_down}
-use Rattle.mesh_laws.proofs.sent.Answers.{none-down}
-use Rattle.mesh_laws.proofs.sent.Brought.{removal-goes, up-over}
-use Rattle.mesh_laws.proofs.sent.May.{IsPlain}
-use Rattle.mesh_laws.proofs.sent.Standing.{Standing, each-own, first-of}
+use Rattle.mesh_laws.proofs.sent.Brought.{down-over, removal-goes, up-over}
+use Rattle.mesh_laws.proofs.sent.Standing.{Standing, first-of}
 
 module _ (t : Network) (o w : Routes) (s : Mesh) (now : Standing t o w s) (here : LocalNode) (u d : NodeId)
     (m : Msg) (rest : List Msg) (first : s.mail u.0 d.0 ≡ m ∷ rest) where
@@ -111,9 +109,6 @@ module _ (t : Network) (o w : Routes) (s : Mesh) (now : Standing t o w s) (here 
       mine : mail_between s l u d ≡ m ∷ messages_of l rest
       mine = first-of s l u d m rest first own
 
-      plain : IsPlain m
-      plain = let all = rw first at (now.plain u.0 d.0) in all.0
-
       go : (c : Option (List Step)) → Follows t s o l c → receiver_of t f ≡ Some u
       go None f' = absurd (let none = f'.mail u d in cc (none, mine))
       go (Some route) (end, q, pl) = way (pl.chain.ways u d)
@@ -129,10 +124,10 @@ module _ (t : Network) (o w : Routes) (s : Mesh) (now : Standing t o w s) (here 
               let list : mail_between s l (node_at p i) (node_at p (suc i)) ≡ m ∷ messages_of l rest =
               subst (λ n. mail_between s l (node_at p i) n ≡ m ∷ messages_of l rest) d_is
               (subst (λ n. mail_between s l n d ≡ m ∷ messages_of l rest) u_is mine) in
-              let shape = rw list at (pl.chain.each i small).shape in
-              let none = none-down (role_of q) _ _ f x (m ∷ messages_of l rest) _
-              (plain, each-own IsPlain l rest (let all = rw first at (now.plain u.0 d.0) in all.1)) shape in
-              absurd (let not = none.0 in cc (not, h))
+              let downs = rw list at (pl.chain.each i small).rest.going_down in
+              let labels = rw list at (pl.chain.each i small).rest.upstream in
+              down-over t q l p l.ingress pl.route (leg_at s l) (mail_between s l) pl.chain i small f x _ m downs.0
+              labels.0 h (from ∙ ap Some d_is) ∙ ap Some (sym u_is)
           way (inr (i, small, inr (at_u, at_d))) =
               let u_is : u ≡ node_at p (suc i) = same_node u (node_at p (suc i)) at_u in
               let d_is : d ≡ node_at p i = same_node d (node_at p i) at_d in
@@ -140,5 +135,5 @@ module _ (t : Network) (o w : Routes) (s : Mesh) (now : Standing t o w s) (here 
               subst (λ n. mail_between s l (node_at p (suc i)) n ≡ m ∷ messages_of l rest) d_is
               (subst (λ n. mail_between s l n d ≡ m ∷ messages_of l rest) u_is mine) in
               let ups = rw list at (pl.chain.each i small).rest.going_up in
-              up-over t q l p l.ingress pl.route (leg_at s l) (mail_between s l) pl.chain i small f x m ups.0 plain h
+              up-over t q l p l.ingress pl.route (leg_at s l) (mail_between s l) pl.chain i small f x m ups.0 h
               (from ∙ ap Some d_is) ∙ ap Some (sym u_is)

@@ -1,9 +1,10 @@
 -- What orders, alarms, clears and ticks do with labels that are sent: none lets go of an LSP, and no leg sends more.
 use Rattle.std.proofs.Common.{◌≡◌, ◌+◌, ℕ, not, drop, nat_eq, nat_le, List, [], ◌∷◌, refl, arith}
 use Rattle.std.specs.Prelude.{◌&&◌, Option, Some, None, IfSome}
+use Rattle.ason_base.specs.Codes.{label_code}
 use Rattle.ason_base.specs.Lsps.{has_fibre}
 use Rattle.ason_base.specs.declared.calls.Cause.{Cause}
-use Rattle.ason_base.specs.declared.calls.Cause.TheVariants.{Full, NoRoute, Spent}
+use Rattle.ason_base.specs.declared.calls.Cause.TheVariants.{Code, Full, NoRoute, Spent}
 use Rattle.ason_base.specs.declared.codes.ErrCode.{ErrCode}
 use Rattle.ason_base.specs.declared.commands.Command.TheVariants.{Setup, Release, Protect, Retry, Revert, Fail, Repair}
 use Rattle.ason_base.specs.declared.commands.DeskItem.{DeskItem}
@@ -13,6 +14,7 @@ use Rattle.ason_base.specs.declared.ids.Fibre.{Fibre}
 use Rattle.ason_base.specs.declared.ids.Lsp.{Lsp}
 use Rattle.ason_base.specs.declared.ids.NodeId.{NodeId}
 use Rattle.ason_base.specs.declared.calls.Role.TheVariants.{Work}
+use Rattle.ason_base.specs.declared.messages.PathRole.TheVariants as path
 use Rattle.ason_base.specs.declared.network.LinkSpec.{LinkSpec}
 use Rattle.ason_base.specs.declared.steps.Step.{Step}
 use Rattle.ason_base.specs.declared.tables.CallRec.{CallRec}
@@ -22,7 +24,7 @@ use Rattle.mesh_rules.specs.declared.neighbours.Neighbour.{Neighbour}
 use Rattle.mesh_rules.specs.Alarms.{enters, notice_of, notices, notify_to}
 use Rattle.mesh_rules.specs.Calls.{find_call, is_bare, is_stuck, is_turned}
 use Rattle.mesh_rules.specs.Changes.{Answer, changes_calls, followed_by, nothing}
-use Rattle.mesh_rules.specs.FirstLegs.{first_link, is_full}
+use Rattle.mesh_rules.specs.FirstLegs.{first_link, is_full, lacks_first_back}
 use Rattle.mesh_rules.specs.KnownRows.{known_rows}
 use Rattle.mesh_rules.specs.LeastRoutes.{Trip, least_trip}
 use Rattle.mesh_rules.specs.Legs.{following, leg_of, previous}
@@ -41,8 +43,8 @@ use Rattle.mesh_laws.proofs.hops.NamedPhases.{named_is}
 use Rattle.mesh_laws.proofs.hops.Plans.{same_node}
 use Rattle.mesh_laws.proofs.nodes.Facts.{NodeFacts}
 use Rattle.mesh_laws.proofs.nodes.LegEnds.{leg_of-own}
-use Rattle.mesh_laws.proofs.sent.CallsHear.{first-may, go_back-calm, pair-calm, put-calm, turn-calm}
-use Rattle.mesh_laws.proofs.sent.May.{Calm, Given, LegsPlain, May, NoneRemoves, append-removes, both, closed-may, idle, leg_of-may}
+use Rattle.mesh_laws.proofs.sent.CallsHear.{backup-may, first-may, go_back-calm, pair-calm, put-calm, turn-calm}
+use Rattle.mesh_laws.proofs.sent.May.{Calm, Given, May, NoneRemoves, append-removes, both, closed-may, idle, leg_of-may}
 
 module _ (p : LocalNode) (s : NodeState) (Q : Given) (facts : NodeFacts p.id.0 s) where
   abbrev IsCalm : Answer → Type 0
@@ -51,11 +53,8 @@ module _ (p : LocalNode) (s : NodeState) (Q : Given) (facts : NodeFacts p.id.0 s
   still : IsCalm nothing
   still = idle p s Q
 
-  plain : LegsPlain s.legs
-  plain l g found = (facts.leg l g found).back_in
-
   leg_may : (o : Option Lsp) → IfSome (leg_of o s.legs) (May p s Q)
-  leg_may o = leg_of-may p s Q plain o
+  leg_may o = leg_of-may p s Q o
 
   -- Orders
 
@@ -71,10 +70,12 @@ module _ (p : LocalNode) (s : NodeState) (Q : Given) (facts : NodeFacts p.id.0 s
       over route (Some out) =
           if_cases IsCalm (is_spent s) _ _ (λ e. refused Spent)
           (λ e. if_cases IsCalm (is_full s) _ _ (λ e. refused Full)
+          (λ e. if_cases IsCalm (lacks_first_back p s w.both (path.Work w.protected) out) _ _
+          (λ e. refused (Code label_code))
           (λ e. record {
             legs = (first-may p s Q (working_lsp p s w out (drop 1 route)) refl (omega arith), tt);
-            sent = ((refl, refl), tt);
-          }))
+            sent = (refl, tt);
+          })))
 
       found : (o : Option Trip) → IsCalm (over_found p s w o)
       found None = refused NoRoute
@@ -97,12 +98,13 @@ module _ (p : LocalNode) (s : NodeState) (Q : Given) (facts : NodeFacts p.id.0 s
           let named = named_is p.id.0 s.lsp s.legs Work c.egress c.work w.lsp (facts.call k c found).work own.0 in
           pair-calm p s Q c w (same_node w.lsp.ingress p.id named.ingress)
 
-  retry-calm : (from : NodeId) (o : Option CallRec) → IsCalm (retry_with p s from o)
-  retry-calm from None = still
-  retry-calm from (Some c) =
+  retry-calm : (k : CallNo) (from : NodeId) (o : Option CallRec) → find_call k s.calls ≡ o →
+      IsCalm (retry_with p s from o)
+  retry-calm k from None found = still
+  retry-calm k from (Some c) found =
       if_cases IsCalm (nat_eq from.0 p.id.0) _ _
       (λ e. if_cases IsCalm (is_stuck c.state && (has_any c.work_reports && not (has_any c.back_reports))) _ _
-      (λ e. turn-calm p s Q c (leg_of c.back s.legs) (leg_may c.back)) (λ e. still))
+      (λ e. turn-calm p s Q c (leg_of c.back s.legs) (backup-may p s Q facts k c found)) (λ e. still))
       (λ e. still)
 
   revert-calm : (from : NodeId) (o : Option CallRec) → IsCalm (revert_with p s from o)
@@ -126,7 +128,7 @@ module _ (p : LocalNode) (s : NodeState) (Q : Given) (facts : NodeFacts p.id.0 s
 
       tear-none : (g : Leg) (o : Option Neighbour) → NoneRemoves (tear_to g o)
       tear-none g None = tt
-      tear-none g (Some h) = ((refl, tt), tt)
+      tear-none g (Some h) = (refl, tt)
 
       one : (o : Option Leg) → IfSome o (May p s Q) → IsCalm (tears o)
       one None may = still
@@ -146,14 +148,14 @@ module _ (p : LocalNode) (s : NodeState) (Q : Given) (facts : NodeFacts p.id.0 s
     where
       told : (o : Option Neighbour) → NoneRemoves (notify_to p f code g o)
       told None = tt
-      told (Some h) = ((refl, tt), tt)
+      told (Some h) = (refl, tt)
 
   -- each item of a desk
   pub item-calm : (i : DeskItem) → Calm p s Q (on_item p s i)
   item-calm (Order (Setup n from to protected two via backup)) = setup-calm _ (find_call n s.calls)
   item-calm (Order (Release n from)) = release-calm from (find_call n s.calls)
   item-calm (Order (Protect n from)) = protect-calm n from (find_call n s.calls) refl
-  item-calm (Order (Retry n from)) = retry-calm from (find_call n s.calls)
+  item-calm (Order (Retry n from)) = retry-calm n from (find_call n s.calls) refl
   item-calm (Order (Revert n from)) = revert-calm from (find_call n s.calls)
   item-calm (Order (Fail g)) = still
   item-calm (Order (Repair g)) = still

@@ -9,14 +9,17 @@ use Rattle.ason_base.specs.declared.network.LinkSpec.{LinkSpec}
 use Rattle.ason_base.specs.declared.network.TeRow.{TeRow}
 use Rattle.ason_base.specs.declared.risks.Risk.{Risk}
 use Rattle.ason_base.specs.declared.steps.Step.{Step}
-use Rattle.ason_base.specs.declared.messages.Msg.TheVariants.{Resv}
+use Rattle.ason_base.specs.declared.messages.Msg.{Msg}
+use Rattle.ason_base.specs.declared.messages.Msg.TheVariants.{Path, Resv}
+use Rattle.ason_base.specs.declared.messages.PathRole.{PathRole}
 use Rattle.ason_base.specs.declared.tables.Leg.{Leg}
-use Rattle.mesh_rules.specs.LocalNodes.{LocalNode}
+use Rattle.mesh_rules.specs.LocalNodes.{LocalNode, fibre_in}
 use Rattle.mesh_rules.specs.FirstLegs.{NewLsp, first_leg}
-use Rattle.mesh_rules.specs.Legs.{connected, is_at, reverse_of, sends}
+use Rattle.mesh_rules.specs.Legs.{connected, is_at, reverse, reverse_of, sends}
 use Rattle.mesh_rules.specs.Paths.{PathRequest, egress_leg, transit_leg}
 use Rattle.mesh_nodes.proofs.LabelPlaces.{at-is, either, none-at, or-second}
 use Rattle.mesh_laws.specs.HeardLaw.{brings}
+use Rattle.mesh_laws.proofs.hops.Plans.{same}
 
 never-at : (o : Option Fibre) (f : Fibre) (x : ℕ) → is_at o None f x ≡ true → ⊥
 never-at o f x e = let none = none-at o f x in cc (none, e)
@@ -33,22 +36,42 @@ pub first-sends : (p : LocalNode) (rows : List TeRow) (n : NewLsp) (f : Fibre) (
 first-sends p rows n f x h =
     bare-sends (first_leg p rows n).out_fibre None f x (either (is_at (first_leg p rows n).out_fibre None f x) _ h)
 
--- Nor does one that a Path makes, at the egress or on the way.
-pub egress-sends : (p : LocalNode) (m : PathRequest) (link : LinkSpec) (risks : List Risk) (offered : List ℕ) (y : ℕ)
-    (f : Fibre) (x : ℕ) → sends f x (egress_leg p m link risks offered y) ≡ true → ⊥
-egress-sends p m link risks offered y f x h =
-    let leg : Leg = egress_leg p m link risks offered y in
-    bare-sends leg.out_fibre leg.in_fibre f x (either (is_at leg.out_fibre None f x) _ h)
-
-pub transit-sends : (p : LocalNode) (m : PathRequest) (link : LinkSpec) (risks : List Risk) (out : LinkSpec)
-    (route : List Step) (offered : List ℕ) (f : Fibre) (x : ℕ) →
-    sends f x (transit_leg p m link risks out route offered) ≡ true → ⊥
-transit-sends p m link risks out route offered f x h =
-    let leg : Leg = transit_leg p m link risks out route offered in
-    bare-sends leg.out_fibre leg.in_fibre f x (either (is_at leg.out_fibre None f x) _ h)
-
 link-is : (a b : Fibre) → Some a ≡ Some b → a.link.0 ≡ b.link.0
 link-is a b e = let is : a ≡ b = cc e in ap (λ f. f.link.0) is
+
+-- What a Path brings is its label for the way back, on the fibre that goes back over its link.
+back-brings : (f : Fibre) (x : ℕ) (enter : Fibre) (up : Option ℕ) (k : LinkId) (l : Lsp) (e : NodeId)
+    (route : List Step) (set : List ℕ) (r : PathRole) → enter.link.0 ≡ k.0 →
+    is_at (reverse_of (Some enter)) up f x ≡ true → brings f x (Path l e k route set up r) ≡ true
+back-brings f x enter up k l e route set r over h =
+    let at_f = at-is (reverse_of (Some enter)) up f x h in
+    let link : enter.link.0 ≡ f.link.0 = link-is (reverse enter) f at_f.0 in
+    let test : nat_eq k.0 f.link.0 ≡ true = grind arith in rw (test, at_f.1) (same x)
+
+-- A leg that a Path makes, at the egress or on the way, sends back the label that the Path brings.
+module _ (p : LocalNode) (m : PathRequest) (link : LinkSpec) (risks : List Risk) (offered : List ℕ) (f : Fibre) (x : ℕ)
+    (over : link.id.0 ≡ m.arrival.link.0) where
+  abbrev path : Msg
+  path = Path m.arrival.lsp m.arrival.egress m.arrival.link m.route m.set m.upstream m.role
+
+  made-sends : (o : Option Fibre) →
+      (is_at o None f x ≡ true) ⊎ (is_at (reverse_of (Some (fibre_in link p.id))) m.upstream f x ≡ true) →
+      brings f x path ≡ true
+  made-sends o (inl on) = absurd (never-at o f x on)
+  made-sends o (inr back) =
+      back-brings f x (fibre_in link p.id) m.upstream m.arrival.link m.arrival.lsp m.arrival.egress m.route m.set m.role
+      over back
+
+  pub egress-sends : (y : ℕ) → sends f x (egress_leg p m link risks offered y) ≡ true → brings f x path ≡ true
+  egress-sends y h =
+      let leg : Leg = egress_leg p m link risks offered y in
+      made-sends leg.out_fibre (either (is_at leg.out_fibre None f x) _ h)
+
+  pub transit-sends : (out : LinkSpec) (route : List Step) (back : Option ℕ) →
+      sends f x (transit_leg p m link risks out route offered back) ≡ true → brings f x path ≡ true
+  transit-sends out route back h =
+      let leg : Leg = transit_leg p m link risks out route offered back in
+      made-sends leg.out_fibre (either (is_at leg.out_fibre None f x) _ h)
 
 -- A leg whose Resv came sends its label, and what it sent before.
 pub connected-sends : (g : Leg) (label : Option ℕ) (y : ℕ) (f : Fibre) (x : ℕ) (l : Lsp) (e : NodeId) (k : LinkId)

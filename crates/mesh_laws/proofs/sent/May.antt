@@ -1,8 +1,12 @@
 -- What an answer may do with labels that are sent: a leg sends no more of them afterwards than before, or than the
--- message that was taken gives it; and no answer has both a message that lets go and one that brings a label.
-use Rattle.std.proofs.Common.{◌≡◌, ◌≤◌, ℕ, Bool, true, false, List, [], ◌∷◌, ◌++◌, refl, sym, subst, inl, inr}
+-- message that was taken gives it; and no answer has both a message that lets go and one that brings a label. And with
+-- backups: away from its ingress one is activated by a Path alone. And a leg stays two-way, or one-way.
+use Rattle.std.proofs.Common.{◌≡◌, ◌≤◌, ◌<◌, ℕ, Bool, true, false, List, [], ◌∷◌, ◌++◌, refl, sym, ap, subst, inl}
 use Rattle.std.specs.Prelude.{◌⊎◌, Option, Some, None, IfSome}
 use Rattle.ason_base.specs.declared.calls.Phase.{Phase}
+use Rattle.ason_base.specs.declared.calls.Phase.TheVariants.{Asked, Held, Armed, Live, Closing, Falling}
+use Rattle.ason_base.specs.declared.calls.Role.{Role}
+use Rattle.ason_base.specs.declared.calls.Role.TheVariants.{Work, Back}
 use Rattle.ason_base.specs.declared.ids.Fibre.{Fibre}
 use Rattle.ason_base.specs.declared.ids.Lsp.{Lsp}
 use Rattle.ason_base.specs.declared.messages.Msg.{Msg}
@@ -13,8 +17,11 @@ use Rattle.ason_base.specs.declared.tables.Out.{Out}
 use Rattle.mesh_rules.specs.declared.changes.LegChange.{LegChange}
 use Rattle.mesh_rules.specs.declared.changes.LegChange.TheVariants.{Goes, Put}
 use Rattle.mesh_rules.specs.Changes.{Answer, followed_by, nothing}
-use Rattle.mesh_rules.specs.Legs.{closed, find_leg, leg_of, sends, with_phase}
+use Rattle.mesh_rules.specs.Legs.{closed, closing_phase, find_leg, is_armed, is_held, is_in_use, leg_of, reserved}
+use Rattle.mesh_rules.specs.Legs.{sends, with_phase}
 use Rattle.mesh_rules.specs.LocalNodes.{LocalNode}
+use Rattle.mesh_rules.specs.Pairs.{is_two_way}
+use Rattle.mesh_rules.specs.Paths.{is_active}
 use Rattle.mesh_rules.specs.State.{NodeState}
 use Rattle.mesh_nodes.proofs.LegList.{found-lsp}
 use Rattle.mesh_laws.specs.HeardLaw.{brings, lets_go, sends_of}
@@ -31,22 +38,10 @@ is_labelled (PathTear l e k) = false
 is_labelled (PathErr l e at gone code) = false
 is_labelled (Notify l e at k code) = false
 
--- no Path with an upstream label: all calls are one-way
-abbrev pub IsPlain : Msg → Type 0
-IsPlain (Path l e k route set up r) = up ≡ None
-IsPlain (Resv l e k y) = Unit {0}
-IsPlain (PathTear l e k) = Unit {0}
-IsPlain (PathErr l e at gone code) = Unit {0}
-IsPlain (Notify l e at k code) = Unit {0}
-
-abbrev pub AllPlain : List Out → Type 0
-AllPlain [] = Unit {0}
-AllPlain (o ∷ outs) = IsPlain o.msg × AllPlain outs
-
 -- none of these messages lets go
 abbrev pub NoneRemoves : List Out → Type 0
 NoneRemoves [] = Unit {0}
-NoneRemoves (o ∷ outs) = ((lets_go o.msg ≡ false) × IsPlain o.msg) × NoneRemoves outs
+NoneRemoves (o ∷ outs) = (lets_go o.msg ≡ false) × NoneRemoves outs
 
 -- none of them brings a label
 abbrev pub NoneLabels : List Out → Type 0
@@ -57,21 +52,6 @@ NoneLabels (o ∷ outs) = (is_labelled o.msg ≡ false) × NoneLabels outs
 pub append-removes : (a b : List Out) → NoneRemoves a → NoneRemoves b → NoneRemoves (a ++ b)
 append-removes [] b x y = y
 append-removes (o ∷ a) b x y = (x.0, append-removes a b x.1 y)
-
-removes-plain : (outs : List Out) → NoneRemoves outs → AllPlain outs
-removes-plain [] h = tt
-removes-plain (o ∷ outs) h = (h.0.1, removes-plain outs h.1)
-
-unlabelled-plain : (m : Msg) → is_labelled m ≡ false → IsPlain m
-unlabelled-plain (Path l e k route set up r) h = absurd (cc h)
-unlabelled-plain (Resv l e k y) h = tt
-unlabelled-plain (PathTear l e k) h = tt
-unlabelled-plain (PathErr l e at gone code) h = tt
-unlabelled-plain (Notify l e at k code) h = tt
-
-labels-plain : (outs : List Out) → NoneLabels outs → AllPlain outs
-labels-plain [] h = tt
-labels-plain (o ∷ outs) h = (unlabelled-plain o.msg h.0, labels-plain outs h.1)
 
 -- Legs
 
@@ -106,12 +86,41 @@ pub data Says (p : LocalNode) (s : NodeState) (Q : Given) (l : Lsp) (r : PathRol
   SaidNow : Q.roles l r → Says p s Q l r
   SaidFirst : l.ingress ≡ p.id → s.lsp ≤ l.lsp → Says p s Q l r
 
+-- a leg of the same role, with the same label in and the same back label out on the fibre by which its Path comes
+pub record SameIn (v g : Leg) : Type 0 where
+  pub role : v.role ≡ g.role
+  pub fibre : v.in_fibre ≡ g.in_fibre
+  pub label : v.in_label ≡ g.in_label
+  pub back : v.back_out ≡ g.back_out
+
+-- from where a backup's leg is Armed or Live: the leg was so already, or it was Held and the message activates it
+pub data InUse (s : NodeState) (Q : Given) (g : Leg) : Type 0 where
+  WasInUse : (v : Leg) → find_leg g.lsp s.legs ≡ Some v → is_in_use v.phase ≡ true → SameIn v g → InUse s Q g
+  Activated : (v : Leg) (r : PathRole) → find_leg g.lsp s.legs ≡ Some v → is_held v.phase ≡ true → SameIn v g →
+      Q.roles g.lsp r → is_active r ≡ true → InUse s Q g
+
+pub same-in : (g : Leg) → SameIn g g
+same-in g = record { role = refl; fibre = refl; label = refl; back = refl }
+
+-- away from its ingress
+abbrev pub Arms : LocalNode → NodeState → Given → Leg → Type 0
+Arms p s Q g = g.role ≡ Back → is_in_use g.phase ≡ true → (g.lsp.ingress ≡ p.id → ⊥) → InUse s Q g
+
+-- the leg of an LSP whose number was given out is two-way where the leg that stands is
+abbrev pub StaysWay : NodeState → Lsp → Leg → Type 0
+StaysWay s l g = (h : Leg) → find_leg l s.legs ≡ Some h → l.lsp < s.lsp → is_two_way g ≡ is_two_way h
+
 -- A leg of p, which keeps s, that may be put: it sends what its LSP's leg did, or what is given.
 pub record May (p : LocalNode) (s : NodeState) (Q : Given) (g : Leg) : Type 0 where
   pub sent : (f : Fibre) (x : ℕ) → sends f x g ≡ true →
       (sends_of f x (find_leg g.lsp s.legs) ≡ true) ⊎ Q.labels g.lsp f x
   pub says : Says p s Q g.lsp g.path_role
-  pub plain : g.back_in ≡ None
+  pub arms : Arms p s Q g
+  pub way : StaysWay s g.lsp g
+
+-- the leg of an LSP that begins at p
+abbrev pub MayHere : LocalNode → NodeState → Given → Leg → Type 0
+MayHere p s Q g = May p s Q g × (g.lsp.ingress ≡ p.id)
 
 -- each leg that is put
 abbrev pub AllMay : LocalNode → NodeState → Given → List LegChange → Type 0
@@ -125,10 +134,6 @@ append-may p s Q [] b x y = y
 append-may p s Q (Goes l ∷ a) b x y = append-may p s Q a b x y
 append-may p s Q (Put g ∷ a) b x y = (x.0, append-may p s Q a b x.1 y)
 
--- the legs of a node send nothing back
-abbrev pub LegsPlain : List Leg → Type 0
-LegsPlain legs = (l : Lsp) (g : Leg) → find_leg l legs ≡ Some g → g.back_in ≡ None
-
 -- Answers
 
 -- to an item of a desk, or a tick
@@ -141,12 +146,22 @@ pub record Fine (p : LocalNode) (s : NodeState) (Q : Given) (a : Answer) : Type 
   pub legs : AllMay p s Q a.legs
   pub sent : NoneRemoves a.sent ⊎ NoneLabels a.sent
 
--- no Path of an answer has an upstream label
-pub fine-plain : (p : LocalNode) (s : NodeState) (Q : Given) (a : Answer) → Fine p s Q a → AllPlain a.sent
-fine-plain p s Q a f = elim f.sent [
-  | inl none ↦ removes-plain a.sent none
-  | inr none ↦ labels-plain a.sent none
-]
+-- Phases
+
+closed-idle : (f : Phase) (r : Role) → is_in_use (closing_phase f r) ≡ true → ⊥
+closed-idle Asked r e = cc e
+closed-idle Held r e = cc e
+closed-idle Armed Work e = cc e
+closed-idle Armed Back e = cc e
+closed-idle Live Work e = cc e
+closed-idle Live Back e = cc e
+closed-idle Closing r e = cc e
+closed-idle Falling r e = cc e
+
+-- a backup that gets its label isn't activated
+pub reserved-idle : (r : Role) → r ≡ Back → is_in_use (reserved r) ≡ true → ⊥
+reserved-idle Work is e = cc is
+reserved-idle Back is e = cc e
 
 module _ (p : LocalNode) (s : NodeState) (Q : Given) where
   -- an answer that lets nothing go
@@ -166,30 +181,62 @@ module _ (p : LocalNode) (s : NodeState) (Q : Given) where
 
   -- Legs that may be put
 
-  -- a leg in another phase, and a torn one
-  pub phased-may : (q : Phase) (g : Leg) → May p s Q g → May p s Q (with_phase q g)
-  phased-may q g may = record { sent = may.sent; says = may.says; plain = may.plain }
+  -- a leg in another phase
+  pub phased-may : (q : Phase) (g : Leg) → Arms p s Q (with_phase q g) → May p s Q g → May p s Q (with_phase q g)
+  phased-may q g arms may = record { sent = may.sent; says = may.says; arms = arms; way = may.way }
 
+  -- one that is Held, one at its ingress, and one whose activation is confirmed
+  pub held-may : (g : Leg) → May p s Q g → May p s Q (with_phase Held g)
+  held-may g may = phased-may Held g (λ back used away. absurd (cc used)) may
+
+  pub here-may : (q : Phase) (g : Leg) → MayHere p s Q g → MayHere p s Q (with_phase q g)
+  here-may q g may = (phased-may q g (λ back used away. absurd (away may.1)) may.0, may.1)
+
+  pub confirmed-may : (g : Leg) → is_armed g.phase ≡ true → May p s Q g → May p s Q (with_phase Live g)
+  confirmed-may g armed may =
+      phased-may Live g (λ back used away. as_armed (may.arms back (armed-used g.phase armed) away)) may
+    where
+      armed-used : (f : Phase) → is_armed f ≡ true → is_in_use f ≡ true
+      armed-used Asked e = absurd (cc e)
+      armed-used Held e = absurd (cc e)
+      armed-used Armed e = refl
+      armed-used Live e = refl
+      armed-used Closing e = absurd (cc e)
+      armed-used Falling e = absurd (cc e)
+
+      as_armed : InUse s Q g → InUse s Q (with_phase Live g)
+      as_armed (WasInUse v found used same) =
+          WasInUse v found used
+          (record { role = same.role; fibre = same.fibre; label = same.label; back = same.back })
+      as_armed (Activated v r found held same given active) =
+          Activated v r found held
+          (record { role = same.role; fibre = same.fibre; label = same.label; back = same.back }) given active
+
+  -- a torn one
   pub closed-may : (g : Leg) → May p s Q g → May p s Q (closed g)
-  closed-may g may =
-      record { sent = λ f x h. may.sent f x (closed-sends g f x h); says = may.says; plain = may.plain }
+  closed-may g may = record {
+    sent = λ f x h. may.sent f x (closed-sends g f x h);
+    says = may.says;
+    arms = λ back used away. absurd (closed-idle g.phase g.role used);
+    way = may.way;
+  }
 
-  module _ (plain : LegsPlain s.legs) where
-    -- a leg that stands
-    pub found-may : (l : Lsp) (g : Leg) → find_leg l s.legs ≡ Some g → May p s Q g
-    found-may l g found =
-        let is : g.lsp ≡ l = found-lsp l s.legs g found in
-        let here : find_leg g.lsp s.legs ≡ Some g = subst (λ k. find_leg k s.legs ≡ Some g) (sym is) found in
-        record {
-          sent = λ f x h. inl (subst (λ o. sends_of f x o ≡ true) (sym here) h);
-          says = SaidBefore g here refl;
-          plain = plain l g found;
-        }
+  -- a leg that stands
+  pub found-may : (l : Lsp) (g : Leg) → find_leg l s.legs ≡ Some g → May p s Q g
+  found-may l g found =
+      let is : g.lsp ≡ l = found-lsp l s.legs g found in
+      let here : find_leg g.lsp s.legs ≡ Some g = subst (λ k. find_leg k s.legs ≡ Some g) (sym is) found in
+      record {
+        sent = λ f x h. inl (subst (λ o. sends_of f x o ≡ true) (sym here) h);
+        says = SaidBefore g here refl;
+        arms = λ back used away. WasInUse g here used (same-in g);
+        way = λ h there given. (let one : g ≡ h = cc (here, there) in ap is_two_way one);
+      }
 
-    pub leg_of-may : (o : Option Lsp) → IfSome (leg_of o s.legs) (May p s Q)
-    leg_of-may None = tt
-    leg_of-may (Some l) = go (find_leg l s.legs) refl
-      where
-        go : (o : Option Leg) → find_leg l s.legs ≡ o → IfSome o (May p s Q)
-        go None e = tt
-        go (Some g) e = found-may l g e
+  pub leg_of-may : (o : Option Lsp) → IfSome (leg_of o s.legs) (May p s Q)
+  leg_of-may None = tt
+  leg_of-may (Some l) = go (find_leg l s.legs) refl
+    where
+      go : (o : Option Leg) → find_leg l s.legs ≡ o → IfSome o (May p s Q)
+      go None e = tt
+      go (Some g) e = found-may l g e

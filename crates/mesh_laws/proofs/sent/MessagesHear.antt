@@ -30,14 +30,17 @@ use Rattle.mesh_rules.specs.Resvs.{answered, is_expected, labels_left, passed_ba
 use Rattle.mesh_rules.specs.State.{NodeState}
 use Rattle.mesh_rules.specs.Tears.{tear_with, torn}
 use Rattle.mesh_nodes.proofs.Cases.{both_left, both_right, if_cases}
+use Rattle.mesh_nodes.proofs.CallList.{called-found}
 use Rattle.mesh_nodes.proofs.LegList.{found-lsp}
 use Rattle.mesh_laws.specs.HeardLaw.{brings, sends_of}
 use Rattle.mesh_laws.proofs.hops.Plans.{same_node}
 use Rattle.mesh_laws.proofs.nodes.Facts.{NodeFacts}
 use Rattle.mesh_laws.proofs.nodes.LegEnds.{no_previous-here}
-use Rattle.mesh_laws.proofs.sent.CallsHear.{answered-calm, contended-calm, decide-calm, refused-calm, turned-calm}
+use Rattle.mesh_laws.proofs.sent.CallsHear.{answered-calm, backup-may, contended-calm, decide-calm, refused-calm}
+use Rattle.mesh_laws.proofs.sent.CallsHear.{turned-calm}
 use Rattle.mesh_laws.proofs.sent.LegsHear.{connected-sends}
-use Rattle.mesh_laws.proofs.sent.May.{Calm, Fine, Given, LegsPlain, May, both, closed-may, fine, found-may, gift, idle, is_labelled, leg_of-may, phased-may}
+use Rattle.mesh_laws.proofs.sent.May.{Calm, Fine, Given, May, both, closed-may, confirmed-may, fine, found-may, gift}
+use Rattle.mesh_laws.proofs.sent.May.{held-may, here-may, idle, is_labelled, reserved-idle}
 use Rattle.mesh_laws.proofs.sent.PathsHear.{again-calm, first-fine, resv-sent}
 
 module _ (p : LocalNode) (s : NodeState) (Q : Given) (facts : NodeFacts p.id.0 s) where
@@ -50,11 +53,8 @@ module _ (p : LocalNode) (s : NodeState) (Q : Given) (facts : NodeFacts p.id.0 s
   fine_still : IsFine nothing
   fine_still = fine p s Q nothing (idle p s Q)
 
-  plain : LegsPlain s.legs
-  plain l g found = (facts.leg l g found).back_in
-
   stands : (l : Lsp) (g : Leg) → find_leg l s.legs ≡ Some g → May p s Q g
-  stands l g found = found-may p s Q plain l g found
+  stands l g found = found-may p s Q l g found
 
   -- a leg without a previous node begins here
   begins : (l : Lsp) (g : Leg) → find_leg l s.legs ≡ Some g → previous g ≡ None → g.lsp.ingress ≡ p.id
@@ -75,7 +75,8 @@ module _ (p : LocalNode) (s : NodeState) (Q : Given) (facts : NodeFacts p.id.0 s
     connected-may g label found over = record {
       sent = λ f x h. go (following g) refl over f x h;
       says = (stands a.lsp g found).says;
-      plain = plain a.lsp g found;
+      arms = λ back used away. absurd (reserved-idle g.role back used);
+      way = (stands a.lsp g found).way;
     }
       where
         mine : g.lsp ≡ a.lsp
@@ -100,7 +101,7 @@ module _ (p : LocalNode) (s : NodeState) (Q : Given) (facts : NodeFacts p.id.0 s
     passed-fine g h None found over =
         record { legs = (closed-may p s Q g (stands a.lsp g found), tt); sent = inr (refl, (refl, tt)) }
     passed-fine g h (Some z) found over =
-        record { legs = (connected-may g (Some z) found over, tt); sent = inl ((refl, tt), tt) }
+        record { legs = (connected-may g (Some z) found over, tt); sent = inl (refl, tt) }
 
     answered-fine : (g : Leg) (o : Option Neighbour) → find_leg a.lsp s.legs ≡ Some g → previous g ≡ o →
         is_over (following g) a.from a.link ≡ true → IsFine (answered p s a y g o)
@@ -109,17 +110,21 @@ module _ (p : LocalNode) (s : NodeState) (Q : Given) (facts : NodeFacts p.id.0 s
         fine p s Q (answered p s a y g None)
         (both p s Q (puts (connected g None y) []) (call_answered p s (connected g None y) (call_with g.lsp s.calls))
         (record { legs = (may, tt); sent = tt })
-        (answered-calm p s Q (connected g None y) (call_with g.lsp s.calls) (begins a.lsp g found first) may))
+        (answered-calm p s Q (connected g None y) (call_with g.lsp s.calls) (may, begins a.lsp g found first)))
     answered-fine g (Some h) found first over =
         passed-fine g h (label_through p (labels_left p s g h) y) found over
 
-    confirmed-calm : (g : Leg) (o : Option Neighbour) → May p s Q g → IsCalm (confirmed s g o)
-    confirmed-calm g None may =
+    confirmed-calm : (g : Leg) (o : Option Neighbour) → find_leg a.lsp s.legs ≡ Some g → previous g ≡ o →
+        is_armed g.phase ≡ true → IsCalm (confirmed s g o)
+    confirmed-calm g None found first armed =
+        let may = here-may p s Q Live g (stands a.lsp g found, begins a.lsp g found first) in
         both p s Q (puts (with_phase Live g) []) (call_turned s (with_phase Live g) (call_with g.lsp s.calls))
-        (record { legs = (phased-may p s Q Live g may, tt); sent = tt })
-        (turned-calm p s Q (with_phase Live g) (call_with g.lsp s.calls) (phased-may p s Q Live g may))
-    confirmed-calm g (Some h) may =
-        record { legs = (phased-may p s Q Live g may, tt); sent = resv-sent p s Q g (Some h) g.in_label }
+        (record { legs = (may.0, tt); sent = tt })
+        (turned-calm p s Q (with_phase Live g) (call_with g.lsp s.calls) may)
+    confirmed-calm g (Some h) found first armed = record {
+      legs = (confirmed-may p s Q g armed (stands a.lsp g found), tt);
+      sent = resv-sent p s Q g (Some h) g.in_label;
+    }
 
     resv-fine : (o : Option Leg) → find_leg a.lsp s.legs ≡ o → IsFine (resv_with p s a y o)
     resv-fine None found = fine_still
@@ -128,7 +133,8 @@ module _ (p : LocalNode) (s : NodeState) (Q : Given) (facts : NodeFacts p.id.0 s
         (λ e. answered-fine g (previous g) found refl
         (both_left (is_over (following g) a.from a.link) _ (both_right (is_asked g.phase) _ e)))
         (λ e. if_cases IsFine (is_confirmed a y g) _ _
-        (λ e. fine p s Q (confirmed s g (previous g)) (confirmed-calm g (previous g) (stands a.lsp g found)))
+        (λ e. fine p s Q (confirmed s g (previous g))
+        (confirmed-calm g (previous g) found refl (both_left (is_armed g.phase) _ e)))
         (λ e. fine_still))
 
   -- A PathTear
@@ -157,7 +163,7 @@ module _ (p : LocalNode) (s : NodeState) (Q : Given) (facts : NodeFacts p.id.0 s
       (λ here. if_cases IsFine e.removed _ _
       (λ gone. if_cases IsFine (is_asked g.phase) _ _ (λ asked. passed (previous g))
       (λ other. if_cases IsFine (is_closing g.phase) _ _ (λ c. record { legs = tt; sent = inl tt }) (λ c. fine_still)))
-      (λ stays. if_cases IsFine (is_armed g.phase) _ _ (λ armed. held (previous g)) (λ other. fine_still)))
+      (λ stays. if_cases IsFine (is_armed g.phase) _ _ (λ armed. held (previous g) refl) (λ other. fine_still)))
       (λ there. fine_still)
     where
       passed : (o : Option Neighbour) → IsFine (err_passed s g e o)
@@ -169,15 +175,15 @@ module _ (p : LocalNode) (s : NodeState) (Q : Given) (facts : NodeFacts p.id.0 s
       passed (Some h) = record { legs = tt; sent = inr (bare, tt) }
 
       may : May p s Q (with_phase Held g)
-      may = phased-may p s Q Held g (stands e.lsp g found)
+      may = held-may p s Q g (stands e.lsp g found)
 
-      held : (o : Option Neighbour) → IsFine (disarmed s g e.msg o)
-      held None =
+      held : (o : Option Neighbour) → previous g ≡ o → IsFine (disarmed s g e.msg o)
+      held None first =
           fine p s Q (disarmed s g e.msg None)
           (both p s Q (puts (with_phase Held g) []) (call_contended s (with_phase Held g) (call_with g.lsp s.calls))
           (record { legs = (may, tt); sent = tt })
-          (contended-calm p s Q (with_phase Held g) (call_with g.lsp s.calls) may))
-      held (Some h) = record { legs = (may, tt); sent = inr (bare, tt) }
+          (contended-calm p s Q (with_phase Held g) (call_with g.lsp s.calls) (may, begins e.lsp g found first)))
+      held (Some h) first = record { legs = (may, tt); sent = inr (bare, tt) }
 
   -- A Notify
 
@@ -189,12 +195,13 @@ module _ (p : LocalNode) (s : NodeState) (Q : Given) (facts : NodeFacts p.id.0 s
     where
       report : (down : Bool) (o : Option Fibre) → IsCalm (reported_on s g down o)
       report down None = idle p s Q
-      report down (Some f) = go (call_with g.lsp s.calls)
+      report down (Some f) = go (call_with g.lsp s.calls) refl
         where
-          go : (o : Option CallRec) → IsCalm (call_reported s g.lsp down f o)
-          go None = idle p s Q
-          go (Some c) =
-              decide-calm p s Q (with_report c g.lsp down f) (leg_of c.back s.legs) (leg_of-may p s Q plain c.back)
+          go : (o : Option CallRec) → call_with g.lsp s.calls ≡ o → IsCalm (call_reported s g.lsp down f o)
+          go None is = idle p s Q
+          go (Some c) is =
+              decide-calm p s Q (with_report c g.lsp down f) (leg_of c.back s.legs)
+              (backup-may p s Q facts c.call c (called-found g.lsp s.calls c facts.calls_rise is))
 
       passed : (down : Bool) (o : Option Neighbour) → IsFine (notice_passed p s m g down o)
       passed down None =
@@ -215,13 +222,13 @@ message-fine p s facts u (Path l e k route set up r) = go (find_leg l s.legs) re
     Q = gift (Path l e k route set up r)
 
     asks : PathRequest
-    asks = record { arrival = arrival l e u k; route = route; set = set; role = r }
+    asks = record { arrival = arrival l e u k; route = route; set = set; upstream = up; role = r }
 
     go : (o : Option Leg) → find_leg l s.legs ≡ o → Fine p s Q (path_with p s asks o)
-    go None found = first-fine p s Q asks (refl, refl) (own_link p k)
+    go None found = first-fine p s Q asks found (refl, refl) (λ f x h. (refl, h)) (own_link p k) refl
     go (Some g) found =
         fine p s Q (path_with p s asks (Some g))
-        (again-calm p s Q (arrival l e u k) (drop 1 route) r g (stands p s Q facts l g found))
+        (again-calm p s Q (arrival l e u k) (drop 1 route) g found r (refl, refl))
 message-fine p s facts u (Resv l e k y) =
     resv-fine p s (gift (Resv l e k y)) facts (arrival l e u k) y e (λ f x h. (refl, h)) (find_leg l s.legs) refl
 message-fine p s facts u (PathTear l e k) =

@@ -1,10 +1,13 @@
 -- What a Path does with labels that are sent: a leg sends no more, and what goes out lets go of no LSP, or is an error
 -- alone.
-use Rattle.std.proofs.Common.{ℕ, true, false, not, nat_eq, List, [], ◌∷◌, refl, inr}
+use Rattle.std.proofs.Common.{◌≡◌, ℕ, true, false, not, nat_eq, List, [], ◌∷◌, refl, sym, ap, subst, inr}
 use Rattle.std.specs.Prelude.{◌&&◌, Option, Some, None}
 use Rattle.ason_base.specs.Labels.{least}
-use Rattle.ason_base.specs.declared.calls.Phase.TheVariants.{Armed, Held, Live}
+use Rattle.ason_base.specs.declared.calls.Phase.{Phase}
+use Rattle.ason_base.specs.declared.calls.Phase.TheVariants.{Armed, Live}
 use Rattle.ason_base.specs.declared.codes.ErrCode.{ErrCode}
+use Rattle.ason_base.specs.declared.ids.Fibre.{Fibre}
+use Rattle.ason_base.specs.declared.messages.Msg.TheVariants.{Path}
 use Rattle.ason_base.specs.declared.messages.PathRole.{PathRole}
 use Rattle.ason_base.specs.declared.messages.PathRole.TheVariants as path
 use Rattle.ason_base.specs.declared.network.LinkSpec.{LinkSpec}
@@ -14,13 +17,19 @@ use Rattle.mesh_rules.specs.declared.arrivals.Arrival.{Arrival}
 use Rattle.mesh_rules.specs.declared.neighbours.Neighbour.{Neighbour}
 use Rattle.mesh_rules.specs.Activations.{armed_on, path_again, resv_to, taken_on}
 use Rattle.mesh_rules.specs.Changes.{Answer, nothing}
-use Rattle.mesh_rules.specs.Legs.{following, is_active_backup, is_contended, is_held, is_over, previous}
+use Rattle.mesh_rules.specs.Legs.{find_leg, following, is_active_backup, is_contended, is_held, is_over, previous}
+use Rattle.mesh_rules.specs.Legs.{with_phase}
 use Rattle.mesh_rules.specs.LocalNodes.{LocalNode, leads, own_link}
-use Rattle.mesh_rules.specs.Paths.{PathRequest, admitted, at_egress, checks, first_failure, first_path, in_transit, is_active, judged, offered_labels, risks_here}
+use Rattle.mesh_rules.specs.Paths.{PathRequest, admitted, at_egress, back_label, checks, first_failure, first_path}
+use Rattle.mesh_rules.specs.Paths.{in_transit, is_active, judged, offered_labels, risks_here, role_of}
 use Rattle.mesh_rules.specs.State.{NodeState}
-use Rattle.mesh_nodes.proofs.Cases.{if_cases}
+use Rattle.mesh_nodes.proofs.Cases.{both_left, if_cases}
+use Rattle.mesh_nodes.proofs.LegList.{found-lsp}
+use Rattle.mesh_laws.specs.HeardLaw.{brings}
+use Rattle.mesh_laws.proofs.hops.Plans.{found_id}
 use Rattle.mesh_laws.proofs.sent.LegsHear.{egress-sends, transit-sends}
-use Rattle.mesh_laws.proofs.sent.May.{Calm, Fine, Given, May, NoneRemoves, SaidNow, fine, idle, phased-may}
+use Rattle.mesh_laws.proofs.sent.May.{Activated, Calm, Fine, Given, May, NoneRemoves, SaidNow, fine, found-may}
+use Rattle.mesh_laws.proofs.sent.May.{held-may, idle, phased-may, reserved-idle}
 
 module _ (p : LocalNode) (s : NodeState) (Q : Given) where
   abbrev IsCalm : Answer → Type 0
@@ -32,45 +41,56 @@ module _ (p : LocalNode) (s : NodeState) (Q : Given) where
   still : IsCalm nothing
   still = idle p s Q
 
-  -- a Path where no leg of its LSP stands; what it is for is given
-  module _ (m : PathRequest) (given : Q.roles m.arrival.lsp m.role) where
-    at_egress-calm : (link : LinkSpec) (offered : List ℕ) (o : Option ℕ) →
-        IsCalm (at_egress p m link (risks_here p s m) offered o)
-    at_egress-calm link offered None = still
-    at_egress-calm link offered (Some y) = record {
-      legs = (
-        record {
-          sent = λ f x h. absurd (egress-sends p m link (risks_here p s m) offered y f x h);
-          says = SaidNow given;
-          plain = refl;
-        },
-        tt,
-      );
-      sent = ((refl, tt), tt);
-    }
+  -- a Path where no leg of its LSP stands; what it is for, and what it brings, is given
+  module _ (m : PathRequest) (none : find_leg m.arrival.lsp s.legs ≡ None) (given : Q.roles m.arrival.lsp m.role)
+      (brought : (f : Fibre) (x : ℕ) →
+      brings f x (Path m.arrival.lsp m.arrival.egress m.arrival.link m.route m.set m.upstream m.role) ≡ true →
+      Q.labels m.arrival.lsp f x) where
+    -- over a link of the node
+    module _ (link : LinkSpec) (own : own_link p m.arrival.link ≡ Some link) where
+      over : link.id.0 ≡ m.arrival.link.0
+      over = ap (λ k. k.0) (found_id m.arrival.link p.own link own)
 
-    admitted-calm : (link : LinkSpec) (offered : List ℕ) (route : List Step) →
-        IsCalm (admitted p m link (risks_here p s m) offered route)
-    admitted-calm link offered [] = at_egress-calm link offered (least offered)
-    admitted-calm link offered (hop ∷ route) = go (own_link p hop.link)
-      where
-        go : (o : Option LinkSpec) → IsCalm (in_transit p m link (risks_here p s m) route offered o)
-        go None = still
-        go (Some out) = record {
-          legs = (
-            record {
-              sent = λ f x h. absurd (transit-sends p m link (risks_here p s m) out route offered f x h);
-              says = SaidNow given;
-              plain = refl;
-            },
-            tt,
-          );
-          sent = ((refl, refl), tt);
-        }
+      at_egress-calm : (o : Option ℕ) → IsCalm (at_egress p m link (risks_here p s m) (offered_labels p s m link) o)
+      at_egress-calm None = still
+      at_egress-calm (Some y) = record {
+        legs = (
+          record {
+            sent = λ f x h. inr (brought f x
+                (egress-sends p m link (risks_here p s m) (offered_labels p s m link) f x over y h));
+            says = SaidNow given;
+            arms = λ back used away. absurd (reserved-idle (role_of m.role) back used);
+            way = λ h there small. absurd (cc (none, there));
+          },
+          tt,
+        );
+        sent = (refl, tt);
+      }
 
-    pub first-fine : (o : Option LinkSpec) → Fine p s Q (first_path p s m o)
-    first-fine None = fine p s Q nothing still
-    first-fine (Some link) =
+      in_transit-calm : (route : List Step) (o : Option LinkSpec) → IsCalm (in_transit p s m link route o)
+      in_transit-calm route None = still
+      in_transit-calm route (Some out) = record {
+        legs = (
+          record {
+            sent = λ f x h. inr (brought f x
+                (transit-sends p m link (risks_here p s m) (offered_labels p s m link) f x over out route
+                (back_label p s m out) h));
+            says = SaidNow given;
+            arms = λ back used away. absurd (cc used);
+            way = λ h there small. absurd (cc (none, there));
+          },
+          tt,
+        );
+        sent = (refl, tt);
+      }
+
+      admitted-calm : (route : List Step) → IsCalm (admitted p s m link route)
+      admitted-calm [] = at_egress-calm (least (offered_labels p s m link))
+      admitted-calm (hop ∷ route) = in_transit-calm route (own_link p hop.link)
+
+    pub first-fine : (o : Option LinkSpec) → own_link p m.arrival.link ≡ o → Fine p s Q (first_path p s m o)
+    first-fine None own = fine p s Q nothing still
+    first-fine (Some link) own =
         if_cases IsFine
         (not (is_active m.role)
         && (leads (Some link) m.arrival.from p.id && not (nat_eq m.arrival.lsp.ingress.0 p.id.0)))
@@ -78,42 +98,55 @@ module _ (p : LocalNode) (s : NodeState) (Q : Given) where
       where
         go : (o : Option ErrCode) → IsFine (judged p s m link o)
         go (Some code) = record { legs = tt; sent = inr (refl, tt) }
-        go None =
-            fine p s Q (admitted p m link (risks_here p s m) (offered_labels p s m link) m.route)
-            (admitted-calm link (offered_labels p s m link) m.route)
+        go None = fine p s Q (admitted p s m link m.route) (admitted-calm link own m.route)
 
   -- a Resv to the previous node lets nothing go
   pub resv-sent : (g : Leg) (o : Option Neighbour) (label : Option ℕ) → NoneRemoves (resv_to g o label)
   resv-sent g None label = tt
   resv-sent g (Some h) None = tt
-  resv-sent g (Some h) (Some x) = ((refl, tt), tt)
+  resv-sent g (Some h) (Some x) = (refl, tt)
 
-  armed_on-calm : (g : Leg) (route : List Step) (r : PathRole) (o : Option Neighbour) → May p s Q g →
-      IsCalm (armed_on g route r o)
-  armed_on-calm g route r None may =
-      record { legs = (phased-may p s Q Live g may, tt); sent = resv-sent g (previous g) g.in_label }
-  armed_on-calm g route r (Some h) may =
-      record { legs = (phased-may p s Q Armed g may, tt); sent = ((refl, may.plain), tt) }
+  taken-none : (g : Leg) (route : List Step) (r : PathRole) (o : Option Neighbour) → NoneRemoves (taken_on g route r o)
+  taken-none g route r None = tt
+  taken-none g route r (Some h) = (refl, tt)
 
-  taken-none : (g : Leg) (route : List Step) (r : PathRole) (o : Option Neighbour) → May p s Q g →
-      NoneRemoves (taken_on g route r o)
-  taken-none g route r None may = tt
-  taken-none g route r (Some h) may = ((refl, may.plain), tt)
+  -- a Path where its leg stands; what it is for is given
+  module _ (a : Arrival) (route : List Step) (g : Leg) (found : find_leg a.lsp s.legs ≡ Some g) where
+    may : May p s Q g
+    may = found-may p s Q a.lsp g found
 
-  -- a Path where its leg stands
-  pub again-calm : (a : Arrival) (route : List Step) (r : PathRole) (g : Leg) → May p s Q g →
-      Calm p s Q (path_again p s a route r g)
-  again-calm a route (path.Work guard) g may = still
-  again-calm a route (path.Back true work primary) g may =
-      if_cases IsCalm (is_held g.phase && is_over (previous g) a.from a.link) _ _
-      (λ e. if_cases IsCalm (is_contended s.legs g) _ _
-      (λ e. record { legs = tt; sent = ((refl, tt), tt) })
-      (λ e. armed_on-calm g route (path.Back true work primary) (following g) may))
-      (λ e. still)
-  again-calm a route (path.Back false work primary) g may =
-      if_cases IsCalm (is_active_backup g && is_over (previous g) a.from a.link) _ _
-      (λ e. record {
-        legs = (phased-may p s Q Held g may, tt);
-        sent = taken-none g route (path.Back false work primary) (following g) may;
-      })
-      (λ e. still)
+    armed_on-calm : (r : PathRole) (o : Option Neighbour) → Q.roles a.lsp r → is_active r ≡ true →
+        is_held g.phase ≡ true → IsCalm (armed_on g route r o)
+    armed_on-calm r o given active held = go o
+      where
+        mine : g.lsp ≡ a.lsp
+        mine = found-lsp a.lsp s.legs g found
+
+        activated : (q : Phase) → May p s Q (with_phase q g)
+        activated q =
+            phased-may p s Q q g
+            (λ back used away. Activated g r (subst (λ l. find_leg l s.legs ≡ Some g) (sym mine) found) held
+            (record { role = refl; fibre = refl; label = refl; back = refl })
+            (subst (λ l. Q.roles l r) (sym mine) given) active)
+            may
+
+        go : (o : Option Neighbour) → IsCalm (armed_on g route r o)
+        go None = record { legs = (activated Live, tt); sent = resv-sent g (previous g) g.in_label }
+        go (Some h) = record { legs = (activated Armed, tt); sent = (refl, tt) }
+
+    pub again-calm : (r : PathRole) → Q.roles a.lsp r → Calm p s Q (path_again p s a route r g)
+    again-calm (path.Work guard) given = still
+    again-calm (path.Back true work primary) given =
+        if_cases IsCalm (is_held g.phase && is_over (previous g) a.from a.link) _ _
+        (λ e. if_cases IsCalm (is_contended s.legs g) _ _
+        (λ e. record { legs = tt; sent = (refl, tt) })
+        (λ free. armed_on-calm (path.Back true work primary) (following g) given refl
+        (both_left (is_held g.phase) _ e)))
+        (λ e. still)
+    again-calm (path.Back false work primary) given =
+        if_cases IsCalm (is_active_backup g && is_over (previous g) a.from a.link) _ _
+        (λ e. record {
+          legs = (held-may p s Q g may, tt);
+          sent = taken-none g route (path.Back false work primary) (following g);
+        })
+        (λ e. still)

@@ -79,8 +79,8 @@ sound-start t = record {
   carried = carried t [] tt;
   facts = facts-start t;
   told = record { legs = λ l n g here. absurd (cc here); begun = λ l none. refl };
-  plain = λ a b. tt;
   lawful = λ f x u d apart from to before since is l m this that. absurd (never f x l before since is this);
+  crossing = λ f n k l m g h other at_g at_h label. (let found = at_g.found in absurd (cc found));
 }
   where
     never : (f : Fibre) (x : ℕ) (l : Lsp) (before since : List Msg) → before ++ since ≡ [] →

@@ -5,37 +5,42 @@ use Rattle.ason_base.specs.Network.{Network}
 use Rattle.ason_base.specs.declared.commands.Command.{Command}
 use Rattle.ason_base.specs.declared.commands.Command.TheVariants.{Setup, Release, Protect, Retry, Revert, Fail, Repair}
 use Rattle.ason_base.specs.declared.commands.DeskItem.{DeskItem}
+use Rattle.ason_base.specs.declared.ids.Fibre.{Fibre}
 use Rattle.ason_base.specs.declared.ids.Lsp.{Lsp}
 use Rattle.ason_base.specs.declared.ids.NodeId.{NodeId}
 use Rattle.ason_base.specs.declared.messages.Msg.{Msg}
 use Rattle.ason_base.specs.declared.network.LinkSpec.{LinkSpec}
 use Rattle.ason_base.specs.declared.steps.Step.{Step}
+use Rattle.ason_base.specs.declared.tables.Leg.{Leg}
 use Rattle.mesh_rules.specs.declared.events.MeshEvent.{MeshEvent}
 use Rattle.mesh_rules.specs.Changes.{Answer, nothing}
 use Rattle.mesh_rules.specs.Events.{has_first, on_first, on_first_item, or_route, posted}
 use Rattle.mesh_rules.specs.KnownRows.{has_row, known_rows}
 use Rattle.mesh_rules.specs.Learnt.{on_link}
+use Rattle.mesh_rules.specs.Legs.{legs_changed, reverse}
 use Rattle.mesh_rules.specs.LocalNodes.{LocalNode, local_node}
 use Rattle.mesh_rules.specs.Machine.{Mesh, commit, without_first}
 use Rattle.mesh_rules.specs.Messages.{on_message}
 use Rattle.mesh_rules.specs.State.{NodeState}
 use Rattle.mesh_laws.specs.HopLaw.{leg_at}
 use Rattle.mesh_nodes.proofs.Cases.{if_cases}
+use Rattle.mesh_nodes.proofs.LegList.{found-lsp}
 use Rattle.mesh_laws.proofs.hops.Laws.{carried}
 use Rattle.mesh_laws.proofs.hops.Planned.{Routes}
 use Rattle.mesh_laws.proofs.hops.Plans.{other, same}
 use Rattle.mesh_laws.proofs.hops.Run.{Carried, step_routes}
 use Rattle.mesh_laws.proofs.nodes.Facts.{MeshFacts, NodeFacts}
-use Rattle.mesh_laws.proofs.sent.After.{after-fit}
+use Rattle.mesh_laws.proofs.crossing.Steps.{Entered, NoneCrosses, none-crosses}
+use Rattle.mesh_laws.proofs.crossing.Upstream.{upstream-of}
+use Rattle.mesh_laws.proofs.sent.After.{Fits, after-fit}
 use Rattle.mesh_laws.proofs.sent.Events.{leg-after, lawful-posted, lawful-quiet, lawful-taken}
 use Rattle.mesh_laws.proofs.sent.FirstMessages.{goes, over}
 use Rattle.mesh_laws.proofs.sent.ItemsHear.{item-calm}
-use Rattle.mesh_laws.proofs.sent.May.{Calm, Fine, fine, fine-plain, gift, idle, no_gift}
+use Rattle.mesh_laws.proofs.sent.May.{Calm, Fine, gift, idle, no_gift}
 use Rattle.mesh_laws.proofs.sent.MessagesHear.{message-fine}
-use Rattle.mesh_laws.proofs.sent.Standing.{MailPlain, Share, Standing, share-lasts, taken-of}
+use Rattle.mesh_laws.proofs.sent.Standing.{Share, Standing, share-lasts, taken-of}
 use Rattle.mesh_laws.proofs.sent.Steps.{LawfulMesh}
 use Rattle.mesh_laws.proofs.sent.Told.{Told, gift-tells, still-told, told-step, told_now}
-use Rattle.mesh_laws.proofs.sent.Plain.{commit-plain, first-plain, posted-plain}
 
 -- The state of a run
 
@@ -44,13 +49,12 @@ pub record Sound (t : Network) (o w : Routes) (s : Mesh) : Type 0 where
   pub carried : Carried t s o
   pub facts : MeshFacts t s
   pub told : Told o w s
-  pub plain : MailPlain s
   pub lawful : LawfulMesh t (Share t w) s
+  pub crossing : NoneCrosses s
 
 -- in it each LSP stands as it was told
 pub standing : (t : Network) (o w : Routes) (s : Mesh) → Sound t o w s → Standing t o w s
-standing t o w s now =
-    record { follows = now.carried.follows; facts = now.facts; told = now.told; plain = now.plain }
+standing t o w s now = record { follows = now.carried.follows; facts = now.facts; told = now.told }
 
 lawful-share : (t : Network) (w w' : Routes) (s : Mesh) →
     ((l : Lsp) (r : List Step) → w l ≡ Some r → w' l ≡ Some r) → LawfulMesh t (Share t w) s →
@@ -112,7 +116,7 @@ module _ (t : Network) (o w : Routes) (s : Mesh) (now : Sound t o w s) where
       Carried t (commit (with_desks desks) n.0 a) o' → MeshFacts t (commit (with_desks desks) n.0 a) →
       Sound t o' (told_now (commit (with_desks desks) n.0 a) w) (commit (with_desks desks) n.0 a)
   quiet_sound desks n a o' calm grow carried facts =
-      record { carried = carried; facts = facts; told = told; plain = plain; lawful = lawful }
+      record { carried = carried; facts = facts; told = told; lawful = lawful; crossing = crossing }
     where
       p : LocalNode
       p = local_node t n
@@ -120,24 +124,35 @@ module _ (t : Network) (o w : Routes) (s : Mesh) (now : Sound t o w s) where
       s' : Mesh
       s' = commit (with_desks desks) n.0 a
 
+      fit : (l : Lsp) (g : Leg) → leg_at s' l n ≡ Some g → Fits p (s.nodes n.0) no_gift l g
+      fit l g here =
+          after-fit p (s.nodes n.0) no_gift a.legs calm.legs l g (sym (leg-after (with_desks desks) n a l) ∙ here)
+
       told : Told o' (told_now s' w) s'
       told =
           told-step t s s' o o' w now.carried.follows carried.follows grow now.told n no_gift
-          (λ l r never. absurd never) (λ l k apart. rw (other k.0 n.0 apart) refl)
-          (λ l g here. (after-fit p (s.nodes n.0) no_gift a.legs calm.legs l g
-          (sym (leg-after (with_desks desks) n a l) ∙ here)).says)
+          (λ l r never. absurd never) (λ l k apart. rw (other k.0 n.0 apart) refl) (λ l g here. (fit l g here).says)
 
-      plain : MailPlain s'
-      plain =
-          commit-plain (with_desks desks) n.0 a now.plain
-          (fine-plain p (s.nodes n.0) no_gift a (fine p (s.nodes n.0) no_gift a calm))
+      after : Standing t o' (told_now s' w) s'
+      after = record { follows = carried.follows; facts = facts; told = told }
 
       lawful : LawfulMesh t (Share t (told_now s' w)) s'
       lawful =
           lawful-quiet t (Share t (told_now s' w)) (with_desks desks) p n a calm
-          (taken-of t o' (told_now s' w) s'
-          (record { follows = carried.follows; facts = facts; told = told; plain = plain }))
+          (taken-of t o' (told_now s' w) s' after)
           (lawful-share t w (told_now s' w) s (lasts-now s' w) now.lawful)
+
+      crossing : NoneCrosses s'
+      crossing =
+          none-crosses t o w o' (told_now s' w) s s' (standing t o w s now) after n no_gift
+          (record {
+            legs = λ l k apart. rw (other k.0 n.0 apart) refl;
+            arms = λ l g here. (fit l g here).arms;
+            own = λ l g here. found-lsp l (legs_changed a.legs (s.nodes n.0).legs) g
+                (sym (leg-after (with_desks desks) n a l) ∙ here);
+            upstream = λ l r v f u never. absurd never;
+          })
+          now.crossing
 
   -- A message is taken.
   taken_sound : (d u : NodeId) (o' : Routes) (m : Msg) (rest : List Msg) → s.mail u.0 d.0 ≡ m ∷ rest →
@@ -147,7 +162,7 @@ module _ (t : Network) (o w : Routes) (s : Mesh) (now : Sound t o w s) where
       Sound t o' (told_now (commit (without_first s u.0 d.0) d.0 (on_message (local_node t d) (s.nodes d.0) u m)) w)
       (commit (without_first s u.0 d.0) d.0 (on_message (local_node t d) (s.nodes d.0) u m))
   taken_sound d u o' m rest first grow carried facts =
-      record { carried = carried; facts = facts; told = told; plain = plain; lawful = lawful }
+      record { carried = carried; facts = facts; told = told; lawful = lawful; crossing = crossing }
     where
       p : LocalNode
       p = local_node t d
@@ -161,27 +176,38 @@ module _ (t : Network) (o w : Routes) (s : Mesh) (now : Sound t o w s) where
       may : Fine p (s.nodes d.0) (gift m) a
       may = message-fine p (s.nodes d.0) (now.facts.node d.0) u m
 
+      fit : (l : Lsp) (g : Leg) → leg_at s' l d ≡ Some g → Fits p (s.nodes d.0) (gift m) l g
+      fit l g here =
+          after-fit p (s.nodes d.0) (gift m) a.legs may.legs l g
+          (sym (leg-after (without_first s u.0 d.0) d a l) ∙ here)
+
       told : Told o' (told_now s' w) s'
       told =
           told-step t s s' o o' w now.carried.follows carried.follows grow now.told d (gift m)
           (gift-tells t s o w now.carried.follows now.told u d m rest first)
-          (λ l k apart. rw (other k.0 d.0 apart) refl)
-          (λ l g here. (after-fit p (s.nodes d.0) (gift m) a.legs may.legs l g
-          (sym (leg-after (without_first s u.0 d.0) d a l) ∙ here)).says)
+          (λ l k apart. rw (other k.0 d.0 apart) refl) (λ l g here. (fit l g here).says)
 
-      plain : MailPlain s'
-      plain =
-          commit-plain (without_first s u.0 d.0) d.0 a (first-plain s u.0 d.0 now.plain)
-          (fine-plain p (s.nodes d.0) (gift m) a may)
+      after : Standing t o' (told_now s' w) s'
+      after = record { follows = carried.follows; facts = facts; told = told }
 
       lawful : LawfulMesh t (Share t (told_now s' w)) s'
       lawful =
           lawful-taken t (Share t (told_now s' w)) s p d u m rest first a may
           (goes t o w s (standing t o w s now) p u d m rest first)
-          (over t o w s (standing t o w s now) p u d m rest first)
-          (taken-of t o' (told_now s' w) s'
-          (record { follows = carried.follows; facts = facts; told = told; plain = plain }))
+          (over t o w s (standing t o w s now) p u d m rest first) (taken-of t o' (told_now s' w) s' after)
           (lawful-share t w (told_now s' w) s (lasts-now s' w) now.lawful)
+
+      crossing : NoneCrosses s'
+      crossing =
+          none-crosses t o w o' (told_now s' w) s s' (standing t o w s now) after d (gift m)
+          (record {
+            legs = λ l k apart. rw (other k.0 d.0 apart) refl;
+            arms = λ l g here. (fit l g here).arms;
+            own = λ l g here. found-lsp l (legs_changed a.legs (s.nodes d.0).legs) g
+                (sym (leg-after (without_first s u.0 d.0) d a l) ∙ here);
+            upstream = upstream-of t o w s (standing t o w s now) u d m rest first;
+          })
+          now.crossing
 
   -- the first message of a list
   pub first_sound : (d u : NodeId) (o' : Routes) (ms : List Msg) → s.mail u.0 d.0 ≡ ms → has_first ms ≡ true →
@@ -194,6 +220,15 @@ module _ (t : Network) (o w : Routes) (s : Mesh) (now : Sound t o w s) where
   first_sound d u o' (m ∷ rest) first enabled grow carried facts =
       taken_sound d u o' m rest first grow carried facts
 
+  posted-entered : (c : Command) (l : Lsp) (n : NodeId) (f : Fibre) (g : Leg) → Entered (posted t s c) l n f g →
+      Entered s l n f g
+  posted-entered c l n f g at_g = record {
+    found = sym (posted-legs t s c l n) ∙ at_g.found;
+    backup = at_g.backup;
+    in_use = at_g.in_use;
+    fibre = at_g.fibre;
+  }
+
   -- A command is posted.
   pub posted_sound : (c : Command) (o' : Routes) → ((l : Lsp) → o' l ≡ None → o l ≡ None) →
       Carried t (posted t s c) o' →
@@ -203,9 +238,11 @@ module _ (t : Network) (o w : Routes) (s : Mesh) (now : Sound t o w s) where
     facts = facts;
     told = still-told t s (posted t s c) o o' w now.carried.follows carried.follows grow now.told
         (λ l k g here. now.told.legs l k g (sym (posted-legs t s c l k) ∙ here));
-    plain = posted-plain t s c now.plain;
     lawful = lawful-posted t (Share t (told_now (posted t s c) w)) s c
         (lawful-share t w (told_now (posted t s c) w) s (lasts-now (posted t s c) w) now.lawful);
+    crossing = λ f n k l m g h other at_g at_h label.
+        now.crossing f n k l m g h other (posted-entered c l n f g at_g)
+        (posted-entered c m k (reverse f) h at_h) label;
   }
 
   -- no event takes a route away

@@ -1,5 +1,5 @@
 -- Where each LSP follows its route, what may be sent is taken at the other end, and those that take one label share it.
-use Rattle.std.proofs.Common.{◌≡◌, ◌≢◌, ℕ, Bool, true, false, cond, not, List, [], ◌∷◌, refl, sym, ap, subst, ◌∙◌, inl, inr}
+use Rattle.std.proofs.Common.{◌≡◌, ◌≢◌, ◌≤◌, ℕ, zero, suc, Bool, true, false, cond, not, List, [], ◌∷◌, refl, sym, ap, subst, ◌∙◌, arith, inl, inr}
 use Rattle.std.specs.Prelude.{◌⊎◌, ◌&&◌, Option, Some, None}
 use Rattle.ason_base.specs.Lsps.{same_lsp}
 use Rattle.ason_base.specs.Network.{Network, receiver_of, sender_of}
@@ -14,23 +14,25 @@ use Rattle.ason_base.specs.declared.messages.PathRole.TheVariants.{Work, Back}
 use Rattle.ason_base.specs.declared.steps.Step.{Step}
 use Rattle.ason_base.specs.declared.tables.Leg.{Leg}
 use Rattle.mesh_rules.specs.Commands.{is_searchable}
-use Rattle.mesh_rules.specs.Legs.{sends}
+use Rattle.mesh_rules.specs.Legs.{is_closing, sends}
 use Rattle.mesh_rules.specs.Machine.{Mesh}
 use Rattle.mesh_laws.specs.HeardLaw.{heard, primary_in, sends_of}
 use Rattle.mesh_laws.specs.HopLaw.{is_message_of, is_notice, leg_at, lsp_of, mail_between, messages_of}
 use Rattle.mesh_laws.specs.LabelLaw.{MayShare}
 use Rattle.mesh_laws.specs.RiskLaw.{rows_of}
-use Rattle.mesh_laws.proofs.hops.Chain.{RisksFit}
+use Rattle.mesh_laws.proofs.hops.Chain.{LegFits, RisksFit}
 use Rattle.mesh_laws.proofs.hops.Planned.{EachFollows, Follows, Routes}
-use Rattle.mesh_laws.proofs.hops.Plans.{plan}
-use Rattle.mesh_laws.proofs.hops.Purposes.{Carries, Each, Guards, Purpose, Tells, role_of}
+use Rattle.mesh_laws.proofs.hops.Plans.{distinct, fibre_at, hops, node_at, plan}
+use Rattle.mesh_laws.proofs.hops.Purposes.{Carries, Guards, Purpose, Tells, role_of}
+use Rattle.mesh_laws.proofs.nodes.BackLabels.{torn-back_out}
 use Rattle.mesh_laws.proofs.nodes.Facts.{MeshFacts}
 use Rattle.mesh_laws.proofs.sent.Answers.{AllOf}
+use Rattle.mesh_laws.proofs.sent.Ends.{receiver-at, sender-at}
 use Rattle.mesh_laws.proofs.sent.Heard.{heard-own}
-use Rattle.mesh_laws.proofs.sent.May.{IsPlain}
 use Rattle.mesh_laws.proofs.sent.Steps.{Taken, takes_of}
-use Rattle.mesh_laws.proofs.sent.Takes.{heard-takes, sends-over}
-use Rattle.mesh_laws.proofs.sent.Told.{Told, purpose-of}
+use Rattle.mesh_laws.proofs.sent.SendsOver.{sends-over}
+use Rattle.mesh_laws.proofs.sent.Takes.{heard-takes}
+use Rattle.mesh_laws.proofs.sent.Told.{HasPurpose, Told, purpose-of}
 
 -- two LSPs that are told to be backups, of primaries without a common risk where risks can be searched
 pub record Share (t : Network) (w : Routes) (l m : Lsp) : Type 0 where
@@ -51,16 +53,11 @@ share-lasts t w w' lasts l m share = record {
   apart = share.apart;
 }
 
--- all Paths on their way are without an upstream label
-abbrev pub MailPlain : Mesh → Type 0
-MailPlain s = (a b : ℕ) → Each IsPlain (s.mail a b)
-
 -- what holds of each state: each LSP follows its route, the nodes have their facts, and legs tell what was told
 pub record Standing (t : Network) (o w : Routes) (s : Mesh) : Type 0 where
   pub follows : EachFollows t s o
   pub facts : MeshFacts t s
   pub told : Told o w s
-  pub plain : MailPlain s
 
 -- Messages of one LSP
 
@@ -75,15 +72,6 @@ all-own l (m ∷ ms) = go (is_notice m) (same_lsp (lsp_of m) l) refl (all-own l 
     go false true e more = (e, more)
     go false false e more = more
 
--- and have what all messages of the list have
-pub each-own : (Q : Msg → Type 0) (l : Lsp) (ms : List Msg) → Each Q ms → Each Q (messages_of l ms)
-each-own Q l [] h = tt
-each-own Q l (m ∷ ms) h = go (is_message_of l m) (each-own Q l ms h.1)
-  where
-    go : (b : Bool) → Each Q (messages_of l ms) → Each Q (cond b (m ∷ messages_of l ms) (messages_of l ms))
-    go true more = (h.0, more)
-    go false more = more
-
 -- the first message of a list is the first of its LSP
 pub first-of : (s : Mesh) (l : Lsp) (u d : NodeId) (m : Msg) (rest : List Msg) → s.mail u.0 d.0 ≡ m ∷ rest →
     is_message_of l m ≡ true → mail_between s l u d ≡ m ∷ messages_of l rest
@@ -95,6 +83,13 @@ pub record Ends (t : Network) (f : Fibre) (n : NodeId) : Type 0 where
   pub apart : n.0 ≢ to.0
   pub sender : sender_of t f ≡ Some n
   pub receiver : receiver_of t f ≡ Some to
+
+-- the fibre leads from another node to n
+pub record Comes (t : Network) (f : Fibre) (n : NodeId) : Type 0 where
+  pub from : NodeId
+  pub apart : from.0 ≢ n.0
+  pub sender : sender_of t f ≡ Some from
+  pub receiver : receiver_of t f ≡ Some n
 
 -- A leg of a backup
 
@@ -134,8 +129,9 @@ module _ (t : Network) (o w : Routes) (s : Mesh) (now : Standing t o w s) where
       go Carries (Back active work route) role tells told = absurd tells
       go (Guards v route) r role tells told = role
 
-  one_way : (l : Lsp) (n : NodeId) (g : Leg) → leg_at s l n ≡ Some g → g.back_out ≡ None
-  one_way l n g here = ((now.facts.node n.0).leg l g here).back_out
+  -- a torn leg sends nothing back
+  torn : (l : Lsp) (n : NodeId) (g : Leg) → leg_at s l n ≡ Some g → is_closing g.phase ≡ true → g.back_out ≡ None
+  torn l n g here closed = torn-back_out g ((now.facts.node n.0).leg l g here).back closed
 
   -- a leg that sends on a fibre is at the fibre's sender
   pub ends-of : (f : Fibre) (x : ℕ) (l : Lsp) (n : NodeId) (g : Leg) → leg_at s l n ≡ Some g → sends f x g ≡ true →
@@ -145,10 +141,33 @@ module _ (t : Network) (o w : Routes) (s : Mesh) (now : Standing t o w s) where
       go : (c : Option (List Step)) → Follows t s o l c → Ends t f n
       go None f' = absurd (let none = f'.legs n in cc (none, here))
       go (Some route) (e, q, pl) =
-          let over = sends-over t q l (plan route e) l.ingress pl.route (leg_at s l) (mail_between s l) pl.chain
-          (λ a b. all-own l (s.mail a.0 b.0)) (λ a b. each-own IsPlain l (s.mail a.0 b.0) (now.plain a.0 b.0))
-          (one_way l) f x n g here sent in
-          record { to = _; apart = over.apart; sender = over.sender; receiver = over.receiver }
+          let over = sends-over t q l (plan route e) l.ingress pl.route (leg_at s l) (mail_between s l) pl.chain f x n g
+          here sent in
+          record { to = over.to; apart = over.apart; sender = over.sender; receiver = over.receiver }
+
+  -- a leg stands at the end of its fibre in
+  pub comes-by : (f : Fibre) (l : Lsp) (n : NodeId) (g : Leg) → leg_at s l n ≡ Some g → g.in_fibre ≡ Some f →
+      Comes t f n
+  comes-by f l n g here enters = go at.place at.small at.here at.fits
+    where
+      at : HasPurpose t s o l n g
+      at = purpose-of t s o l n g (o l) (now.follows l) here
+
+      go : (i : ℕ) → i ≤ hops at.plan → n ≡ node_at at.plan i → LegFits t at.purpose l at.plan i g → Comes t f n
+      go zero small is fits = absurd (let none = fits.in_fibre in cc (none, enters))
+      go (suc i) small is fits =
+          let route = at.planned.route in
+          let fibre : fibre_at t at.plan i ≡ f =
+          (let same : Some (fibre_at t at.plan i) ≡ Some f = sym fits.in_fibre ∙ enters in cc same) in
+          let near = distinct t l.ingress at.plan route i (suc i) (omega arith) (omega arith) (omega arith) in
+          record {
+            from = node_at at.plan i;
+            apart = λ same. near (same ∙ ap (λ m. m.0) is);
+            sender = subst (λ h. sender_of t h ≡ Some (node_at at.plan i)) fibre
+                (sender-at t at.plan i near (route.links i (omega arith)));
+            receiver = subst (λ h. receiver_of t h ≡ Some n) fibre
+                (receiver-at t at.plan i near (route.links i (omega arith)) ∙ ap Some (sym is));
+          }
 
   -- what an LSP may send on a fibre, its leg at the other end takes
   takes_there : (f : Fibre) (x : ℕ) (u d : NodeId) → u.0 ≢ d.0 → sender_of t f ≡ Some u → receiver_of t f ≡ Some d →
@@ -163,8 +182,7 @@ module _ (t : Network) (o w : Routes) (s : Mesh) (now : Standing t o w s) where
       go None f' = absurd (let never : false ≡ true = rw (f'.mail d u, f'.legs u) at own in cc never)
       go (Some route) (e, q, pl) =
           heard-takes t q l (plan route e) l.ingress pl.route (leg_at s l) (mail_between s l) pl.chain
-          (λ a b. all-own l (s.mail a.0 b.0)) (λ a b. each-own IsPlain l (s.mail a.0 b.0) (now.plain a.0 b.0))
-          (one_way l) f x u d apart from to own
+          (λ a b. all-own l (s.mail a.0 b.0)) (torn l) f x u d apart from to own
 
   -- of two legs of different LSPs that take one label both are backups, told to be apart
   shared_there : (f : Fibre) (x : ℕ) (d : NodeId) (l m : Lsp) → takes_of f x (leg_at s l d) ≡ true →

@@ -49,6 +49,7 @@ pub record HasPurpose (t : Network) (s : Mesh) (o : Routes) (l : Lsp) (n : NodeI
   pub plan : Plan
   pub place : ℕ
   pub planned : Planned t s o l purpose plan
+  pub small : place ≤ hops plan
   pub here : n ≡ node_at plan place
   pub fits : LegFits t purpose l plan place g
 
@@ -68,6 +69,7 @@ purpose-of t s o l n g (Some route) (e, q, pl) here = on (pl.chain.legs n)
           plan = plan route e;
           place = i;
           planned = pl;
+          small = small;
           here = is;
           fits = rw there at (pl.chain.fits i small);
         }

@@ -1,7 +1,7 @@
 -- Legs that use one label at a node share it, and so does a leg with a label that a Resv is about to give it: no fibre
 -- comes in for one leg and goes out for another.
-use Rattle.std.proofs.Common.{◌≡◌, ◌≢◌, ◌≤◌, ℕ, zero, suc, true, false, nat_eq, List, [], ◌∷◌, refl, sym, ap, subst, ◌∙◌, arith, inl, inr}
-use Rattle.std.specs.Prelude.{◌⊎◌, Option, Some, None}
+use Rattle.std.proofs.Common.{◌≡◌, ◌≢◌, ℕ, suc, true, false, nat_eq, List, [], ◌∷◌, refl, sym, ap, subst, ◌∙◌, arith, inl, inr}
+use Rattle.std.specs.Prelude.{◌⊎◌, Some, None}
 use Rattle.ason_base.specs.Lsps.{same_lsp}
 use Rattle.ason_base.specs.Network.{IsTopology, Network, receiver_of, sender_of}
 use Rattle.ason_base.specs.declared.ids.Fibre.{Fibre}
@@ -10,29 +10,27 @@ use Rattle.ason_base.specs.declared.ids.Lsp.{Lsp}
 use Rattle.ason_base.specs.declared.ids.NodeId.{NodeId}
 use Rattle.ason_base.specs.declared.messages.Msg.{Msg}
 use Rattle.ason_base.specs.declared.messages.Msg.TheVariants.{Resv}
-use Rattle.ason_base.specs.declared.steps.Step.{Step}
 use Rattle.ason_base.specs.declared.tables.Leg.{Leg}
 use Rattle.mesh_rules.specs.Legs.{connected, following, is_at, is_over, reverse_of, sends, takes, uses}
 use Rattle.mesh_rules.specs.Machine.{Mesh}
 use Rattle.mesh_nodes.proofs.Cases.{both_left, both_right}
-use Rattle.mesh_nodes.proofs.LabelPlaces.{at-is, either, none-at}
+use Rattle.mesh_nodes.proofs.LabelPlaces.{at-is, back_in-taken, either, none-at, or-second}
 use Rattle.mesh_nodes.proofs.LegList.{same_lsp-refl}
 use Rattle.mesh_laws.specs.HeardLaw.{heard, sends_of}
 use Rattle.mesh_laws.specs.HopLaw.{leg_at}
 use Rattle.mesh_laws.specs.LabelLaw.{MayShare, MaySend}
-use Rattle.mesh_laws.proofs.hops.Chain.{LegFits}
 use Rattle.mesh_laws.proofs.hops.LegChanges.{following_is}
-use Rattle.mesh_laws.proofs.hops.Planned.{Follows, Planned, Routes}
-use Rattle.mesh_laws.proofs.hops.Plans.{Plan, distinct, fibre_at, hops, node_at, plan, same_node}
-use Rattle.mesh_laws.proofs.hops.Purposes.{Purpose}
-use Rattle.mesh_laws.proofs.nodes.Facts.{LegFacts, SharesAll}
-use Rattle.mesh_laws.proofs.nodes.LegParts.{taken}
+use Rattle.mesh_laws.proofs.hops.Planned.{Routes}
+use Rattle.mesh_laws.proofs.hops.Plans.{distinct, fibre_at, node_at, same_node}
+use Rattle.mesh_laws.proofs.nodes.Facts.{SharesAll}
+use Rattle.mesh_laws.proofs.nodes.LegParts.{taken-used}
 use Rattle.mesh_laws.proofs.nodes.Marks.{other, used-at}
-use Rattle.mesh_laws.proofs.sent.Ends.{receiver-at, sender-at}
+use Rattle.mesh_laws.proofs.sent.Ends.{receiver-at, receiver-back, sender-at}
 use Rattle.mesh_laws.proofs.sent.Law.{may-send, sent-shared}
+use Rattle.mesh_laws.proofs.sent.SendsOver.{back-place, out-place}
 use Rattle.mesh_laws.proofs.sent.Sound.{Sound, standing}
-use Rattle.mesh_laws.proofs.sent.Standing.{Standing, ends-of}
-use Rattle.mesh_laws.proofs.sent.Takes.{out-place}
+use Rattle.mesh_laws.proofs.sent.Told.{purpose-of}
+use Rattle.mesh_laws.proofs.sent.Standing.{Standing, comes-by, ends-of}
 
 some-is : {X : Type 0} (x y : X) → Some x ≡ Some y → x ≡ y
 some-is x y e = cc e
@@ -51,66 +49,31 @@ record Onward (t : Network) (f : Fibre) (n u : NodeId) (k : LinkId) : Type 0 whe
   link : f.link.0 ≡ k.0
 
 module _ (t : Network) (o w : Routes) (s : Mesh) (now : Standing t o w s) where
-  facts-of : (l : Lsp) (n : NodeId) (g : Leg) → leg_at s l n ≡ Some g → LegFacts n.0 (s.nodes n.0).lsp g
-  facts-of l n g here = (now.facts.node n.0).leg l g here
-
-  -- where a leg stands along its LSP's route
-  record Place (l : Lsp) (n : NodeId) (g : Leg) : Type 0 where
-    purpose : Purpose
-    way : Plan
-    planned : Planned t s o l purpose way
-    place : ℕ
-    small : place ≤ hops way
-    here : n ≡ node_at way place
-    fits : LegFits t purpose l way place g
-
-  place-of : (l : Lsp) (n : NodeId) (g : Leg) → leg_at s l n ≡ Some g → Place l n g
-  place-of l n g here = go (o l) (now.follows l)
-    where
-      go : (c : Option (List Step)) → Follows t s o l c → Place l n g
-      go None f = absurd (let none = f.legs n in cc (none, here))
-      go (Some route) (e, q, pl) = elim (pl.chain.legs n) [
-        | inl none ↦ absurd (cc (none, here))
-        | inr (i, small, at_n) ↦ (let is : n ≡ node_at (plan route e) i = same_node n (node_at (plan route e) i) at_n in
-            let there : leg_at s l (node_at (plan route e) i) ≡ Some g = subst (λ m. leg_at s l m ≡ Some g) is here in
-            record {
-              purpose = q;
-              way = plan route e;
-              planned = pl;
-              place = i;
-              small = small;
-              here = is;
-              fits = rw there at (pl.chain.fits i small);
-            })
-      ]
-
-  -- a leg that takes a label is at the end of the fibre
+  -- a leg that takes a label, as its label in or its back label in, is at the end of the fibre
   pub takes-to : (f : Fibre) (x : ℕ) (l : Lsp) (n : NodeId) (g : Leg) → leg_at s l n ≡ Some g → takes f x g ≡ true →
       receiver_of t f ≡ Some n
-  takes-to f x l n g here this = go at.place at.small at.here at.fits
+  takes-to f x l n g here this = elim (either (is_at g.in_fibre g.in_label f x) _ this) [
+    | inl on ↦ (comes-by t o w s now f l n g here (at-is g.in_fibre g.in_label f x on).0).receiver
+    | inr on ↦ from_next (at-is (reverse_of g.out_fibre) g.back_in f x on).0
+  ]
     where
-      at : Place l n g
-      at = place-of l n g here
-
-      enters : g.in_fibre ≡ Some f
-      enters = (taken n.0 (s.nodes n.0).lsp f x g (facts-of l n g here) this).fibre
-
-      go : (i : ℕ) → i ≤ hops at.way → n ≡ node_at at.way i → LegFits t at.purpose l at.way i g →
-          receiver_of t f ≡ Some n
-      go zero small is fits = absurd (let none = fits.in_fibre in cc (none, enters))
-      go (suc i) small is fits =
+      from_next : reverse_of g.out_fibre ≡ Some f → receiver_of t f ≡ Some n
+      from_next leaves =
+          let at = purpose-of t s o l n g (o l) (now.follows l) here in
           let route = at.planned.route in
-          let fibre : fibre_at t at.way i ≡ f = some-is _ _ (sym fits.in_fibre ∙ enters) in
-          let near = distinct t l.ingress at.way route i (suc i) (omega arith) (omega arith) (omega arith) in
-          subst (λ h. receiver_of t h ≡ Some n) fibre
-          (receiver-at t at.way i near (route.links i (omega arith)) ∙ ap Some (sym is))
+          let i = at.place in
+          let back = back-place t at.plan i f (subst (λ o. reverse_of o ≡ Some f) at.fits.out_fibre leaves) in
+          let small = back.0 in
+          let near = distinct t l.ingress at.plan route i (suc i) (omega arith) (omega arith) (omega arith) in
+          subst (λ h. receiver_of t h ≡ Some n) back.1
+          (receiver-back t at.plan i near (route.links i small) ∙ ap Some (sym at.here))
 
   -- a leg with a fibre out is at its beginning, and a message from over it is from its end
   onward : (f : Fibre) (l : Lsp) (n u : NodeId) (k : LinkId) (g : Leg) → leg_at s l n ≡ Some g →
       g.out_fibre ≡ Some f → is_over (following g) u k ≡ true → Onward t f n u k
   onward f l n u k g here leaves over =
-      let at = place-of l n g here in
-      let p = at.way in
+      let at = purpose-of t s o l n g (o l) (now.follows l) here in
+      let p = at.plan in
       let i = at.place in
       let route = at.planned.route in
       let out = out-place t p i f (sym at.fits.out_fibre ∙ leaves) in
@@ -210,14 +173,14 @@ module _ (t : Network) (o w : Routes) (s : Mesh) (now : Sound t o w s) (valid : 
     gift-shares f x m h apart at_m this that =
         used-at (MayShare (connected g None y) h) (connected g None y) f x this
         (λ on. absurd (let none = none-at g.in_fibre f x in cc (none, on)))
-        (λ on. absurd (never (reverse_of g.out_fibre) g.back_in facts.back_in on))
+        (λ on. still (taken-used f x g (back_in-taken g f x on)))
         (λ on. let is = at-is g.out_fibre (Some y) f x on in
         let label : y ≡ x = some-is y x is.1 in
         gift-shared f m h apart at_m is.0 (subst (λ z. uses f z h ≡ true) (sym label) that))
-        (λ on. absurd (never (reverse_of g.in_fibre) g.back_out facts.back_out on))
+        (λ on. still (or-second (takes f x g) _ (or-second (is_at g.out_fibre g.out_label f x) _ on)))
       where
-        facts : LegFacts n.0 (s.nodes n.0).lsp g
-        facts = facts-of t o w s stands l n g at_l
-
-        never : (at : Option Fibre) (label : Option ℕ) → label ≡ None → is_at at label f x ≡ true → ⊥
-        never at label none on = let is = (at-is at label f x on).1 in cc (none, is)
+        -- what it uses already
+        still : uses f x g ≡ true → MayShare (connected g None y) h
+        still used =
+            let may = leg-shares l g at_l own f x m h apart at_m used that in
+            record { backups = may.backups; apart = may.apart }

@@ -1,17 +1,22 @@
 -- Where the survey of a state's rows lists no calls that would contend where two groups fail, none would.
-use Rattle.std.proofs.Common.{◌≡◌, Bool, true, false, nat_eq, List, ◌++◌, refl, sym, ap, ◌∙◌, subst, arith, inl, inr, Contains}
-use Rattle.std.specs.Prelude.{◌⊎◌, ◌&&◌}
-use Rattle.ason_base.specs.Network.{IsTopology, Network}
+use Rattle.std.proofs.Common.{◌≡◌, Bool, true, false, nat_eq, List, ◌++◌, refl, sym, ◌∙◌, subst, arith, inl, inr, Contains}
+use Rattle.std.specs.Prelude.{◌⊎◌, ◌&&◌, ℕ, Some}
+use Rattle.ason_base.specs.Network.{IsTopology, Network, receiver_of}
 use Rattle.ason_base.specs.declared.calls.CallRow.{CallRow}
 use Rattle.ason_base.specs.declared.calls.LegRow.{LegRow}
 use Rattle.ason_base.specs.declared.commands.Group.{Group}
+use Rattle.ason_base.specs.declared.ids.Fibre.{Fibre}
 use Rattle.ason_base.specs.declared.ids.Lsp.{Lsp}
+use Rattle.ason_base.specs.declared.ids.NodeId.{NodeId}
+use Rattle.ason_base.specs.declared.tables.Leg.{Leg}
 use Rattle.mesh_rules.specs.declared.events.MeshEvent.{MeshEvent}
 use Rattle.mesh_rules.specs.Events.{after, route_of, IsRun}
+use Rattle.mesh_rules.specs.Legs.{takes}
 use Rattle.mesh_rules.specs.Machine.{Mesh, start}
 use Rattle.mesh_rules.specs.Rows.{call_row}
 use Rattle.mesh_laws.specs.declared.survey.Contend.{Contend as Listed}
-use Rattle.mesh_laws.specs.HopLaw.{LspFits}
+use Rattle.mesh_laws.specs.HeardLaw.{primary_of}
+use Rattle.mesh_laws.specs.HopLaw.{LspFits, leg_at}
 use Rattle.mesh_laws.specs.ContendLaw.{Contend}
 use Rattle.mesh_laws.specs.Survey.{between, end_of, groups_of}
 use Rattle.mesh_laws.specs.SurveyLaw.{ContendsAreListed, NoSurveyedContend, NoneListed, ShowsAll}
@@ -20,24 +25,30 @@ use Rattle.mesh_laws.proofs.hops.Laws.{every_hop}
 use Rattle.mesh_laws.proofs.nodes.Facts.{MeshFacts}
 use Rattle.mesh_laws.proofs.nodes.Runs.{facts-hold}
 use Rattle.mesh_laws.proofs.contends.Law.{no_contend}
+use Rattle.mesh_laws.proofs.sent.Run.{sound}
+use Rattle.mesh_laws.proofs.sent.Sound.{standing}
+use Rattle.mesh_laws.proofs.sent.Uses.{takes-to}
 use Rattle.mesh_laws.proofs.surveyed.Listed.{between-has, either-order, group-there}
-use Rattle.mesh_laws.proofs.surveyed.Rows.{label-there, owner-there, shown-turn}
-use Rattle.mesh_laws.proofs.surveyed.Stands.{own-end}
+use Rattle.mesh_laws.proofs.surveyed.Rows.{label-there, shown-turn}
+use Rattle.mesh_laws.proofs.surveyed.Stands.{comes-into, own-end}
 use Rattle.mesh_laws.proofs.alone.Runs.{run-first}
 
 module _ (t : Network) (valid : IsTopology t) (s : Mesh) (o : Routes) (hops : (l : Lsp) → LspFits t s l (o l))
-    (facts : MeshFacts t s) (calls : List CallRow) (legs : List LegRow) (shows : ShowsAll t s calls legs) where
+    (facts : MeshFacts t s) (calls : List CallRow) (legs : List LegRow) (shows : ShowsAll t s calls legs)
+    (comes : (f : Fibre) (x : ℕ) (l : Lsp) (n : NodeId) (g : Leg) → leg_at s l n ≡ Some g → takes f x g ≡ true →
+    receiver_of t f ≡ Some n) where
   -- what the survey lists of two groups, at a place where calls would contend
   listed : (g h : Group) (m : Contend t s g h) → (c : Listed) ×
       Contains (between t calls legs g h) c × (c.first ≡ g) × (c.second ≡ h)
   listed g h m =
-      let into = owner-there t valid s o hops facts calls legs shows m.node m.fibre m.label m.one m.one_turns.label in
+      let took = m.one_turns.label in
+      let into = comes-into t m.node m.fibre (comes m.fibre m.label took.back m.node took.leg took.there took.label) in
       let forward : Bool = nat_eq into.link.high.0 m.node.0 in
       let end : end_of into.link forward ≡ m.node = own-end into.link m.node into.touches_it in
-      let link : m.fibre.link ≡ into.link.id = ap (λ f. f.link) into.fibre in
+      let link : m.fibre.link ≡ into.link.id = into.number in
       let one = shown-turn t valid s o hops facts calls legs shows g m.node m.fibre m.label m.one_at m.one m.one_turns in
       let two = shown-turn t valid s o hops facts calls legs shows h m.node m.fibre m.label m.two_at m.two m.two_turns in
-      let label = label-there t valid s o hops facts calls legs shows m.node m.fibre m.label m.one m.one_turns.label in
+      let label = label-there t valid s o hops facts calls legs shows m.node m.fibre m.label m.one took in
       let a : CallRow = call_row m.one_at (s.nodes m.one_at.0).legs m.one in
       let b : CallRow = call_row m.two_at (s.nodes m.two_at.0).legs m.two in (
         _,
@@ -102,9 +113,12 @@ every_contend_listed t events valid run calls legs shows g h differ none =
     let s : Mesh = after t start events in
     let o : Routes = route_of t start events in
     let facts = facts-hold t events run in
-    let hops = (every_hop t events run).1 in (
-      none-of t valid s o hops facts calls legs shows g h none g h (inl (refl, refl)) differ,
-      none-of t valid s o hops facts calls legs shows g h none h g (inr (refl, refl)) (λ e. differ (sym e)),
+    let hops = (every_hop t events run).1 in
+    let w : Routes = primary_of t start events in
+    let all = sound t events run in
+    let comes = takes-to t all.0 w s (standing t all.0 w s all.1) in (
+      none-of t valid s o hops facts calls legs shows comes g h none g h (inl (refl, refl)) differ,
+      none-of t valid s o hops facts calls legs shows comes g h none h g (inr (refl, refl)) (λ e. differ (sym e)),
     )
 
 -- the law of two groups, by the rows

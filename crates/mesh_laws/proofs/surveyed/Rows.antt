@@ -1,6 +1,7 @@
 -- A table has a row of each leg and of each call that is guarded; and by the rows a call may turn where it may.
-use Rattle.std.proofs.Common.{◌≡◌, ℕ, Bool, true, false, cond, nat_eq, nat_lt, List, [], ◌∷◌, refl, sym, subst, arith, Contains}
-use Rattle.std.specs.Prelude.{◌&&◌, Option, Some, find, flat_map}
+use Rattle.std.proofs.Common.{◌≡◌, ℕ, Bool, true, false, cond, nat_eq, nat_lt, List, [], ◌∷◌, refl, sym, ap, subst, arith, inl, inr, Contains}
+use Rattle.std.specs.Prelude.{Option, Some, None, find, flat_map}
+use Rattle.std.proofs.lemmas.List.Elements.{Contains-append_left, Contains-append_right}
 use Rattle.ason_base.specs.Network.{IsTopology, Network, is_node_id}
 use Rattle.ason_base.specs.declared.calls.CallRow.{CallRow}
 use Rattle.ason_base.specs.declared.calls.LegRow.{LegRow}
@@ -16,22 +17,22 @@ use Rattle.ason_base.specs.declared.calls.Role.TheVariants as role
 use Rattle.ason_base.proofs.Ordered.{any-there, contains-head, contains-tail, in_order-has, there-any}
 use Rattle.ason_base.proofs.RisingNumbers.{nat_order}
 use Rattle.mesh_rules.specs.Calls.{find_call}
-use Rattle.mesh_rules.specs.Legs.{find_leg}
+use Rattle.mesh_rules.specs.Legs.{find_leg, is_at, reverse, reverse_of, takes}
 use Rattle.mesh_rules.specs.Machine.{Mesh}
-use Rattle.mesh_rules.specs.Rows.{call_row, call_rows, leg_row, leg_rows, standing}
+use Rattle.mesh_rules.specs.Rows.{call_row, call_rows, leg_row, leg_rows, link_of, standing}
+use Rattle.mesh_nodes.proofs.LabelPlaces.{at-is, either, or-first, or-second}
 use Rattle.mesh_nodes.proofs.LegList.{found-lsp, same_lsp-refl}
 use Rattle.mesh_nodes.proofs.routes.Lists.{contains-flat, contains-map}
 use Rattle.mesh_laws.specs.HopLaw.{LspFits, leg_at}
 use Rattle.mesh_laws.specs.ContendLaw.{MayTurnTo, TakesLabel}
 use Rattle.mesh_laws.specs.SurveyLaw.{ShowsAll}
-use Rattle.mesh_laws.specs.Survey.{hits, is_guarded_row, is_link, label_in, may_turn_to, labels_at, takes_at}
+use Rattle.mesh_laws.specs.Survey.{hits, is_guarded_row, is_link_label, labels_at, link_label, may_turn_to, row_labels, row_takes, takes_at}
 use Rattle.mesh_laws.proofs.alone.Facts.{Routes}
 use Rattle.mesh_laws.proofs.hops.Plans.{same}
 use Rattle.mesh_laws.proofs.nodes.CallParts.{named-lsp}
 use Rattle.mesh_laws.proofs.nodes.Facts.{MeshFacts}
-use Rattle.mesh_laws.proofs.nodes.LegParts.{Taken, taken}
 use Rattle.mesh_laws.proofs.restoration.Calls.{backup-there}
-use Rattle.mesh_laws.proofs.surveyed.Stands.{Into, placed}
+use Rattle.mesh_laws.proofs.surveyed.Stands.{placed}
 
 find-contains : {X : Type 0} (p : X → Bool) (xs : List X) (x : X) → find p xs ≡ Some x → Contains xs x
 find-contains p [] x e = absurd (cc e)
@@ -42,14 +43,44 @@ find-contains p (y ∷ xs) x e = go (p y) e (find-contains p xs x)
     go true e later = (let is : y ≡ x = cc e in subst (Contains (y ∷ xs)) is (contains-head y xs))
     go false e later = contains-tail y x xs (later e)
 
+-- the reverse of a fibre is of the same link
+out-link : (o : Option Fibre) (f : Fibre) → reverse_of o ≡ Some f → link_of o ≡ Some f.link
+out-link None f e = absurd (cc e)
+out-link (Some h) f e = let is : reverse h ≡ f = cc e in ap (λ (k : Fibre). Some k.link) is
+
+-- the row of a leg shows each label that the leg takes
+record Shows (n : NodeId) (f : Fibre) (x : ℕ) (g : Leg) : Type 0 where
+  shown : row_takes f.link x (leg_row n g) ≡ true
+  labels : Contains (row_labels f.link (leg_row n g)) x
+
+row-shows : (n : NodeId) (f : Fibre) (x : ℕ) (g : Leg) → takes f x g ≡ true → Shows n f x g
+row-shows n f x g this = elim (either (is_at g.in_fibre g.in_label f x) _ this) [
+  | inl on ↦ (let is = at-is g.in_fibre g.in_label f x on in record {
+    shown = or-first (is_link_label entry g.in_label k x) (is_link_label exit g.back_in k x)
+        (rw (is.0, is.1, same k.0) (same x));
+    labels = Contains-append_left (link_label k entry g.in_label) (link_label k exit g.back_in) x
+        (rw (is.0, is.1, same k.0) (contains-head x []));
+  })
+  | inr on ↦ (let is = at-is (reverse_of g.out_fibre) g.back_in f x on in
+      let out = out-link g.out_fibre f is.0 in record {
+        shown = or-second (is_link_label entry g.in_label k x) (is_link_label exit g.back_in k x)
+            (rw (out, is.1, same k.0) (same x));
+        labels = Contains-append_right (link_label k entry g.in_label) (link_label k exit g.back_in) x
+            (rw (out, is.1, same k.0) (contains-head x []));
+      })
+]
+  where
+    k : LinkId
+    k = f.link
+
+    entry : Option LinkId
+    entry = link_of g.in_fibre
+
+    exit : Option LinkId
+    exit = link_of g.out_fibre
+
 module _ (t : Network) (valid : IsTopology t) (s : Mesh) (o : Routes) (hops : (l : Lsp) → LspFits t s l (o l))
     (facts : MeshFacts t s) (calls : List CallRow) (legs : List LegRow) (shows : ShowsAll t s calls legs) where
-  -- it is the label in of a leg beyond Asked
-  took-there : (n : NodeId) (f : Fibre) (x : ℕ) (c : CallRec) → (takes : TakesLabel s c n f x) → Taken f x takes.leg
-  took-there n f x c takes =
-      let node = facts.node n.0 in
-      taken n.0 (s.nodes n.0).lsp f x takes.leg (node.leg takes.back takes.leg takes.there) takes.label
-
   node-spec : (n : NodeId) → is_node_id t.nodes n ≡ true → (m : NodeSpec) × Contains t.nodes m × (m.id ≡ n)
   node-spec n e =
       let one = any-there (λ (m : NodeSpec). nat_eq m.id.0 n.0) t.nodes e in
@@ -60,7 +91,7 @@ module _ (t : Network) (valid : IsTopology t) (s : Mesh) (o : Routes) (hops : (l
   pub leg-row-there : (l : Lsp) (n : NodeId) (b : Leg) → leg_at s l n ≡ Some b →
       Contains legs (leg_row n b)
   leg-row-there l n b here =
-      let m = node-spec n (placed t valid s o hops facts l n b here).node in
+      let m = node-spec n (placed t valid s o hops l n b here) in
       shows.legs_there (leg_row n b)
       (contains-flat (λ (k : NodeSpec). leg_rows k.id (s.nodes k.id.0)) t.nodes m.0 (leg_row n b) m.1
       (subst (λ k. Contains (leg_rows k (s.nodes k.0)) (leg_row n b)) (sym m.2)
@@ -71,7 +102,7 @@ module _ (t : Network) (valid : IsTopology t) (s : Mesh) (o : Routes) (hops : (l
       find_call c.call (s.nodes at.0).calls ≡ Some c → leg_at s l at ≡ Some b →
       Contains calls (call_row at (s.nodes at.0).legs c)
   call-row-there at c l b there here =
-      let m = node-spec at (placed t valid s o hops facts l at b here).node in
+      let m = node-spec at (placed t valid s o hops l at b here) in
       shows.calls_there (call_row at (s.nodes at.0).legs c)
       (contains-flat (λ (k : NodeSpec). call_rows k.id (s.nodes k.id.0)) t.nodes m.0 (call_row at (s.nodes at.0).legs c)
       m.1
@@ -111,7 +142,7 @@ module _ (t : Network) (valid : IsTopology t) (s : Mesh) (o : Routes) (hops : (l
       let row : CallRow = call_row at own c in
       let is_back : standing c.back own ≡ Some back = stands c.back own back held.leg turn.label.named here in
       let is_work : standing c.work own ≡ Some hit.work = stands c.work own hit.work worked.0 hit.named worked.1 in
-      let took = took-there n f x c turn.label in
+      let took = row-shows n f x turn.label.leg turn.label.label in
       let at_back : held.leg.lsp ≡ back = found-lsp back own held.leg here in
       let hit_lsp : hit.leg.lsp ≡ hit.work = found-lsp hit.work (s.nodes hit.node.0).legs hit.leg hit.there in
       let take_lsp : turn.label.leg.lsp ≡ back =
@@ -129,11 +160,7 @@ module _ (t : Network) (valid : IsTopology t) (s : Mesh) (o : Routes) (hops : (l
         take_lsp,
         same_lsp-refl back,
         same n.0,
-        took.phase,
-        took.fibre,
-        took.label,
-        same f.link.0,
-        same x,
+        took.shown,
       ) refl) in
       record {
         row_there = call-row-there at c back held.leg turn.there here;
@@ -144,14 +171,7 @@ module _ (t : Network) (valid : IsTopology t) (s : Mesh) (o : Routes) (hops : (l
   pub label-there : (n : NodeId) (f : Fibre) (x : ℕ) (c : CallRec) → TakesLabel s c n f x →
       Contains (labels_at legs n f.link) x
   label-there n f x c takes =
-      let took = took-there n f x c takes in
-      (in_order-has nat_lt nat_order (flat_map (λ r. cond (nat_eq r.node.0 n.0 && is_link r.in_link f.link)
-      (label_in r.in_label) []) legs) x).1
-      (contains-flat (λ (r : LegRow). cond (nat_eq r.node.0 n.0 && is_link r.in_link f.link) (label_in r.in_label) [])
+      (in_order-has nat_lt nat_order (flat_map (λ r. cond (nat_eq r.node.0 n.0) (row_labels f.link r) []) legs) x).1
+      (contains-flat (λ (r : LegRow). cond (nat_eq r.node.0 n.0) (row_labels f.link r) [])
       legs (leg_row n takes.leg) x (leg-row-there takes.back n takes.leg takes.there)
-      (rw (same n.0, took.fibre, same f.link.0, took.label) (contains-head x [])))
-
-  -- and its fibre is one of a link that comes in there
-  pub owner-there : (n : NodeId) (f : Fibre) (x : ℕ) (c : CallRec) → TakesLabel s c n f x → Into t n f
-  owner-there n f x c takes =
-      (placed t valid s o hops facts takes.back n takes.leg takes.there).into f (took-there n f x c takes).fibre
+      (rw (same n.0) (row-shows n f x takes.leg takes.label).labels))

@@ -1,15 +1,15 @@
 use Rattle.activation.proofs.KeptLegs.{connect-keeps}
-use Rattle.activation.proofs.MayStay.{connect-may}
 use Rattle.activation.proofs.handlers.connect.Goals as goal
 
 pub handle_kept-requires-clause-may : goal.handle_kept-requires-clause-may
 handle_kept-requires-clause-may c =
-    rw c.in_ok-change.ensures (connect-may c.args.tables.now c.args.from c.args.msg.now)
+    let t = c.args.tables.now in
+    rw c.in_ok-change.ensures (connect-keeps t c.args.from c.args.msg.now c.requires.links c.requires.legs).calm.0
 
 pub handle_kept-requires-clause-marks : goal.handle_kept-requires-clause-marks
 handle_kept-requires-clause-marks c =
     let t = c.args.tables.now in
-    rw c.in_ok-change.ensures (connect-keeps t c.args.from c.args.msg.now c.requires.links c.requires.legs).marks
+    rw c.in_ok-change.ensures (connect-keeps t c.args.from c.args.msg.now c.requires.links c.requires.legs).calm.1
 
 pub handle_kept-requires-clause-legs : goal.handle_kept-requires-clause-legs
 handle_kept-requires-clause-legs c =

@@ -1,4 +1,4 @@
-use Rattle.std.proofs.Common.{None, refl, subst}
+use Rattle.std.proofs.Common.{None, refl, subst, true}
 use Rattle.std.specs.Prelude.{Err}
 use Rattle.plan_reader.specs.Plans.{Answers, PlanOf}
 use Rattle.ason_main.specs.Answers.{Ask}
@@ -8,7 +8,7 @@ use Rattle.ason_main.proofs.answers.ask_input.Goals as goal
 pub returns-in-Err-Fault : goal.returns-in-Err-Fault
 returns-in-Err-Fault g c =
     let fault : PlanOf c.args.bytes.now (Err c.in-Err-Fault.fault) =
-    subst (λ e. Answers c.args.bytes.now (Err e)) c.in-Err-Fault.field-0-is c.in-Err-Fault.ensures.plan in
+    subst (λ e. Answers true c.args.bytes.now (Err e)) c.in-Err-Fault.field-0-is c.in-Err-Fault.ensures.plan in
     refused g.K.Sink.written g.K.Sink.faults (Ask c.args.question c.args.from.now c.args.to.now) c.args.bytes.now
     _ c.args.out.now c.refuse.new.out None c.refuse.result tt (rw c.in-Err-Fault.field-0-is fault) refl c.refuse.ensures
 

@@ -1,4 +1,4 @@
-use Rattle.std.proofs.Common.{subst}
+use Rattle.std.proofs.Common.{subst, true}
 use Rattle.std.specs.Prelude.{Err}
 use Rattle.plan_reader.specs.Plans.{Answers, PlanOf}
 use Rattle.ason_main.specs.Answers.{Run}
@@ -8,7 +8,7 @@ use Rattle.ason_main.proofs.answers.run_input.Goals as goal
 pub returns-in-Err-Fault : goal.returns-in-Err-Fault
 returns-in-Err-Fault g c =
     let fault : PlanOf c.args.bytes.now (Err c.in-Err-Fault.fault) =
-    subst (λ e. Answers c.args.bytes.now (Err e)) c.in-Err-Fault.field-0-is c.in-Err-Fault.ensures.plan in
+    subst (λ e. Answers true c.args.bytes.now (Err e)) c.in-Err-Fault.field-0-is c.in-Err-Fault.ensures.plan in
     refused g.K.Sink.written g.K.Sink.faults (Run c.args.pace) c.args.bytes.now _ c.args.out.now
     c.refuse.new.out c.args.kept.now c.refuse.result tt (rw c.in-Err-Fault.field-0-is fault) c.requires c.refuse.ensures
 

@@ -5,7 +5,7 @@ use Rattle.leg_table.specs.LegClaims.{ClaimsFit, MayAllMark, SharesStay, is_own_
 use Rattle.leg_table.specs.States.{local_of}
 use Rattle.leg_table.specs.Tables.{LegTable}
 use Rattle.leg_table.proofs.OwnFibres.{marks-over}
-use Rattle.leg_labels.proofs.KeptTables.{fibres-stay, shares-stay}
+use Rattle.leg_labels.proofs.KeptLegs.{fibres-stay, shares-stay}
 use Rattle.leg_labels.proofs.carrying.carry_out_kept.Goals as goal
 
 pub keep_legs-requires-clause-marks : goal.keep_legs-requires-clause-marks

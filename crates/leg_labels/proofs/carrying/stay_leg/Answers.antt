@@ -2,8 +2,7 @@ use Rattle.std.proofs.Common.{Some, ◌∙◌, ap, length, subst}
 use Rattle.ason_base.specs.declared.tables.Leg.{Leg}
 use Rattle.leg_table.specs.LegClaims.{MarksJust}
 use Rattle.leg_table.proofs.LegOrder.{legs-to}
-use Rattle.leg_labels.proofs.ChangedLabels.{stays-labels}
-use Rattle.leg_labels.proofs.KeptClaims.{stays-length}
+use Rattle.leg_labels.proofs.KeptLegs.{stays-fit, stays-length}
 use Rattle.leg_labels.proofs.carrying.stay_leg.Goals as goal
 
 pub returns-clause-len : goal.returns-clause-len
@@ -18,4 +17,4 @@ returns-clause-fit c =
     let after = c.remark.new.owner in
     let just = subst (λ (h : Leg). MarksJust h.lsp (Some h) o after) c.leg.ensures c.remark.ensures in
     rw c.set_leg.ensures.items
-    (stays-labels c.args.leg c.args.legs.now.items o after c.requires.fit c.requires.may just)
+    (stays-fit c.args.leg c.args.legs.now.items o after c.requires.fit c.requires.may just)

@@ -1,7 +1,7 @@
 use Rattle.std.proofs.Common.{◌≡◌, ◌∙◌, ap}
 use Rattle.mesh_rules.specs.Changes.{Answer}
 use Rattle.mesh_rules.specs.Legs.{legs_changed}
-use Rattle.leg_labels.proofs.KeptTables.{legs-fit}
+use Rattle.leg_labels.proofs.KeptLegs.{legs-fit}
 use Rattle.leg_labels.proofs.handling.handle.Goals as goal
 use Rattle.leg_labels.proofs.handling.handle.Goals.{then-not-is_empty+in_ok-carry_out_tables, else-not-is_empty}
 

@@ -2,7 +2,7 @@ use Rattle.std.proofs.Common.{subst}
 use Rattle.link_owner.specs.Claims.{RefusedFor}
 use Rattle.link_owner.specs.Owners.{claims_of}
 use Rattle.leg_table.specs.LegClaims.{bars}
-use Rattle.leg_labels.proofs.Carried.{none-least}
+use Rattle.leg_labels.proofs.ReservedLabels.{none-least}
 use Rattle.leg_labels.proofs.reserving.claim.Goals as goal
 
 pub unreachable-requires : goal.unreachable-requires

@@ -6,7 +6,6 @@ use Rattle.link_owner.specs.Owners.{claims_of, labels_of}
 use Rattle.mesh_rules.specs.Legs.{usable}
 use Rattle.leg_table.specs.States.{local_of}
 use Rattle.leg_table.proofs.LegOrder.{legs-to}
-use Rattle.leg_table.proofs.TakenLabels.{own-one-way}
 use Rattle.leg_labels.proofs.ClaimedLabels.{unclaimed-usable}
 use Rattle.leg_labels.proofs.UsableLabels.{shared-usable}
 use Rattle.leg_labels.proofs.usable_labels.usable.Goals as goal
@@ -17,8 +16,7 @@ returns-in-Work c =
     let o = c.args.owner.now in
     subst (λ r. c.unclaimed.result ≡ usable (local_of t) t.legs r c.args.risks.now c.args.f) (sym c.in-Work.is)
     (c.unclaimed.ensures
-    ∙ unclaimed-usable (local_of t) t.legs c.args.risks.now o c.args.f (legs-to t.legs c.rises.ensures.rising)
-    (own-one-way t c.requires.legs) c.requires.node.labels.claims c.requires.node.fibres
+    ∙ unclaimed-usable (local_of t) t.legs c.args.risks.now o c.args.f (legs-to t.legs c.rises.ensures.rising) c.requires.node.labels.claims c.requires.node.fibres
     (c.requires.node.fibres.fibres c.args.f ∙ c.requires.comes_in))
 
 pub returns-in-Back : goal.returns-in-Back
@@ -34,6 +32,5 @@ returns-in-Back c =
     (c.meet.ensures
     ∙ ap (λ labels. meet labels c.fitting.result) shared
     ∙ ap (meet (shareable (labels_of f o.claims) (claims_of f o.claims))) c.fitting.ensures
-    ∙ shared-usable (local_of t) t.legs risks o s f (legs-to t.legs c.rises.ensures.rising)
-    (own-one-way t c.requires.legs) c.requires.node.labels c.requires.node.fibres
+    ∙ shared-usable (local_of t) t.legs risks o s f (legs-to t.legs c.rises.ensures.rising) c.requires.node.labels c.requires.node.fibres
     (c.requires.node.fibres.fibres f ∙ c.requires.comes_in) within)

@@ -14,8 +14,8 @@ returns-in_err-script-clause-fault c =
     let t : Network = c.in_ok-topology.topology in
     let is_t : t ≡ network_of (ticks_of d) c.args.known c.args.links.now = search rules in
     let is_names : c.names.result.now ≡ c.args.known.names = search rules in
-    let is_ds : views c.elements.result.now ≡ elements_at (codes "script") d = search rules in
+    let is_ds : views c.elements-lines.result.now ≡ elements_at (codes "script") d = search rules in
     let h : FailsAs c.from_residual-in_err-script.result
-    (λ f. IsScriptOf t c.names.result.now (views c.elements.result.now) (Err f)) = search rules in
-    script_faulty d c.args.known c.args.links.now t c.names.result.now (views c.elements.result.now)
+    (λ f. IsScriptOf c.args.two_way t c.names.result.now (views c.elements-lines.result.now) (Err f)) = search rules in
+    script_faulty c.args.two_way d c.args.known c.args.links.now t c.names.result.now (views c.elements-lines.result.now)
     c.from_residual-in_err-script.result is_t is_names is_ds h

@@ -1,3 +1,4 @@
+use Rattle.std.proofs.Common.{true}
 use Rattle.plan_reader.proofs.PostablePlans.{names_found}
 use Rattle.trace_text.proofs.NodesNamed.{node_named}
 use Rattle.trace_text.proofs.RunsTold.{run_checked}
@@ -5,7 +6,7 @@ use Rattle.trace_text.proofs.ScriptsPosted.{script_posts}
 use Rattle.trace_text.proofs.laws.every_checked.Goals as goal
 
 pub returns-clause-named : goal.returns-clause-named
-returns-clause-named c bs p n spelled known = node_named p n (names_found bs p spelled) known
+returns-clause-named c bs p n spelled known = node_named p n (names_found true bs p spelled) known
 
 pub returns-clause-posts : goal.returns-clause-posts
 returns-clause-posts c = script_posts

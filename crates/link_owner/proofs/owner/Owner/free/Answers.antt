@@ -8,7 +8,7 @@ returns c =
     let r = c.index_mut.result.now in
     let read : IsRead c.args.f o c.self.inside.fibres.items c.self.inside.lit.items c.place-place.result r =
     record {
-      there = c.requires.comes_in;
+      there = c.requires;
       first = c.place-place.ensures.first;
       read = c.index_mut.ensures.value;
       view = c.self.view_is;

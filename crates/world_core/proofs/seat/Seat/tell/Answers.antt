@@ -1,5 +1,4 @@
-use Rattle.std.proofs.Common.{◌++◌, ap, ◌∙◌}
-use Rattle.ason_base.specs.declared.commands.DeskItem.{DeskItem}
+use Rattle.std.proofs.Common.{ap, ◌∙◌}
 use Rattle.mesh_rules.proofs.LinkNews.{apart-at, news-more}
 use Rattle.world_core.specs.Seats.{SeatState, told_of}
 use Rattle.world_core.proofs.seat.Seat.tell.Goals as goal

@@ -1,0 +1,78 @@
+-- A protected two-way call: its working LSP and its backup have labels for the way back, each label that a node
+-- takes being the one that the next node sends. When its working LSP is hit the call turns, and its backup is
+-- connected both ways.
+use Rattle.std.proofs.Common.{◌≡◌, true, false, List, [], ◌∷◌, ◌++◌, map, refl}
+use Rattle.std.specs.Prelude.{Some, None}
+use Rattle.ason_base.specs.Labels as labels
+use Rattle.ason_base.specs.Network.{Network}
+use Rattle.ason_base.specs.declared.calls.CallState.{CallState}
+use Rattle.ason_base.specs.declared.calls.CallState.TheVariants.{Guarded, Turned}
+use Rattle.ason_base.specs.declared.calls.LegRow.{LegRow}
+use Rattle.ason_base.specs.declared.calls.Phase.{Phase}
+use Rattle.ason_base.specs.declared.calls.Phase.TheVariants.{Held, Live}
+use Rattle.ason_base.specs.declared.calls.Role.TheVariants.{Back, Work}
+use Rattle.mesh_rules.specs.declared.events.MeshEvent.{MeshEvent}
+use Rattle.mesh_rules.specs.Events.{after}
+use Rattle.mesh_rules.specs.Machine.{start}
+use Rattle.mesh_rules.specs.Rows.{all_call_rows, all_leg_rows}
+use Rattle.mesh_examples.proofs.Scene.{all_enabled, desk, fails_link, joins, learns, link, lsp, over, row, sets_up_both, spec, takes}
+
+abbrev network : Network
+network = record {
+  wait = 0;
+  nodes = spec 1 false ∷ spec 2 false ∷ spec 3 false ∷ [];
+  links = joins 1 1 2 2 [] ∷ joins 2 2 3 2 [] ∷ joins 3 1 3 2 [] ∷ [];
+}
+
+-- its working LSP is connected, and then its backup is reserved
+abbrev set_up : List MeshEvent
+set_up =
+    learns 1 (2 ∷ [])
+    ++ learns 2 (3 ∷ [])
+    ++ sets_up_both 1 1 3 true (over 1 3 ∷ []) (Some (over 1 1 ∷ over 2 2 ∷ []))
+    ∷ desk 1
+    ∷ takes 3 1
+    ∷ takes 1 3
+    ∷ takes 2 1
+    ∷ takes 3 2
+    ∷ takes 2 3
+    ∷ takes 1 2
+    ∷ []
+
+-- the working LSP's link fails; the egress tells of its fibre, and the backup is activated
+abbrev turned : List MeshEvent
+turned =
+    set_up ++ fails_link 3 ∷ desk 3 ∷ takes 1 3 ∷ takes 2 1 ∷ takes 3 2 ∷ takes 2 3 ∷ takes 1 2 ∷ []
+
+-- the legs, while those of the backup are in this phase
+abbrev rows : Phase → List LegRow
+rows phase =
+    row (lsp 1 1 1) Work 1 Live None None (Some (link 3)) (Some 1) (Some 1) None
+    ∷ row (lsp 1 1 2) Back 1 phase None None (Some (link 1)) (Some 1) (Some 1) None
+    ∷ row (lsp 1 1 2) Back 2 phase (Some (link 1)) (Some 1) (Some (link 2)) (Some 1) (Some 1) (Some 1)
+    ∷ row (lsp 1 1 1) Work 3 Live (Some (link 3)) (Some 1) None None None (Some 1)
+    ∷ row (lsp 1 1 2) Back 3 phase (Some (link 2)) (Some 1) None None None (Some 1)
+    ∷ []
+
+abbrev states : List MeshEvent → List CallState
+states events = map (λ c. c.state) (all_call_rows network (after network start events))
+
+enabled : all_enabled network start turned ≡ true
+unfolding labels.numbers_from
+enabled = refl
+
+reserved : all_leg_rows network (after network start set_up) ≡ rows Held
+unfolding labels.numbers_from
+reserved = refl
+
+guarded : states set_up ≡ Guarded ∷ []
+unfolding labels.numbers_from
+guarded = refl
+
+activated : all_leg_rows network (after network start turned) ≡ rows Live
+unfolding labels.numbers_from
+activated = refl
+
+carried : states turned ≡ Turned ∷ []
+unfolding labels.numbers_from
+carried = refl

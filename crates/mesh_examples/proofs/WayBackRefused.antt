@@ -1,0 +1,78 @@
+-- A call from node 3 to node 2 takes a label of the fibre over which a two-way call from node 1 to node 3 comes back.
+-- A node that doesn't convert has no other label for the way back: it refuses the Path. One that converts takes
+-- another.
+use Rattle.std.proofs.Common.{◌≡◌, Bool, true, false, List, [], ◌∷◌, refl}
+use Rattle.std.specs.Prelude.{Some, None}
+use Rattle.ason_base.specs.Codes.{label_code}
+use Rattle.ason_base.specs.Labels as labels
+use Rattle.ason_base.specs.Network.{Network}
+use Rattle.ason_base.specs.declared.calls.CallState.TheVariants.{Bare, Blocked}
+use Rattle.ason_base.specs.declared.calls.Cause.TheVariants.{Code, Unset}
+use Rattle.ason_base.specs.declared.calls.LegRow.{LegRow}
+use Rattle.ason_base.specs.declared.calls.Phase.TheVariants.{Live}
+use Rattle.ason_base.specs.declared.calls.Role.TheVariants.{Work}
+use Rattle.mesh_rules.specs.declared.events.MeshEvent.{MeshEvent}
+use Rattle.mesh_rules.specs.Events.{after}
+use Rattle.mesh_rules.specs.Machine.{start}
+use Rattle.mesh_rules.specs.Rows.{all_leg_rows}
+use Rattle.mesh_examples.proofs.Scene.{all_enabled, called, desk, joins, link, lsp, over, row, seen, sets_up_alone, sets_up_both, spec, takes}
+
+-- whether node 2 converts
+abbrev network : Bool → Network
+network converts = record {
+  wait = 0;
+  nodes = spec 1 false ∷ spec 2 converts ∷ spec 3 false ∷ [];
+  links = joins 1 1 2 2 [] ∷ joins 2 2 3 2 [] ∷ [];
+}
+
+abbrev refused : List MeshEvent
+refused =
+    sets_up_alone 1 3 2 (over 3 2 ∷ [])
+    ∷ desk 3
+    ∷ takes 2 3
+    ∷ takes 3 2
+    ∷ sets_up_both 2 1 3 false (over 1 1 ∷ over 2 2 ∷ []) None
+    ∷ desk 1
+    ∷ takes 2 1
+    ∷ takes 1 2
+    ∷ []
+
+abbrev converted : List MeshEvent
+converted =
+    sets_up_alone 1 3 2 (over 3 2 ∷ [])
+    ∷ desk 3
+    ∷ takes 2 3
+    ∷ takes 3 2
+    ∷ sets_up_both 2 1 3 false (over 1 1 ∷ over 2 2 ∷ []) None
+    ∷ desk 1
+    ∷ takes 2 1
+    ∷ takes 3 2
+    ∷ takes 2 3
+    ∷ takes 1 2
+    ∷ []
+
+abbrev connected : List LegRow
+connected =
+    row (lsp 1 1 1) Work 1 Live None None (Some (link 1)) (Some 1) (Some 1) None
+    ∷ row (lsp 1 1 1) Work 2 Live (Some (link 1)) (Some 1) (Some (link 2)) (Some 1) (Some 2) (Some 1)
+    ∷ row (lsp 3 1 1) Work 2 Live (Some (link 2)) (Some 1) None None None None
+    ∷ row (lsp 1 1 1) Work 3 Live (Some (link 2)) (Some 1) None None None (Some 2)
+    ∷ row (lsp 3 1 1) Work 3 Live None None (Some (link 2)) (Some 1) None None
+    ∷ []
+
+refused_enabled : all_enabled (network false) start refused ≡ true
+unfolding labels.numbers_from
+refused_enabled = refl
+
+converted_enabled : all_enabled (network true) start converted ≡ true
+unfolding labels.numbers_from
+converted_enabled = refl
+
+blocked : (seen (network false) (after (network false) start refused)).calls
+    ≡ (called 2 Blocked (Code label_code) ∷ []) ∷ [] ∷ (called 1 Bare Unset ∷ []) ∷ []
+unfolding labels.numbers_from
+blocked = refl
+
+other_label : all_leg_rows (network true) (after (network true) start converted) ≡ connected
+unfolding labels.numbers_from
+other_label = refl

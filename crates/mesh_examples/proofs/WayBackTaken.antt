@@ -1,0 +1,63 @@
+-- The label on which a two-way call comes back is taken: a call from the other end gets the other label of the fibre,
+-- or is blocked where the link has one label.
+use Rattle.std.proofs.Common.{◌≡◌, ℕ, true, false, List, [], ◌∷◌, refl}
+use Rattle.std.specs.Prelude.{Some, None}
+use Rattle.ason_base.specs.Codes.{set_code}
+use Rattle.ason_base.specs.Labels as labels
+use Rattle.ason_base.specs.Network.{Network}
+use Rattle.ason_base.specs.declared.calls.CallState.TheVariants.{Bare, Blocked}
+use Rattle.ason_base.specs.declared.calls.Cause.TheVariants.{Code, Unset}
+use Rattle.ason_base.specs.declared.calls.LegRow.{LegRow}
+use Rattle.ason_base.specs.declared.calls.Phase.TheVariants.{Live}
+use Rattle.ason_base.specs.declared.calls.Role.TheVariants.{Work}
+use Rattle.mesh_rules.specs.declared.events.MeshEvent.{MeshEvent}
+use Rattle.mesh_rules.specs.Events.{after}
+use Rattle.mesh_rules.specs.Machine.{start}
+use Rattle.mesh_rules.specs.Rows.{all_leg_rows}
+use Rattle.mesh_examples.proofs.Scene.{all_enabled, called, desk, joins, link, lsp, over, row, seen, sets_up_alone, sets_up_both, spec, takes}
+
+abbrev network : ℕ → Network
+network most = record { wait = 0; nodes = spec 1 false ∷ spec 2 false ∷ []; links = joins 1 1 2 most [] ∷ [] }
+
+abbrev events : List MeshEvent
+events =
+    sets_up_both 1 1 2 false (over 1 1 ∷ []) None
+    ∷ desk 1
+    ∷ takes 2 1
+    ∷ takes 1 2
+    ∷ sets_up_alone 2 2 1 (over 2 1 ∷ [])
+    ∷ desk 2
+    ∷ takes 1 2
+    ∷ takes 2 1
+    ∷ []
+
+abbrev first_call : List LegRow
+first_call =
+    row (lsp 1 1 1) Work 1 Live None None (Some (link 1)) (Some 1) (Some 1) None
+    ∷ row (lsp 1 1 1) Work 2 Live (Some (link 1)) (Some 1) None None None (Some 1)
+    ∷ []
+
+abbrev both_calls : List LegRow
+both_calls =
+    row (lsp 1 1 1) Work 1 Live None None (Some (link 1)) (Some 1) (Some 1) None
+    ∷ row (lsp 2 1 1) Work 1 Live (Some (link 1)) (Some 2) None None None None
+    ∷ row (lsp 1 1 1) Work 2 Live (Some (link 1)) (Some 1) None None None (Some 1)
+    ∷ row (lsp 2 1 1) Work 2 Live None None (Some (link 1)) (Some 2) None None
+    ∷ []
+
+enabled : all_enabled (network 2) start events ≡ true
+unfolding labels.numbers_from
+enabled = refl
+
+other_label : all_leg_rows (network 2) (after (network 2) start events) ≡ both_calls
+unfolding labels.numbers_from
+other_label = refl
+
+no_label : all_leg_rows (network 1) (after (network 1) start events) ≡ first_call
+unfolding labels.numbers_from
+no_label = refl
+
+blocked : (seen (network 1) (after (network 1) start events)).calls
+    ≡ (called 1 Bare Unset ∷ []) ∷ (called 2 Blocked (Code set_code) ∷ []) ∷ []
+unfolding labels.numbers_from
+blocked = refl

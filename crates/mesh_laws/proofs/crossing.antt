@@ -1,0 +1,4 @@
+pub mod Law
+pub mod Meets
+pub mod Steps
+pub mod Upstream

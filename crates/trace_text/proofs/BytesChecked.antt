@@ -1,0 +1,86 @@
+-- What bytes are checked to be.
+use Rattle.std.proofs.Common.{◌≡◌, ◌∙◌, ◌⊎◌, ℕ, Bool, cond, true, false, List, Option, Some, None, Ok, bytes_eq, codes, inl, inr, refl, ap, sym, subst}
+use Rattle.plan_reader.specs.declared.plan.Plan.{Plan}
+use Rattle.trace_text.specs.Checks.{AreChecked, AreFound, AreMigrated, IsChecked}
+use Rattle.trace_text.specs.LinesRead.{LinesRead}
+use Rattle.trace_text.specs.TraceForms.{TraceHead, head_in, head_of, if_version, is_version_2, lines_behind, or_uncounted, plan_in, version_of, with_version}
+use Rattle.trace_text.specs.TraceRead.{IsPlanIn}
+use Rattle.trace_text.specs.Words.{parted}
+use Rattle.trace_text.specs.declared.checking.FoundRun.{FoundRun}
+
+-- the version of a head is 2 or 1
+line_known : (line : List ℕ) (v : ℕ) → version_of line ≡ Some v → (v ≡ 2) ⊎ (v ≡ 1)
+line_known line v e = go (bytes_eq line (codes "ason-trace 2")) (bytes_eq line (codes "ason-trace 1")) e
+  where
+    go : (a b : Bool) → cond a (Some 2) (cond b (Some 1) None) ≡ Some v → (v ≡ 2) ⊎ (v ≡ 1)
+    go true b e = inl (let is : 2 ≡ v = cc (e) in sym is)
+    go false true e = inr (let is : 1 ≡ v = cc (e) in sym is)
+    go false false e = absurd (cc (e))
+
+head_known : (bytes : List ℕ) (h : TraceHead) → head_of bytes ≡ Some h → (h.version ≡ 2) ⊎ (h.version ≡ 1)
+head_known bytes h e = by_line (parted 10 bytes) e
+  where
+    by_plan : (v : ℕ) (o : Option (List ℕ × List ℕ)) → (v ≡ 2) ⊎ (v ≡ 1) → with_version v o ≡ Some h →
+        (h.version ≡ 2) ⊎ (h.version ≡ 1)
+    by_plan v None known e = absurd (cc (e))
+    by_plan v (Some (plan, rest)) known e =
+        let same : record { version = v; plan = plan; rest = rest } ≡ h = cc (e) in
+        subst (λ (g : TraceHead). (g.version ≡ 2) ⊎ (g.version ≡ 1)) same known
+
+    by_version : (line rest : List ℕ) (o : Option ℕ) → version_of line ≡ o → if_version rest o ≡ Some h →
+        (h.version ≡ 2) ⊎ (h.version ≡ 1)
+    by_version line rest None is e = absurd (cc (e))
+    by_version line rest (Some v) is e = by_plan v (plan_in (parted 10 rest)) (line_known line v is) e
+
+    by_line : (o : Option (List ℕ × List ℕ)) → head_in o ≡ Some h → (h.version ≡ 2) ⊎ (h.version ≡ 1)
+    by_line None e = absurd (cc (e))
+    by_line (Some (line, rest)) e = by_version line rest (version_of line) refl e
+
+-- bytes are checked where the lines behind their plan are
+pub bytes_checked : (bytes : List ℕ) (h : TraceHead) (p : Plan) (ls : LinesRead) (f : FoundRun) →
+    head_of bytes ≡ Some h → IsPlanIn h.version h.plan (Ok p) → lines_behind p h.rest ≡ Some ls →
+    AreFound (is_version_2 h.version) p ls f →
+    IsChecked bytes
+    (record { version = h.version; events = f.events; left_out = f.left_out; plan = p; rows = f.rows })
+bytes_checked bytes h p ls f begun spelled lines found = by_version (head_known bytes h begun)
+  where
+    of_version : (v : ℕ) → h.version ≡ v → head_of bytes ≡ Some (record { version = v; plan = h.plan; rest = h.rest })
+    of_version v is = begun ∙ λ i. Some (record { version = is i; plan = h.plan; rest = h.rest })
+
+    by_version : (h.version ≡ 2) ⊎ (h.version ≡ 1) → IsChecked bytes
+        (record { version = h.version; events = f.events; left_out = f.left_out; plan = p; rows = f.rows })
+    by_version (inl is) =
+        let are : AreChecked p ls f = subst (λ (v : ℕ). AreFound (is_version_2 v) p ls f) is found in
+        inl (record {
+          version = is;
+          plan_bytes = h.plan;
+          entries = ls.entries;
+          trace = record {
+            rest = h.rest;
+            head = of_version 2 is;
+            plan = subst (λ (v : ℕ). IsPlanIn v h.plan (Ok p)) is spelled;
+            form = ap or_uncounted lines ∙ are.form;
+          };
+          run = are.run;
+          table = are.table;
+          events = are.events;
+          left_out = are.left_out;
+        })
+    by_version (inr is) =
+        let are : AreMigrated p ls f = subst (λ (v : ℕ). AreFound (is_version_2 v) p ls f) is found in
+        inr (record {
+          version = is;
+          plan_bytes = h.plan;
+          entries = ls.entries;
+          text = are.text;
+          trace = record {
+            rest = h.rest;
+            head = of_version 1 is;
+            plan = subst (λ (v : ℕ). IsPlanIn v h.plan (Ok p)) is spelled;
+            form = ap or_uncounted lines ∙ are.form;
+          };
+          run = are.run;
+          kept = are.kept;
+          table = are.table;
+          events = are.events;
+        })

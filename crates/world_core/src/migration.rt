@@ -1,0 +1,40 @@
+//! The migration of a list of events: what of it still is a run.
+
+ghost use Rattle.std.specs.Prelude.{IfOk};
+ghost use Rattle.world_core.specs.Migration.{AreKept};
+ghost use Rattle.world_rules.specs.Worlds.{start};
+
+use crate::faults::Fault;
+use crate::world::World;
+use ason_base::{Copied, Event, Items, OutOfMemory, Topology};
+use std::alloc::Global;
+
+/// A list of events.
+pub type Events = Items<Event>;
+
+/// The events that were kept, and how many were left out.
+#[derive(Drop)]
+pub struct Migrated {
+    pub events: Events,
+    pub left_out: u64,
+}
+
+/// Those of these events, in order, that are enabled after the ones kept before. Each other one is left out.
+pub fn migrate(alloc: Global, t: &Topology, events: &[Event]) -> Result<Migrated, OutOfMemory>
+    ensures kept { IfOk result (λ m. AreKept t.now (start t.now) events.now m.events m.left_out) }
+{
+    let mut world = World::new(alloc, t)?;
+    let mut kept = Items::new(alloc);
+    let mut left_out = 0;
+    for event in events {
+        match world.step(alloc, t, event) {
+            Ok(()) => kept.push(event.copy(alloc)?)?,
+            Err(Fault::NotEnabled) => left_out += 1,
+            Err(Fault::OutOfMemory) => return Err(OutOfMemory),
+        }
+    }
+    Ok(Migrated {
+        events: kept,
+        left_out,
+    })
+}
