@@ -1,8 +1,9 @@
 -- Stations that are watched stay in view.
-use Rattle.std.proofs.Common.{◌≡◌, ℕ, List, [], ◌∷◌, ◌++◌, map, refl, sym, ap, ◌∙◌, subst, append-nil, append_assoc}
+use Rattle.std.proofs.Common.{◌≡◌, ℕ, false, List, [], ◌∷◌, ◌++◌, map, refl, sym, ap, ◌∙◌, subst, append-nil, append_assoc}
 use Rattle.std.specs.Prelude.{Option, Some, None, Result, Ok, Err, IsTrue, OnOk, length}
 use Rattle.std.specs.List.{AllByRecursion, AllZip}
 use Rattle.ason_base.specs.declared.commands.Entry.{Entry}
+use Rattle.ason_base.specs.Network.{Network}
 use Rattle.fleet.specs.Rounds.{Rounds}
 use Rattle.fleet.specs.Standing.{FleetState}
 use Rattle.fleet.specs.Views.{HasPublished, Publishes, ShowNoiseMore, publishers_of, shown_by}
@@ -14,43 +15,43 @@ use Rattle.mgmt_view.specs.Tables.{EndsWith, last_in}
 use Rattle.mgmt_view.specs.declared.node_table.NodeTable.{NodeTable}
 use Rattle.mgmt_view.proofs.Lasts.{last-snoc}
 use Rattle.script_rules.specs.Outputs.{How}
+use Rattle.script_rules.specs.Stages.{Stage, last_of}
 use Rattle.station.specs.Noise.{is_noise}
 use Rattle.station.specs.Watched.{ShowsNoiseMore, Shown, published_by, shown_of, table_of}
 use Rattle.station_doings.specs.States.{StationState}
-use Rattle.ason_main.specs.Running.{MakesRound}
-use Rattle.ason_main.specs.Views.{IsInView, IsTableOf, StayInView}
+use Rattle.ason_main.specs.Running.{MakesRound, StandsAt}
+use Rattle.ason_main.specs.Views.{IsInView, IsTableOf, StayInView, ends_in_noise}
+use Rattle.ason_main.proofs.Rounded.{AreRounded, all_both, round_rounded}
+use Rattle.ason_main.proofs.Rounding.{IsMaking}
 
 abbrev IsNoise : Entry → Type 0
 IsNoise e = IsTrue (is_noise e)
 
--- the table that a station publishes is a table of it
-table-now : (s : StationState) → IsTableOf (table_of s) s
-table-now s = record {
+-- the table that a station publishes is a table of it, where its log doesn't end in noise
+pub table-now : (s : StationState) → ends_in_noise s.log ≡ false → IsTableOf (table_of s) s
+table-now s ended = record {
   legs = refl;
   before = s.log;
   since = [];
   noise = tt;
+  ended = ended;
   log = sym (append-nil s.log);
   entries = refl;
 }
 
-noise-both : (xs ys : List Entry) → AllByRecursion IsNoise xs → AllByRecursion IsNoise ys →
-    AllByRecursion IsNoise (xs ++ ys)
-noise-both [] ys one two = two
-noise-both (x ∷ xs) ys one two = (one.0, noise-both xs ys one.1 two)
-
 -- One station
 
 -- a watched one that has published its table
-published-in-view : (s z : StationState) → HasPublished s.publisher z → IsInView s → IsInView z
-published-in-view s z has is = record {
+published-in-view : (s z : StationState) → HasPublished s.publisher z → ends_in_noise z.log ≡ false → IsInView s →
+    IsInView z
+published-in-view s z has ended is = record {
   publisher = with_published is.publisher (table_of z);
   watched = has ∙ ap (λ p. published_by p (table_of z)) is.watched;
   table = table_of z;
   last =
       ap last_in (sym (append_assoc is.publisher.published is.publisher.waiting (table_of z ∷ [])))
       ∙ last-snoc (is.publisher.published ++ is.publisher.waiting) (table_of z);
-  is_table = table-now z;
+  is_table = table-now z ended;
 }
 
 -- one that heard noise
@@ -66,7 +67,8 @@ noise-in-view s z more is = record {
         ∙ ap (λ node. leg_rows node.place.id node.state) (sym more.node);
     before = is.is_table.before;
     since = is.is_table.since ++ more.heard;
-    noise = noise-both is.is_table.since more.heard is.is_table.noise more.noise;
+    noise = all_both IsNoise is.is_table.since more.heard is.is_table.noise more.noise;
+    ended = is.is_table.ended;
     log =
         more.log ∙ ap (λ xs. xs ++ more.heard) is.is_table.log
         ∙ append_assoc is.is_table.before is.is_table.since more.heard;
@@ -107,17 +109,27 @@ noise-stay [] (y ∷ ys) all = absurd all
 noise-stay (x ∷ xs) [] all = absurd all
 noise-stay (x ∷ xs) (y ∷ ys) all = (noise-in-view x y all.0, noise-stay xs ys all.1)
 
-published_stay : (xs ys : List StationState) → AllZip HasPublished (publishers_of xs) ys → StayInView xs ys
-published_stay [] [] all = tt
-published_stay [] (y ∷ ys) all = absurd all
-published_stay (x ∷ xs) [] all = absurd all
-published_stay (x ∷ xs) (y ∷ ys) all = (published-in-view x y all.0, published_stay xs ys all.1)
+published_stay : (xs ys : List StationState) → AllZip HasPublished (publishers_of xs) ys → AreRounded ys →
+    StayInView xs ys
+published_stay [] [] all ended = tt
+published_stay [] (y ∷ ys) all ended = absurd all
+published_stay (x ∷ xs) [] all ended = absurd all
+published_stay (x ∷ xs) (y ∷ ys) all ended =
+    (published-in-view x y all.0 ended.0, published_stay xs ys all.1 ended.1)
 
 -- after a round that came to its end
-pub round-stay : (r : Result ℕ RoundFault) (old new : FleetState) → Publishes r old new →
-    OnOk r (StayInView old.stations new.stations)
-round-stay (Ok count) old new all = published_stay old.stations new.stations all
-round-stay (Err fault) old new all = tt
+pub round-stay : (count : ℕ) (old new : FleetState) → Publishes (Ok count) old new → AreRounded new.stations →
+    StayInView old.stations new.stations
+round-stay count old new all ended = published_stay old.stations new.stations all ended
+
+-- no log ends in noise behind a round that a line makes
+pub made-rounded : (Makes : ℕ → Stage → List Stage → Type 0) (t : Network) (workers rounds made count : ℕ)
+    (old now new : FleetState) (s : Stage) → StandsAt t old s → IsMaking Makes t rounds made old now →
+    Rounds workers now new (Ok count) → AreRounded new.stations
+made-rounded Makes t workers rounds made count old now new s at making on =
+    let so_far = making.so_far s at in
+    let z = last_of s so_far.more in
+    round_rounded workers count now new t z.lines z.made so_far.led.stands on
 
 -- a round of a crew
 pub made-rounds : (a b : How) → a ≡ b → (r : Result ℕ RoundFault) (old new : FleetState) →

@@ -11,6 +11,7 @@ pub mod OneMerge
 pub mod PlanRuns
 pub mod Printing
 pub mod Replies
+pub mod Rounded
 pub mod Rounding
 pub mod Scripts
 pub mod Settling

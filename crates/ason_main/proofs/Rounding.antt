@@ -15,13 +15,9 @@ use Rattle.ason_base.specs.declared.commands.Disturb.{Disturb}
 use Rattle.script_rules.specs.Stages.{IsNextRound, Settles, Stage, Waits, is_settled, is_stopped, last_of, world_at}
 use Rattle.script_rules.proofs.Follows.{last_append}
 use Rattle.ason_main.specs.Running.{AreLed, Does, HasStood, IsDone, StandsAt, StandsYet, Stops, stop_of}
+use Rattle.ason_main.proofs.Rounded.{all_both}
 
 -- Stages
-
-pub all_both : (P : Stage → Type 0) (xs ys : List Stage) → AllByRecursion P xs → AllByRecursion P ys →
-    AllByRecursion P (xs ++ ys)
-all_both P [] ys one two = two
-all_both P (x ∷ xs) ys one two = (one.0, all_both P xs ys one.1 two)
 
 -- the last of later stages is the last of all
 pub led_both : (t : Network) (now new : FleetState) (o stop : Option NodeId) (s : Stage) (xs ys : List Stage) →

@@ -22,7 +22,8 @@ use Rattle.ason_main.specs.declared.runner.stops.Stop.{Stop}
 use Rattle.ason_main.specs.Running.{AreBegun, AreDone, AreLed, CanDoAll, Does, DoesAll, EndsIn, FailsIn, HasStood, RunState, StandsAt, Stops, StopsAll, Tells, at}
 use Rattle.script_rules.proofs.Follows.{lines_follow}
 use Rattle.ason_main.proofs.Printing.{not_shown, part_after, prints_first_early, prints_first_later, prints_one, prints_stopped, shown, stopped_shows}
-use Rattle.ason_main.proofs.Rounding.{all_both, led_at, led_both, led_none}
+use Rattle.ason_main.proofs.Rounded.{all_both}
+use Rattle.ason_main.proofs.Rounding.{led_at, led_both, led_none}
 use Rattle.ason_main.proofs.OneLine.{no_fall, rose_later, two_rises}
 
 -- Calls that were posted

@@ -1,5 +1,5 @@
 -- The station of a node that is watched is in view, and what its viewer is told.
-use Rattle.std.proofs.Common.{◌≡◌, ◌==◌, ◌+◌, ℕ, zero, suc, not, cond, nat_lt, List, [], ◌∷◌, ◌++◌, map, length, refl, sym, ap, ◌∙◌, subst, append-nil}
+use Rattle.std.proofs.Common.{◌≡◌, ◌==◌, ◌+◌, ℕ, zero, suc, false, not, cond, nat_lt, List, [], ◌∷◌, ◌++◌, map, length, refl, sym, ap, ◌∙◌, subst, append-nil}
 use Rattle.std.specs.Prelude.{Option, Some, None, Ok, Err, IsSome, position, slice_get, slice_set}
 use Rattle.std.specs.List.{AllByRecursion, position_or_len}
 use Rattle.std.proofs.lemmas.List.{length-map}
@@ -25,7 +25,8 @@ use Rattle.station.specs.declared.watching.WatchFault.TheVariants as fault
 use Rattle.station_doings.specs.States.{StationState}
 use Rattle.table_text.specs.EndsText.{plan_node}
 use Rattle.table_text.specs.ViewText.{view_text}
-use Rattle.ason_main.specs.Views.{IsInView, IsTableOf, IsViewOf, IsViewed, StayInView}
+use Rattle.ason_main.specs.Views.{IsInView, IsTableOf, IsViewOf, IsViewed, StayInView, ends_in_noise}
+use Rattle.ason_main.proofs.Rounded.{AreRounded, all_at}
 
 -- What is told
 
@@ -107,8 +108,9 @@ named_node p name n f lines r named stands = go (position (is_seat n) f.seats) r
     go (Some place) found = refl
 
 -- from now on it is in view
-pub watched_view : (n : NodeId) (v : ViewerState) (old new : FleetState) → WatchesAt n (Ok v) old new → IsViewed n new
-watched_view n v old new is = (
+pub watched_view : (n : NodeId) (v : ViewerState) (old new : FleetState) → AreRounded old.stations →
+    WatchesAt n (Ok v) old new → IsViewed n new
+watched_view n v old new ended is = (
   is.after,
   ap (λ (f : FleetState). station_of f n) is.fleet
       ∙ ap (station_in (record old { stations = slice_set old.stations is.place is.after })) is.found
@@ -123,18 +125,12 @@ watched_view n v old new is = (
       before = is.before.log;
       since = [];
       noise = tt;
+      ended = all_at (λ (s : StationState). ends_in_noise s.log ≡ false) old.stations is.place is.before ended is.there;
       log = sym (append-nil is.before.log);
       entries = refl;
     });
   },
 )
-
-free_at : (xs : List StationState) (place : ℕ) (x : StationState) → AreUnwatched xs → slice_get xs place ≡ Some x →
-    x.publisher ≡ None
-free_at [] place x all at = absurd (cc (at))
-free_at (y ∷ xs) zero x all at =
-    let same : y ≡ x = cc (at) in subst (λ (s : StationState). s.publisher ≡ None) same all.0
-free_at (y ∷ xs) (suc place) x all at = free_at xs place x all.1 at
 
 none_watched : (o : Option PublisherState) → o ≡ None → IsSome o → ⊥
 none_watched o none some = absurd (cc (none, some))
@@ -143,4 +139,5 @@ none_watched o none some = absurd (cc (none, some))
 pub not_watched : (n : NodeId) (old new : FleetState) → AreUnwatched old.stations →
     WatchesAt n (Err fault.Watched) old new → ⊥
 not_watched n old new all is =
-    none_watched is.before.publisher (free_at old.stations is.place is.before all is.there) is.watches.0
+    none_watched is.before.publisher
+    (all_at (λ (s : StationState). s.publisher ≡ None) old.stations is.place is.before all is.there) is.watches.0

@@ -1,5 +1,5 @@
 -- What is told of a node that is watched.
-use Rattle.std.specs.Prelude.{◌≡◌, ℕ, List, ◌++◌, Option, Some, IsTrue, length}
+use Rattle.std.specs.Prelude.{◌≡◌, ℕ, Bool, false, List, [], ◌∷◌, ◌++◌, Option, Some, IsTrue, length}
 use Rattle.std.specs.List.{AllByRecursion, AllZip}
 use Rattle.ason_base.specs.declared.commands.Entry.{Entry}
 use Rattle.ason_base.specs.declared.ids.NodeId.{NodeId}
@@ -16,12 +16,22 @@ use Rattle.table_text.specs.ViewText.{view_text}
 
 -- Tables
 
--- the legs of the station's node as they are, and how long its log was before noise came alone
+-- whether noise comes last in these lines, behind ones in which it does or doesn't
+abbrev pub noise_after : Bool → List Entry → Bool
+noise_after last [] = last
+noise_after last (e ∷ es) = noise_after (is_noise e) es
+
+-- whether the last line is of noise
+abbrev pub ends_in_noise : List Entry → Bool
+ends_in_noise es = noise_after false es
+
+-- the legs of the station's node as they are, and how many lines its log has without the noise that came last
 pub record IsTableOf (t : NodeTable) (s : StationState) : Type 0 where
   pub legs : t.legs ≡ (table_of s).legs
   pub before : List Entry
   pub since : List Entry
   pub noise : AllByRecursion (λ e. IsTrue (is_noise e)) since
+  pub ended : ends_in_noise before ≡ false
   pub log : s.log ≡ before ++ since
   pub entries : t.entries ≡ length before
 

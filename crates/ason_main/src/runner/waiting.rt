@@ -4,7 +4,7 @@ ghost use Rattle.std.specs.Prelude.{IfErr, None, OnOk};
 ghost use Rattle.ason_base.specs.Network.{Network};
 ghost use Rattle.plan_reader.specs.declared.lines.Line.TheVariants as said;
 ghost use Rattle.ason_main.specs.Views.{StayInView};
-ghost use Rattle.ason_main.specs.Running.{Does, Stops};
+ghost use Rattle.ason_main.specs.Running.{CanDo, Does, Stops};
 
 use crate::runner::crew::Crew;
 use crate::runner::stops::Stop;
@@ -19,6 +19,7 @@ pub fn wait<R: Threads + Wait + Sync, G: Gate>(
     fleet: &mut Fleet,
     rounds: u32,
 ) -> Result<(), Stop>
+    requires { CanDo fleet.old (said.Wait rounds) }
     ensures done { (t : Network) → OnOk result
         (Does t crew.now.workers (said.Wait rounds) fleet.old fleet.new None) }
     ensures stops { (t : Network) → IfErr result

@@ -5,6 +5,7 @@ use Rattle.station.specs.declared.watching.WatchFault.TheVariants as fault
 use Rattle.fleet.specs.Views.{WatchesAt}
 use Rattle.fleet.proofs.Watching.{watches-stand}
 use Rattle.ason_main.specs.Answers.{printing}
+use Rattle.ason_main.proofs.Rounded.{new_rounded}
 use Rattle.ason_main.proofs.Viewed.{not_watched, watched_view}
 use Rattle.ason_main.proofs.WatchReplies.{nothing_begun, watch_starved}
 use Rattle.ason_main.proofs.watching.watch_node.Goals as goal
@@ -16,7 +17,8 @@ watch_fleet-requires-clause-new g c lives bounds =
 
 pub watch_fleet-requires-clause-view : goal.watch_fleet-requires-clause-view
 watch_fleet-requires-clause-view g c lives bounds =
-    watched_view c.args.node c.in-Ok.viewer c.args.fleet.now c.watch.new.self c.in-Ok.ensures
+    watched_view c.args.node c.in-Ok.viewer c.args.fleet.now c.watch.new.self
+    (new_rounded c.args.plan.now.topology c.args.fleet.now c.requires.new) c.in-Ok.ensures
 
 pub unreachable-requires : goal.unreachable-requires
 unreachable-requires g c =

@@ -3,7 +3,7 @@ use Rattle.ason_base.proofs.Results.{passed_on}
 use Rattle.script_rules.specs.Stages.{Waits}
 use Rattle.ason_main.specs.Running.{Stops}
 use Rattle.std.specs.Prelude.{Ok}
-use Rattle.ason_main.proofs.InView.{round-stay, stay-self, stay-then}
+use Rattle.ason_main.proofs.InView.{made-rounded, round-stay, stay-self, stay-then}
 use Rattle.ason_main.proofs.Rounding.{making_begins, making_ends, making_next, making_stops}
 use Rattle.ason_main.proofs.Waiting.{waits_line, waits_none, waits_stay, waits_step, waits_stops}
 use Rattle.plan_reader.specs.declared.lines.Line.TheVariants as said
@@ -38,7 +38,10 @@ loop-made-preserved g c =
           c.in_ok-round.ensures.rounds,
       stay-then c.args.fleet.now.stations c.loop-made.fleet.stations c.round.new.fleet.stations
           c.loop-made.invariant.1
-          (round-stay (Ok c.in_ok-round.field-0) c.loop-made.fleet c.round.new.fleet c.in_ok-round.ensures.publishes),
+          (round-stay c.in_ok-round.field-0 c.loop-made.fleet c.round.new.fleet c.in_ok-round.ensures.publishes
+          (made-rounded (Waits c.requires.network w) c.requires.network w c.args.rounds c.loop-made._made
+          c.in_ok-round.field-0 c.args.fleet.now c.loop-made.fleet c.round.new.fleet c.requires.stage c.requires.stands
+          (c.loop-made.invariant.0 c.requires.network) c.in_ok-round.ensures.rounds)),
     )
 
 pub returns-clause-done : goal.returns-clause-done
