@@ -12,6 +12,7 @@ pub mod Kept
 mod LegFollowed
 mod Links
 pub mod Named
+mod ResvFollowed
 pub mod Roles
 mod Searched
 mod Told

@@ -17,6 +17,7 @@ pub mod Laws
 pub mod LinkNews
 pub mod NewParts
 pub mod NewCalls
+pub mod NewOrders
 pub mod NoticeTaken
 pub mod NoticeSteps
 pub mod NoticeArrives

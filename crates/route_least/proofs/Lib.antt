@@ -1,4 +1,5 @@
 pub mod Added
+pub mod AllMarked
 pub mod Bans
 pub mod BestArc
 pub mod LeastLaws

@@ -1,16 +1,7 @@
--- A call that gets a new LSP knows nothing of its fibres to be down.
-use Rattle.std.proofs.Common.{◌≡◌, ℕ, Bool, true, false, cond, nat_eq, not, List, [], ◌∷◌, drop, refl, sym, ◌∙◌, subst}
+-- A call that gets a new LSP from a message knows nothing of its fibres to be down.
+use Rattle.std.proofs.Common.{◌≡◌, ℕ, Bool, true, false, not, List, [], ◌∷◌, drop, refl}
 use Rattle.std.specs.Prelude.{◌&&◌, Option, Some, None}
-use Rattle.ason_base.specs.Lsps.{has_fibre, is_lsp}
-use Rattle.ason_base.specs.declared.calls.CallState.{CallState}
-use Rattle.ason_base.specs.declared.calls.CallState.TheVariants.{Asking, Blocked}
-use Rattle.ason_base.specs.declared.calls.Cause.{Cause}
-use Rattle.ason_base.specs.declared.calls.Cause.TheVariants.{Code, Full, NoRoute, Spent, Unset}
 use Rattle.ason_base.specs.declared.calls.Phase.TheVariants.{Held, Live}
-use Rattle.ason_base.specs.declared.commands.Command.{Command}
-use Rattle.ason_base.specs.declared.commands.Command.TheVariants.{Setup, Release, Protect, Retry, Revert, Fail, Repair}
-use Rattle.ason_base.specs.declared.commands.DeskItem.{DeskItem}
-use Rattle.ason_base.specs.declared.commands.DeskItem.TheVariants.{Order, Alarm, Clear}
 use Rattle.ason_base.specs.declared.ids.CallNo.{CallNo}
 use Rattle.ason_base.specs.declared.ids.Fibre.{Fibre}
 use Rattle.ason_base.specs.declared.ids.Lsp.{Lsp}
@@ -19,50 +10,34 @@ use Rattle.ason_base.specs.declared.messages.Msg.{Msg}
 use Rattle.ason_base.specs.declared.messages.Msg.TheVariants.{Path, Resv, PathTear, PathErr, Notify}
 use Rattle.ason_base.specs.declared.messages.PathRole.{PathRole}
 use Rattle.ason_base.specs.declared.messages.PathRole.TheVariants.{Work, Back}
-use Rattle.ason_base.specs.declared.network.LinkSpec.{LinkSpec}
 use Rattle.ason_base.specs.declared.steps.Step.{Step}
 use Rattle.ason_base.specs.declared.tables.CallRec.{CallRec}
 use Rattle.ason_base.specs.declared.tables.Leg.{Leg}
 use Rattle.ason_base.specs.declared.tables.Out.{Out}
-use Rattle.ason_base.specs.Codes.{label_code}
 use Rattle.mesh_rules.specs.declared.arrivals.Arrival.{Arrival}
 use Rattle.mesh_rules.specs.declared.changes.CallChange.{CallChange}
-use Rattle.mesh_rules.specs.declared.changes.CallChange.TheVariants as call
 use Rattle.mesh_rules.specs.declared.neighbours.Neighbour.{Neighbour}
 use Rattle.mesh_rules.specs.ActivationAnswers.{confirmed, disarmed, is_confirmed}
 use Rattle.mesh_rules.specs.Activations.{armed_on, path_again}
-use Rattle.mesh_rules.specs.Alarms.{enters}
-use Rattle.mesh_rules.specs.Calls.{call_with, calls_changed, find_call, is_bare, is_stuck, is_turned, names}
+use Rattle.mesh_rules.specs.Calls.{call_with, find_call, names}
 use Rattle.mesh_rules.specs.Changes.{Answer}
-use Rattle.mesh_rules.specs.Events.{on_first, on_first_item}
-use Rattle.mesh_rules.specs.FirstLegs.{first_link, is_full, lacks_first_back}
-use Rattle.mesh_rules.specs.KnownRows.{known_rows}
-use Rattle.mesh_rules.specs.LeastRoutes.{Trip, least_trip}
+use Rattle.mesh_rules.specs.Events.{on_first}
 use Rattle.mesh_rules.specs.Legs.{connected, find_leg, following, is_active_backup, is_armed, is_asked, is_closing, is_contended, is_held, is_node, is_over, label_through, leg_of, previous, with_phase}
 use Rattle.mesh_rules.specs.LocalNodes.{LocalNode, own_link}
 use Rattle.mesh_rules.specs.Messages.{arrival, on_message}
 use Rattle.mesh_rules.specs.Notifies.{Notice, notice_passed, notice_told, notify_with}
-use Rattle.mesh_rules.specs.Orders.{on_item, on_order}
 use Rattle.mesh_rules.specs.Pairs.{route_from}
 use Rattle.mesh_rules.specs.PathErrs.{PathFailure, err_passed, path_err_with}
 use Rattle.mesh_rules.specs.Paths.{PathRequest, path_with}
-use Rattle.mesh_rules.specs.Protects.{protect_with, protects}
-use Rattle.mesh_rules.specs.Releases.{release_with, releases, tears}
 use Rattle.mesh_rules.specs.Reports.{call_reported, fibre_into, reported, reported_on, with_report}
 use Rattle.mesh_rules.specs.Resvs.{answered, is_expected, labels_left, passed_back, resv_with}
-use Rattle.mesh_rules.specs.Retries.{retry_with}
-use Rattle.mesh_rules.specs.Reverts.{revert_with}
-use Rattle.mesh_rules.specs.Setups.{SetupRequest, call_record, is_order_here, is_spent, new_call, next_lsp, over_first, over_found, setup_with}
 use Rattle.mesh_rules.specs.State.{NodeState}
 use Rattle.mesh_rules.specs.Tears.{tear_with, torn}
-use Rattle.mesh_rules.specs.Turns.{has_any}
 use Rattle.mesh_nodes.specs.Order.{CallsRise}
-use Rattle.mesh_nodes.proofs.CallList.{find-without_call, found-number}
 use Rattle.mesh_nodes.proofs.Cases.{if_cases}
-use Rattle.mesh_laws.specs.ReportLaw.{reports_of}
 use Rattle.mesh_laws.proofs.reports.FirstPaths.{no_calls-first_path}
-use Rattle.mesh_laws.proofs.reports.Reported.{go_back-puts, report-names, turn-puts}
-use Rattle.mesh_laws.proofs.reports.NewParts.{AreNew, IsNew, answered-new, called-there, contended-new, new-decide, new-from, new-none, new-put, pair-new, refused-new, turned-new}
+use Rattle.mesh_laws.proofs.reports.Reported.{report-names}
+use Rattle.mesh_laws.proofs.reports.NewParts.{AreNew, IsNew, answered-new, called-there, contended-new, new-decide, new-none, refused-new, turned-new}
 
 module _ (p : LocalNode) (s : NodeState) (rise : CallsRise s.calls) (l : Lsp)
     (unnamed : (k : CallNo) (c : CallRec) → find_call k s.calls ≡ Some c → names l c ≡ false) where
@@ -176,128 +151,6 @@ module _ (p : LocalNode) (s : NodeState) (rise : CallsRise s.calls) (l : Lsp)
       notify-new u (record { lsp = j; msg = Notify j e at k code; at = at; link = k; code = code })
       (find_leg j s.legs)
 
-  -- Orders
-
-  no-reports : (w : SetupRequest) (state : CallState) (work : Option Lsp) (cause : Cause) →
-      reports_of l (call_record w state work cause) ≡ []
-  no-reports w state work cause = go (is_lsp work l)
-    where
-      go : (b : Bool) → cond {A = List Fibre} b [] [] ≡ []
-      go true = refl
-      go false = refl
-
-  record-new : (w : SetupRequest) (state : CallState) (work : Option Lsp) (cause : Cause)
-      (changes : List CallChange) → changes ≡ call.Put (call_record w state work cause) ∷ [] →
-      AreNew p s rise l unnamed changes
-  record-new w state work cause changes is =
-      new-put p s rise l unnamed changes (call_record w state work cause) is (λ named. no-reports w state work cause)
-
-  setup-new : (w : SetupRequest) (o : Option CallRec) → New (setup_with p s w o)
-  setup-new w (Some c) = unchanged [] refl
-  setup-new w None = if_cases New (is_order_here p w) _ _ (λ e. begun w.via) (λ e. unchanged [] refl)
-    where
-      over : (route : List Step) (o : Option LinkSpec) → New (over_first p s w route o)
-      over route None = unchanged [] refl
-      over route (Some out) =
-          if_cases New (is_spent s) _ _ (λ e. record-new w Blocked None Spent _ refl)
-          (λ e. if_cases New (is_full s) _ _ (λ f. record-new w Blocked None Full _ refl)
-          (λ f. if_cases New (lacks_first_back p s w.both (Work w.protected) out) _ _
-          (λ h. record-new w Blocked None (Code label_code) _ refl)
-          (λ h. record-new w Asking (Some (next_lsp p s)) Unset _ refl)))
-
-      found : (o : Option Trip) → New (over_found p s w o)
-      found None = record-new w Blocked None NoRoute _ refl
-      found (Some r) = over r.steps (first_link p r.steps)
-
-      begun : (via : Option (List Step)) → New (new_call p s w via)
-      begun None = found (least_trip (known_rows p s) p.id w.egress)
-      begun (Some route) = over route (first_link p route)
-
-  goes-new : (c : CallRec) (changes : List CallChange) → changes ≡ call.Goes c.call ∷ [] →
-      AreNew p s rise l unnamed changes
-  goes-new c changes is k x found named =
-      go (nat_eq c.call.0 k.0) (sym (find-without_call c.call s.calls k)
-      ∙ subst (λ cs. find_call k (calls_changed cs s.calls) ≡ Some x) is found)
-    where
-      go : (b : Bool) → cond b None (find_call k s.calls) ≡ Some x → reports_of l x ≡ []
-      go true e = absurd (cc e)
-      go false e = absurd (let never = unnamed k x e in cc (never, named))
-
-  tears-none : (o : Option Leg) → (tears o).calls ≡ []
-  tears-none None = refl
-  tears-none (Some g) = refl
-
-  release-new : (from : NodeId) (o : Option CallRec) → New (release_with p s from o)
-  release-new from None = unchanged [] refl
-  release-new from (Some c) =
-      if_cases New (nat_eq from.0 p.id.0) _ _
-      (λ e. goes-new c (releases s c).calls
-      (rw (tears-none (leg_of c.work s.legs), tears-none (leg_of c.back s.legs)) refl))
-      (λ e. unchanged [] refl)
-
-  own-call : (n : CallNo) (c : CallRec) → find_call n s.calls ≡ Some c → find_call c.call s.calls ≡ Some c
-  own-call n c found = subst (λ k. find_call k s.calls ≡ Some c) (sym (found-number n s.calls c found)) found
-
-  protects-new : (c : CallRec) → find_call c.call s.calls ≡ Some c → (o : Option Leg) → New (protects p s c o)
-  protects-new c there None = unchanged [] refl
-  protects-new c there (Some w) = pair-new p s rise l unnamed c w there
-
-  protect-new : (n : CallNo) (from : NodeId) (o : Option CallRec) → find_call n s.calls ≡ o →
-      New (protect_with p s from o)
-  protect-new n from None is = unchanged [] refl
-  protect-new n from (Some c) is =
-      if_cases New (nat_eq from.0 p.id.0 && is_bare c.state) _ _
-      (λ e. protects-new c (own-call n c is) (leg_of c.work s.legs)) (λ e. unchanged [] refl)
-
-  retry-new : (n : CallNo) (from : NodeId) (o : Option CallRec) → find_call n s.calls ≡ o →
-      New (retry_with p s from o)
-  retry-new n from None is = unchanged [] refl
-  retry-new n from (Some c) is =
-      if_cases New (nat_eq from.0 p.id.0) _ _
-      (λ e. if_cases New (is_stuck c.state && (has_any c.work_reports && not (has_any c.back_reports))) _ _
-      (λ f. let puts = turn-puts l s.legs c (leg_of c.back s.legs) in
-      new-from p s rise l unnamed _ c puts.put (own-call n c is) puts.calls
-      (λ named. sym puts.same_names ∙ named))
-      (λ f. unchanged [] refl))
-      (λ e. unchanged [] refl)
-
-  revert-new : (n : CallNo) (from : NodeId) (o : Option CallRec) → find_call n s.calls ≡ o →
-      New (revert_with p s from o)
-  revert-new n from None is = unchanged [] refl
-  revert-new n from (Some c) is =
-      if_cases New (nat_eq from.0 p.id.0) _ _
-      (λ e. if_cases New (is_turned c.state && not (has_any c.work_reports)) _ _
-      (λ f. let puts = go_back-puts l c (leg_of c.back s.legs) in
-      new-from p s rise l unnamed _ c puts.put (own-call n c is) puts.calls
-      (λ named. sym puts.same_names ∙ named))
-      (λ f. unchanged [] refl))
-      (λ e. unchanged [] refl)
-
-  order-new : (c : Command) → New (on_order p s c)
-  order-new (Setup n from to protected two via backup) =
-      setup-new
-      (record { call = n; from = from; egress = to; protected = protected; both = two; via = via; backup = backup })
-      (find_call n s.calls)
-  order-new (Release n from) = release-new from (find_call n s.calls)
-  order-new (Protect n from) = protect-new n from (find_call n s.calls) refl
-  order-new (Retry n from) = retry-new n from (find_call n s.calls) refl
-  order-new (Revert n from) = revert-new n from (find_call n s.calls) refl
-  order-new (Fail g) = unchanged [] refl
-  order-new (Repair g) = unchanged [] refl
-
-  pub item-new : (i : DeskItem) → New (on_item p s i)
-  item-new (Order c) = order-new c
-  item-new (Alarm f) =
-      if_cases New (enters p f (own_link p f.link) && not (has_fibre s.down f)) _ _ (λ e. unchanged _ refl)
-      (λ e. unchanged [] refl)
-  item-new (Clear f) =
-      if_cases New (enters p f (own_link p f.link) && has_fibre s.down f) _ _ (λ e. unchanged _ refl)
-      (λ e. unchanged [] refl)
-
   pub first-new : (u : NodeId) (ms : List Msg) → New (on_first p s u ms)
   first-new u [] = unchanged [] refl
   first-new u (m ∷ ms) = message-new u m
-
-  pub first_item-new : (items : List DeskItem) → New (on_first_item p s items)
-  first_item-new [] = unchanged [] refl
-  first_item-new (i ∷ items) = item-new i

@@ -36,7 +36,8 @@ use Rattle.mesh_laws.proofs.hops.Purposes.{Each, Purpose}
 use Rattle.mesh_laws.proofs.hops.Run.{Carried, step_carries, step_routes}
 use Rattle.mesh_laws.proofs.hops.Views.{leg-there, notices-else}
 use Rattle.mesh_laws.proofs.reports.GentleWords.{CallOf, RouteTold}
-use Rattle.mesh_laws.proofs.reports.NewCalls.{first-new, first_item-new}
+use Rattle.mesh_laws.proofs.reports.NewCalls.{first-new}
+use Rattle.mesh_laws.proofs.reports.NewOrders.{first_item-new}
 use Rattle.mesh_laws.proofs.reports.OwnNotices.{LowFirst}
 use Rattle.mesh_laws.proofs.reports.Steps.{step-told}
 use Rattle.mesh_laws.proofs.reports.Ticks.{tick-new}

@@ -4,7 +4,7 @@ use Rattle.std.proofs.lemmas.List.{length-replicate}
 use Rattle.std.proofs.lemmas.List.Elements.{All-contains, Contains-push}
 use Rattle.route_least.specs.Costs.{is_marked}
 use Rattle.route_least.specs.Marking.{AreMarking, Crosses}
-use Rattle.route_least.proofs.Marked.{all_marked, first_marking, marked_round, round_fewer, round_len}
+use Rattle.route_least.proofs.AllMarked.{all_marked, first_marking, marked_round, round_fewer, round_len}
 use Rattle.route_least.proofs.PlaceLists.{empty_list}
 use Rattle.route_least.proofs.leading.leading.Goals as goal
 

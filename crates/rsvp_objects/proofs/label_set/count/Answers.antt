@@ -1,5 +1,5 @@
 use Rattle.std.proofs.Common.{◌∙◌, ap, sym, length, arith}
-use Rattle.rsvp_objects.proofs.Labels.{none_below, all_below, count_takes, count_skips}
+use Rattle.rsvp_objects.proofs.LabelsBelow.{none_below, all_below, count_takes, count_skips}
 use Rattle.rsvp_objects.proofs.label_set.count.Goals as goal
 use Rattle.rsvp_objects.proofs.label_set.count.Goals.{then-holds, else-holds}
 

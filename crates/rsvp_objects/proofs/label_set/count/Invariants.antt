@@ -1,5 +1,5 @@
 use Rattle.std.proofs.Common.{◌≡◌, ◌<◌, length}
-use Rattle.rsvp_objects.proofs.Labels.{labels_below}
+use Rattle.rsvp_objects.proofs.LabelsBelow.{labels_below}
 use Rattle.rsvp_objects.proofs.label_set.count.Given as goal
 
 abbrev pub invariant-labels : goal.invariant-labels

@@ -1,6 +1,6 @@
 use Rattle.std.proofs.Common.{◌∙◌, ap, sym, length, arith, refl}
-use Rattle.rsvp_objects.proofs.Labels.{none_below, room_for_one, items_begin, items_take, items_skip, count_takes}
-use Rattle.rsvp_objects.proofs.Labels.{count_skips, labels_below}
+use Rattle.rsvp_objects.proofs.LabelsBelow.{none_below, room_for_one, items_begin, items_take, items_skip, count_takes}
+use Rattle.rsvp_objects.proofs.LabelsBelow.{count_skips, labels_below}
 use Rattle.rsvp_objects.proofs.label_set.put_labels.Goals as goal
 use Rattle.rsvp_objects.proofs.label_set.put_labels.Goals.{then-holds, else-holds}
 

@@ -1,6 +1,6 @@
 use Rattle.std.proofs.Common.{◌≡◌, ◌≤◌, ◌+◌, ◌*◌, ◌++◌, length, vec_len, vec_capacity}
 use Rattle.rsvp_objects.specs.LabelSets.{among, labels_bytes}
-use Rattle.rsvp_objects.proofs.Labels.{labels_below}
+use Rattle.rsvp_objects.proofs.LabelsBelow.{labels_below}
 use Rattle.rsvp_objects.proofs.label_set.put_labels.Given as goal
 
 abbrev pub invariant-labels : goal.invariant-labels

@@ -1,6 +1,6 @@
 use Rattle.std.proofs.Common.{◌+◌, ◌*◌, ap, ℕ, arith}
 use Rattle.wire_buf.proofs.Codecs.{appends_all, appends_none}
-use Rattle.rsvp_objects.proofs.Labels.{label_set-length, label_set_written}
+use Rattle.rsvp_objects.proofs.LabelsBelow.{label_set-length, label_set_written}
 use Rattle.rsvp_objects.proofs.label_set.write_label_set.Goals as goal
 
 pub returns : goal.returns
