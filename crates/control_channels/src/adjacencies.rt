@@ -280,6 +280,9 @@ fn frame_again(
         (frames.new.items ≡ frames.old.items ++ frames_to me (again_to adjacency.now)) }
     ensures spelled { OnOk result (AllSpelled me (again_to adjacency.now)) }
 {
+    if adjacency.hop.pending() == 0 {
+        return Ok(());
+    }
     let due = adjacency.hop.due(maker.alloc)?;
     frame_all(maker, me, adjacency.peer, due, frames)
 }

@@ -146,6 +146,9 @@ impl Neighbour {
     fn push_sent(&self, alloc: Global, sends: &mut FloodSends) -> Result<(), OutOfMemory>
         ensures { OnOk result (sends.new ≡ sends.old ++ sent_to self.now) }
     {
+        if self.due.is_empty() {
+            return Ok(());
+        }
         let (first, others) = self.due.as_slices();
         push_due(alloc, sends, self.id, first)?;
         push_due(alloc, sends, self.id, others)
@@ -154,7 +157,9 @@ impl Neighbour {
     fn age(&mut self)
         ensures { self.new ≡ older_neighbour self.old }
     {
-        age_all(self.due.make_contiguous());
+        if !self.due.is_empty() {
+            age_all(self.due.make_contiguous());
+        }
     }
 }
 

@@ -112,6 +112,9 @@ impl Hop {
     pub fn commit(&mut self)
         ensures { self.new ≡ resting (all_sent self.old) }
     {
+        if self.prepared.is_empty() {
+            return;
+        }
         self.sent += self.prepared.len() as u32;
         match self.unacked.append(&mut self.prepared) {
             Ok(()) => {}

@@ -46,6 +46,11 @@ nothing-then a = λ i. record {
 
 -- Ticks
 
+-- where there is no wait, a tick does nothing
+pub none-wait : (legs : List Leg) (calls : List CallRec) → all_ticked 0 legs calls ≡ nothing
+none-wait legs [] = refl
+none-wait legs (c ∷ calls) = ap (followed_by nothing) (none-wait legs calls)
+
 module _ (wait : ℕ) (legs : List Leg) where
   ticked-last : (calls : List CallRec) (c : CallRec) →
       all_ticked wait legs (calls ++ c ∷ []) ≡ followed_by (all_ticked wait legs calls) (ticked wait legs c)

@@ -42,11 +42,14 @@ fn tick_call(
 }
 
 /// What a tick does: the calls that wait count it, in order of number, and go back where that is
-/// the last one of the wait.
+/// the last one of the wait. Where the network has no wait none is looked at.
 pub fn tick_change(alloc: Global, tables: &NodeTables, calls: &Calls) -> Result<Change, OutOfMemory>
     ensures { IfOk result (λ c. c ≡ tick_answer tables.now calls.now) }
 {
     let mut change = Change::nothing(alloc);
+    if tables.wait() == 0 {
+        return Ok(change);
+    }
     for call in calls.calls() {
         tick_call(alloc, &mut change, tables, call)?;
     }

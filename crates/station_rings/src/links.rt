@@ -160,6 +160,9 @@ fn hand_over(out: &mut Out, backlog: &mut Parcels, into: &mut Into, early: &mut 
 {
     into.slots_beside(out);
     take_in(into, early);
+    if backlog.is_empty() {
+        return;
+    }
     out.slots_beside(into);
     refill(out, backlog);
     into.slots_beside(out);
