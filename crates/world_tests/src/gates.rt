@@ -15,7 +15,7 @@ use std::thread;
 use std::thread::Threads;
 
 /// How often a gate looks before it gives up.
-pub(crate) const LOOKS: u64 = 10_000_000;
+pub(crate) const LOOKS: u64 = 1_000_000;
 
 /// The plan of one call over one link.
 const PLAN: &str = r#"script = ["setup c1 a b unprotected"]
