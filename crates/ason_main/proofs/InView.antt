@@ -1,7 +1,7 @@
 -- Stations that are watched stay in view.
-use Rattle.std.proofs.Common.{◌≡◌, ℕ, false, List, [], ◌∷◌, ◌++◌, map, refl, sym, ap, ◌∙◌, subst, append-nil, append_assoc}
-use Rattle.std.specs.Prelude.{Option, Some, None, Result, Ok, Err, IsTrue, OnOk, length}
-use Rattle.std.specs.List.{AllByRecursion, AllZip}
+use Rattle.std.proofs.Common.{◌≡◌, ℕ, false, List, [], ◌∷◌, ◌++◌, refl, sym, ap, ◌∙◌, subst, append-nil, append_assoc}
+use Rattle.std.specs.Prelude.{Result, Ok, IsTrue}
+use Rattle.std.specs.List.{AllZip}
 use Rattle.ason_base.specs.declared.commands.Entry.{Entry}
 use Rattle.ason_base.specs.Network.{Network}
 use Rattle.fleet.specs.Rounds.{Rounds}
@@ -10,9 +10,8 @@ use Rattle.fleet.specs.Views.{HasPublished, Publishes, ShowNoiseMore, publishers
 use Rattle.fleet.specs.declared.fleet.RoundFault.{RoundFault}
 use Rattle.fleet.proofs.Places.{zip-self, zip-twice}
 use Rattle.mesh_rules.specs.Rows.{leg_rows}
-use Rattle.mgmt_view.specs.Publishing.{PublisherState, with_published}
-use Rattle.mgmt_view.specs.Tables.{EndsWith, last_in}
-use Rattle.mgmt_view.specs.declared.node_table.NodeTable.{NodeTable}
+use Rattle.mgmt_view.specs.Publishing.{with_published}
+use Rattle.mgmt_view.specs.Tables.{last_in}
 use Rattle.mgmt_view.proofs.Lasts.{last-snoc}
 use Rattle.script_rules.specs.Outputs.{How}
 use Rattle.script_rules.specs.Stages.{Stage, last_of}

@@ -1,6 +1,6 @@
 -- What one line of a script does.
 use Rattle.std.proofs.Common.{◌≡◌, ◌∙◌, ℕ, Bool, true, false, cond, List, [], ◌∷◌, refl, sym, ap, subst}
-use Rattle.std.specs.Prelude.{◌↔◌, ◌&&◌, IsTrue, None, Some, is_some, not}
+use Rattle.std.specs.Prelude.{◌↔◌, ◌&&◌, IsTrue, None, is_some, not}
 use Rattle.std.specs.List.Sorted.{IsPermutation, IsSortedBy}
 use Rattle.ason_base.specs.declared.calls.TableRows.{TableRows}
 use Rattle.ason_base.specs.declared.commands.Command.{Command}
@@ -22,7 +22,7 @@ use Rattle.plan_reader.specs.declared.lines.Line.TheVariants as said
 use Rattle.plan_reader.specs.declared.lines.Line.TheVariants.{Noise, Post, Settle, Show, Wait}
 use Rattle.plan_reader.specs.declared.plan.Plan.{Plan}
 use Rattle.table_text.specs.TableText.{table_text, unsettled_text}
-use Rattle.script_rules.specs.Stages.{Stage, with_line, with_post, world_at}
+use Rattle.script_rules.specs.Stages.{with_line, with_post, world_at}
 use Rattle.script_rules.specs.Tables.{IsTable, IsUnsettledLine, call_before, leg_before, unsettled_line}
 use Rattle.ason_main.specs.Running.{AreLed, Does, Stays, Tells, TellsUnsettled}
 use Rattle.ason_main.proofs.Rounding.{led_none, led_one}

@@ -1,17 +1,17 @@
 -- What a line of noise does.
-use Rattle.std.proofs.Common.{◌≡◌, ◌∙◌, ℕ, Bool, true, false, cond, List, [], ◌∷◌, length, refl, sym, ap, subst}
-use Rattle.std.specs.Prelude.{◌==◌, Option, None, Some, is_some}
+use Rattle.std.proofs.Common.{◌≡◌, ◌∙◌, ℕ, Bool, true, false, cond, List, [], ◌∷◌, length, sym, ap, subst}
+use Rattle.std.specs.Prelude.{◌==◌, None, Some, is_some}
 use Rattle.ason_base.specs.declared.ids.NodeId.{NodeId}
 use Rattle.ason_base.specs.Network.{Network}
-use Rattle.round_rules.specs.Records.{Record, log_at}
+use Rattle.round_rules.specs.Records.{log_at}
 use Rattle.fleet_rounds.specs.Commands.{noised}
 use Rattle.fleet.specs.Commands.{Noises, is_full}
 use Rattle.fleet.specs.Laws.{FullIsTheLogs}
-use Rattle.fleet.specs.Standing.{FleetState, StandsFor}
+use Rattle.fleet.specs.Standing.{FleetState}
 use Rattle.plan_reader.specs.declared.lines.Line.TheVariants.{Noise}
 use Rattle.plan_reader.specs.Plans.{IsPostable}
 use Rattle.script_rules.specs.Stages.{Stage, with_noise, world_at}
-use Rattle.ason_main.specs.Running.{AreLed, CanDo, Does, IsDone, StandsAt}
+use Rattle.ason_main.specs.Running.{AreLed, Does, StandsAt}
 use Rattle.ason_main.proofs.Rounding.{led_one}
 
 -- the stage by whether the log is full

@@ -1,28 +1,17 @@
 -- One line of a script that is done, or where it stops.
-use Rattle.std.proofs.Common.{◌≡◌, ◌<◌, ◌≤◌, ◌+◌, ℕ, true, false, List, [], ◌∷◌, ◌++◌, length, get_or, take, drop, inl, inr, refl, sym, ap, ◌∙◌, subst, append_assoc, arith}
-use Rattle.std.specs.Prelude.{Option, None, Some, is_some}
+use Rattle.std.proofs.Common.{◌≡◌, ◌<◌, ◌≤◌, ℕ, true, false, List, [], ◌∷◌, length, take, inl, inr, refl, arith}
+use Rattle.std.specs.Prelude.{Option, None}
 use Rattle.std.specs.Io.KnownBytes.{Appends}
-use Rattle.std.proofs.KnownBytes.{Appends-nil, Appends-trans}
-use Rattle.std.proofs.lemmas.List.{take-append-drop, take_more}
-use Rattle.std.proofs.lemmas.List.Sums.{fold-append}
+use Rattle.std.proofs.KnownBytes.{Appends-nil}
 use Rattle.ason_io.specs.Faults.{Rose}
-use Rattle.ason_base.specs.declared.ids.CallNo.{CallNo}
-use Rattle.ason_base.specs.declared.ids.NodeId.{NodeId}
-use Rattle.ason_base.specs.Network.{Network}
 use Rattle.fleet.specs.Standing.{FleetState}
 use Rattle.plan_reader.specs.declared.lines.Line.{Line}
-use Rattle.plan_reader.specs.declared.lines.Line.TheVariants.{Settle, Show}
 use Rattle.plan_reader.specs.declared.plan.Plan.{Plan}
-use Rattle.plan_reader.specs.Plans.{ArePostable, calls_after_line, calls_after_lines}
-use Rattle.script_rules.specs.Laws.{RoundLaws}
-use Rattle.script_rules.specs.Outputs.{How, settling_script}
-use Rattle.script_rules.specs.Stages.{Stage, last_of, world_at}
-use Rattle.script_rules.proofs.Posts.{posts_follow}
+use Rattle.script_rules.specs.Outputs.{How}
+use Rattle.script_rules.specs.Stages.{last_of}
 use Rattle.ason_main.specs.declared.runner.stops.Stop.{Stop}
-use Rattle.ason_main.specs.Running.{AreBegun, AreDone, AreLed, Does, DoesAll, EndsIn, FailsIn, HasStood, RunState, StandsAt, Stops, StopsAll, Tells, at}
-use Rattle.script_rules.proofs.Follows.{lines_follow}
-use Rattle.ason_main.proofs.Printing.{not_shown, part_after, prints_first_early, prints_first_later, prints_one, prints_stopped, shown, stopped_shows}
-use Rattle.ason_main.proofs.Rounding.{led_at, led_both, led_none}
+use Rattle.ason_main.specs.Running.{Does, DoesAll, EndsIn, FailsIn, Stops, StopsAll, Tells, at}
+use Rattle.ason_main.proofs.Printing.{not_shown, prints_one, shown, stopped_shows}
 
 -- Counts of faults
 

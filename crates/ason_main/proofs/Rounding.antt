@@ -1,20 +1,15 @@
 -- Rounds that a line makes, one after the other.
-use Rattle.std.proofs.Common.{◌≡◌, ◌<◌, ◌≤◌, ◌+◌, ◌-◌, ℕ, zero, suc, Bool, true, false, List, [], ◌∷◌, ◌++◌, refl, sym, ap, ◌∙◌, subst, append-nil, append_assoc, arith}
-use Rattle.std.specs.Prelude.{◌||◌, Option, None, Some, Ok, Err, is_some}
-use Rattle.std.specs.List.{AllByRecursion}
+use Rattle.std.proofs.Common.{◌≡◌, ◌<◌, ◌≤◌, ◌+◌, ◌-◌, ℕ, zero, suc, true, List, [], ◌∷◌, ◌++◌, refl, sym, ap, ◌∙◌, subst, append-nil, append_assoc, arith}
+use Rattle.std.specs.Prelude.{Option, None, Some, Ok, Err}
 use Rattle.ason_base.specs.declared.ids.NodeId.{NodeId}
 use Rattle.ason_base.specs.Network.{Network}
-use Rattle.round_rules.specs.Records.{Record, world_of}
 use Rattle.fleet.specs.declared.fleet.RoundFault.{RoundFault}
 use Rattle.fleet.specs.declared.fleet.RoundFault.TheVariants as round
-use Rattle.fleet.specs.Rounds.{EndsRound, Rounds}
+use Rattle.fleet.specs.Rounds.{Rounds}
 use Rattle.fleet.specs.Standing.{FleetState, StandsFor}
-use Rattle.fleet_rounds.specs.Waiting.{is_quiet}
-use Rattle.plan_reader.specs.declared.lines.Line.TheVariants.{Settle, Wait}
-use Rattle.ason_base.specs.declared.commands.Disturb.{Disturb}
-use Rattle.script_rules.specs.Stages.{IsNextRound, Settles, Stage, Waits, is_settled, is_stopped, last_of, world_at}
+use Rattle.script_rules.specs.Stages.{IsNextRound, Stage, is_stopped, last_of}
 use Rattle.script_rules.proofs.Follows.{last_append}
-use Rattle.ason_main.specs.Running.{AreLed, Does, HasStood, IsDone, StandsAt, StandsYet, Stops, stop_of}
+use Rattle.ason_main.specs.Running.{AreLed, HasStood, StandsAt, StandsYet}
 use Rattle.ason_main.proofs.Rounded.{all_both}
 
 -- Stages

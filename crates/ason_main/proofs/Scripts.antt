@@ -1,11 +1,8 @@
 -- The lines of a script that are done, and where they stop.
-use Rattle.std.proofs.Common.{◌≡◌, ◌<◌, ◌≤◌, ◌+◌, ℕ, true, false, List, [], ◌∷◌, ◌++◌, length, get_or, take, drop, inl, inr, refl, sym, ap, ◌∙◌, subst, append_assoc, arith}
+use Rattle.std.proofs.Common.{◌≡◌, ◌<◌, ◌+◌, ℕ, List, [], ◌∷◌, ◌++◌, length, get_or, take, drop, refl, sym, ap, ◌∙◌, subst, append_assoc}
 use Rattle.std.specs.Prelude.{Option, None, Some, is_some}
-use Rattle.std.specs.Io.KnownBytes.{Appends}
 use Rattle.std.proofs.KnownBytes.{Appends-nil, Appends-trans}
 use Rattle.std.proofs.lemmas.List.{take-append-drop, take_more}
-use Rattle.std.proofs.lemmas.List.Sums.{fold-append}
-use Rattle.ason_io.specs.Faults.{Rose}
 use Rattle.ason_base.specs.declared.ids.CallNo.{CallNo}
 use Rattle.ason_base.specs.declared.ids.NodeId.{NodeId}
 use Rattle.ason_base.specs.Network.{Network}
@@ -19,9 +16,9 @@ use Rattle.script_rules.specs.Outputs.{How, settling_script}
 use Rattle.script_rules.specs.Stages.{Stage, last_of, world_at}
 use Rattle.script_rules.proofs.Posts.{posts_follow}
 use Rattle.ason_main.specs.declared.runner.stops.Stop.{Stop}
-use Rattle.ason_main.specs.Running.{AreBegun, AreDone, AreLed, CanDoAll, Does, DoesAll, EndsIn, FailsIn, HasStood, RunState, StandsAt, Stops, StopsAll, Tells, at}
+use Rattle.ason_main.specs.Running.{AreBegun, AreDone, CanDoAll, DoesAll, HasStood, RunState, StopsAll, at}
 use Rattle.script_rules.proofs.Follows.{lines_follow}
-use Rattle.ason_main.proofs.Printing.{not_shown, part_after, prints_first_early, prints_first_later, prints_one, prints_stopped, shown, stopped_shows}
+use Rattle.ason_main.proofs.Printing.{part_after, prints_first_early, prints_first_later, prints_stopped}
 use Rattle.ason_main.proofs.Rounded.{all_both}
 use Rattle.ason_main.proofs.Rounding.{led_at, led_both, led_none}
 use Rattle.ason_main.proofs.OneLine.{no_fall, rose_later, two_rises}

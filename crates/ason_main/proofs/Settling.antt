@@ -1,7 +1,6 @@
 -- Rounds until all is quiet.
-use Rattle.std.proofs.Common.{◌≡◌, ◌<◌, ◌-◌, ◌+◌, ℕ, zero, suc, Bool, true, false, List, [], ◌∷◌, sym, ap, ◌∙◌, subst}
-use Rattle.std.specs.Prelude.{◌||◌, Option, None, is_some}
-use Rattle.ason_base.specs.declared.ids.NodeId.{NodeId}
+use Rattle.std.proofs.Common.{◌≡◌, ◌<◌, ◌-◌, ℕ, zero, suc, Bool, true, false, [], sym, ap, ◌∙◌, subst}
+use Rattle.std.specs.Prelude.{◌||◌, None, is_some}
 use Rattle.ason_base.specs.Network.{Network}
 use Rattle.fleet.specs.declared.fleet.RoundFault.{RoundFault}
 use Rattle.fleet.specs.declared.fleet.RoundFault.TheVariants as round

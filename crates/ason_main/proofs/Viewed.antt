@@ -1,7 +1,7 @@
 -- The station of a node that is watched is in view, and what its viewer is told.
-use Rattle.std.proofs.Common.{◌≡◌, ◌==◌, ◌+◌, ℕ, zero, suc, false, not, cond, nat_lt, List, [], ◌∷◌, ◌++◌, map, length, refl, sym, ap, ◌∙◌, subst, append-nil}
-use Rattle.std.specs.Prelude.{Option, Some, None, Ok, Err, IsSome, position, slice_get, slice_set}
-use Rattle.std.specs.List.{AllByRecursion, position_or_len}
+use Rattle.std.proofs.Common.{◌≡◌, ◌==◌, ◌+◌, ℕ, false, not, cond, nat_lt, List, [], ◌∷◌, map, refl, sym, ap, ◌∙◌, subst, append-nil}
+use Rattle.std.specs.Prelude.{Option, Some, None, Ok, Err, IsSome, position, slice_set}
+use Rattle.std.specs.List.{position_or_len}
 use Rattle.std.proofs.lemmas.List.{length-map}
 use Rattle.ason_base.specs.declared.commands.Disturb.{Disturb}
 use Rattle.ason_base.specs.declared.ids.NodeId.{NodeId}
@@ -20,7 +20,7 @@ use Rattle.plan_reader.specs.declared.plan.Plan.{Plan}
 use Rattle.plan_reader.specs.Names.{place_of}
 use Rattle.plan_reader.proofs.KnownNodes.{place_is_known}
 use Rattle.round_rules.specs.Records.{Record}
-use Rattle.station.specs.Watched.{table_of, tables_by, with_publisher}
+use Rattle.station.specs.Watched.{table_of, tables_by}
 use Rattle.station.specs.declared.watching.WatchFault.TheVariants as fault
 use Rattle.station_doings.specs.States.{StationState}
 use Rattle.table_text.specs.EndsText.{plan_node}

@@ -14,7 +14,7 @@ use Rattle.script_rules.specs.Stages.{Stage}
 use Rattle.table_text.specs.EndsText.{no_node_text, plan_node}
 use Rattle.table_text.specs.TableText.{stopped_text}
 use Rattle.ason_main.specs.declared.answers.Status.{Status}
-use Rattle.ason_main.specs.Answers.{Done, EventLimit, HasKept, HasView, IsAnswered, IsWatchOf, IsWatched, Unfinished, WasTold, WasToldOrNothing, Watch, printing}
+use Rattle.ason_main.specs.Answers.{Done, EventLimit, IsAnswered, IsWatchOf, Unfinished, WasTold, WasToldOrNothing, Watch, printing}
 use Rattle.ason_main.specs.Laws.{RunLaws}
 use Rattle.ason_main.specs.Outputs.{HasBeenCut, HasEnded, IsBegun, IsTheOutput, end_of}
 use Rattle.ason_main.specs.Running.{HasWritten, HasWrittenPart, StandsYet, at}
@@ -22,7 +22,7 @@ use Rattle.ason_main.specs.Views.{IsViewOf}
 use Rattle.ason_main.proofs.OneLine.{rose_later}
 use Rattle.ason_main.proofs.PlanRuns.{IsNew, run_starved}
 use Rattle.ason_main.proofs.Printing.{part_after}
-use Rattle.ason_main.proofs.Replies.{cut_begun, has_kept, made_yet, may_keep}
+use Rattle.ason_main.proofs.Replies.{cut_begun, made_yet}
 
 -- of a plan that has no such node that is told alone
 pub unknown_told : {K : Type 0} (written : K → Option (List ℕ)) (faults : K → ℕ) (bs name : List ℕ) (p : Plan)

@@ -1,5 +1,5 @@
 -- What is told of a node that is watched.
-use Rattle.std.specs.Prelude.{◌≡◌, ℕ, Bool, false, List, [], ◌∷◌, ◌++◌, Option, Some, IsTrue, length}
+use Rattle.std.specs.Prelude.{◌≡◌, ℕ, Bool, false, List, [], ◌∷◌, ◌++◌, Some, IsTrue, length}
 use Rattle.std.specs.List.{AllByRecursion, AllZip}
 use Rattle.ason_base.specs.declared.commands.Entry.{Entry}
 use Rattle.ason_base.specs.declared.ids.NodeId.{NodeId}

@@ -1,4 +1,4 @@
-use Rattle.std.proofs.Common.{Some, ◌∙◌, subst, sym, true}
+use Rattle.std.proofs.Common.{subst, sym, true}
 use Rattle.std.specs.Prelude.{Err}
 use Rattle.plan_reader.specs.Plans.{Answers, PlanOf}
 use Rattle.ason_main.specs.Answers.{Watch}

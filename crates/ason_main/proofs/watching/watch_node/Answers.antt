@@ -1,7 +1,6 @@
-use Rattle.std.proofs.Common.{[], ap, subst}
+use Rattle.std.proofs.Common.{[], subst}
 use Rattle.std.specs.Prelude.{Err}
 use Rattle.round_rules.specs.Records.{new_record}
-use Rattle.station.specs.declared.watching.WatchFault.TheVariants as fault
 use Rattle.fleet.specs.Views.{WatchesAt}
 use Rattle.fleet.proofs.Watching.{watches-stand}
 use Rattle.ason_main.specs.Answers.{printing}

@@ -2,7 +2,6 @@ use Rattle.std.proofs.Common.{◌<◌, ◌∙◌, ◌∷◌, [], ℕ, length, re
 use Rattle.std.specs.Io.KnownBytes.{Appends}
 use Rattle.ason_base.proofs.Results.{passed_on}
 use Rattle.ason_main.specs.Running.{Stops, StopsAll, at}
-use Rattle.ason_main.specs.declared.runner.stops.Stop.{Stop}
 use Rattle.ason_main.proofs.OneLine.{does_line, does_silently, ends_line, fails_line, stops_line}
 use Rattle.ason_main.proofs.runner.run.run_line.Goals as goal
 

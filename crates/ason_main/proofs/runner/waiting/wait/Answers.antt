@@ -2,7 +2,6 @@ use Rattle.std.proofs.Common.{sym}
 use Rattle.ason_base.proofs.Results.{passed_on}
 use Rattle.script_rules.specs.Stages.{Waits}
 use Rattle.ason_main.specs.Running.{Stops}
-use Rattle.std.specs.Prelude.{Ok}
 use Rattle.ason_main.proofs.InView.{made-rounded, round-stay, stay-self, stay-then}
 use Rattle.ason_main.proofs.Rounding.{making_begins, making_ends, making_next, making_stops}
 use Rattle.ason_main.proofs.Waiting.{waits_line, waits_none, waits_stay, waits_step, waits_stops}
