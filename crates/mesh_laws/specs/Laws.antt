@@ -41,7 +41,7 @@ pub record LawsHold (t : Network) (events : List MeshEvent) : Type 0 where
   pub heard : ListsAreLawful t events
   -- of two backups that cross on a link with one label at most one is activated
   pub crossing : NoneCross (after t start events)
-  -- a leg at a node that doesn't convert has one label, and its label in is one of its link's
+  -- a leg at a node that doesn't convert has one label each way, and a label that it takes is one of its link's
   pub kept : (n : NodeId) → LegsKeepLabels t n ((after t start events).nodes n.0).legs
   pub calls : (n : ℕ) → CallsFit n ((after t start events).nodes n)
   -- the cause and the ticks of each call fit its state, and the call is that of a posted setup
@@ -64,7 +64,7 @@ pub record LawsHold (t : Network) (events : List MeshEvent) : Type 0 where
   -- each call that stands is cross-connected from end to end; the backup of a guarded or a stuck one is reserved so,
   -- while legs of it may still be cross-connected after the call went back; and that of a turned one is cross-connected
   pub joined : CallsAreJoined t events
-  -- along the routes of these LSPs the wavelength changes at converting nodes alone
+  -- along the routes of these LSPs the wavelength changes at converting nodes alone, there and back
   pub wavelengths : CallsKeepWavelengths t events
   -- what a node learnt of links is true of the network
   pub learnt : LearntRowsAreTrue t (after t start events)

@@ -29,14 +29,16 @@ ghost use Rattle.mesh_laws.specs.WavelengthLaw.{EveryCallKeepsItsWavelengths};
 /// leg has a label in exactly where it has a fibre in, and a label out exactly where it has a fibre
 /// out (`labelled`). The leg of a two-way LSP has a back label in exactly where it has a fibre out,
 /// and until it is torn a back label out exactly where it has a fibre in; that of a one-way LSP has
-/// neither (`backs`). A leg with a label in and a label out has one label where the node doesn't
-/// convert, and its label in is one of the labels of its fibre's link (`kept`). A label is sent on a
-/// fibre by one leg alone, or by backups whose primaries, over a topology, have no risk in common;
-/// torn legs count too (`sent`). At each cut of the list of messages from the fibre's other end, two
-/// LSPs that may send one label once what comes before the cut has been taken are such backups, and
-/// a message that a leg will ignore counts too (`heard`). Of two backups that go over one link in
-/// opposite directions, a label of one of its fibres being of both, at most one is Armed or Live at
-/// the node to which its Path comes over the link (`crossing`).
+/// neither (`backs`). Where the node doesn't convert, a leg with a label in and a label out has one
+/// label, and one with a back label in and a back label out has one for the way back; a label in is
+/// one of the labels of the link by whose fibre the leg comes in, and a back label in one of those
+/// of the link by whose fibre it goes out (`kept`). A label is sent on a fibre by one leg alone, or
+/// by backups whose primaries, over a topology, have no risk in common; torn legs count too
+/// (`sent`). At each cut of the list of messages from the fibre's other end, two LSPs that may send
+/// one label once what comes before the cut has been taken are such backups, and a message that a
+/// leg will ignore counts too (`heard`). Of two backups that go over one link in opposite
+/// directions, a label of one of its fibres being of both, at most one is Armed or Live at the node
+/// to which its Path comes over the link (`crossing`).
 ///
 /// Calls, at each node. The state of each call that begins there fits its legs, each of which is of
 /// one call, and its reports, and its backup is two-way just where its working LSP is (`calls`). A
@@ -65,9 +67,11 @@ ghost use Rattle.mesh_laws.specs.WavelengthLaw.{EveryCallKeepsItsWavelengths};
 /// Live at each node, and that of a turning call Held, Armed or Live. These LSPs of a two-way call
 /// have a back label in at each node but the egress, which is the next node's back label out, and
 /// those of a one-way call have none (`joined`). Along the routes of these LSPs the wavelength
-/// changes at converting nodes alone, and is on each link one of those of the link (`wavelengths`).
-/// The route of each backup leads from end to end, has no risk in common with that of the working
-/// LSP which its call has, or had, and shares no node with it between the ends (`beside`).
+/// changes at converting nodes alone, and is on each link one of those of the link; so it is with
+/// the one on which an LSP of a two-way call comes back, and one of a one-way call has none there
+/// (`wavelengths`). The route of each backup leads from end to end, has no risk in common with that
+/// of the working LSP which its call has, or had, and shares no node with it between the ends
+/// (`beside`).
 ///
 /// Links. What a node learnt of them are rows of the network (`learnt`); over a topology routes can
 /// be asked of what it knows (`searchable`). Over a topology the leg of a backup, at any node,

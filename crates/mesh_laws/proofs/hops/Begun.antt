@@ -1,7 +1,7 @@
 -- An LSP is begun at its ingress, a working one by a setup.
-use Rattle.std.proofs.Common.{◌≡◌, ◌≢◌, ◌<◌, ◌≤◌, ◌+◌, suc, Bool, true, false, cond, nat_eq, nat_lt, List, [], ◌∷◌, length, refl, sym, ap, ◌∙◌, subst, arith, inl, inr}
+use Rattle.std.proofs.Common.{◌≡◌, ◌≢◌, ◌<◌, ◌≤◌, ◌+◌, ℕ, suc, Bool, true, false, cond, nat_eq, nat_lt, List, [], ◌∷◌, length, refl, sym, ap, ◌∙◌, subst, arith, inl, inr}
 use Rattle.std.specs.Prelude.{◌⊎◌, Option, Some, None}
-use Rattle.ason_base.specs.Labels.{up_to}
+use Rattle.ason_base.specs.Labels.{has, up_to}
 use Rattle.ason_base.specs.Network.{Network, other_end}
 use Rattle.ason_base.specs.Lsps.{same_lsp}
 use Rattle.ason_base.specs.declared.ids.Lsp.{Lsp}
@@ -19,7 +19,7 @@ use Rattle.ason_base.specs.declared.tables.CallRec.{CallRec}
 use Rattle.ason_base.specs.declared.tables.Leg.{Leg}
 use Rattle.ason_base.specs.Routes.{makes_route}
 use Rattle.mesh_rules.specs.Changes.{Answer, nothing, changed}
-use Rattle.mesh_rules.specs.LocalNodes.{LocalNode, local_node, own_link, fibre_out}
+use Rattle.mesh_rules.specs.LocalNodes.{LocalNode, labels_of, local_node, own_link, fibre_out}
 use Rattle.mesh_rules.proofs.Conjunctions.{and_first}
 use Rattle.mesh_rules.specs.State.{NodeState}
 use Rattle.mesh_rules.specs.Commands.{is_searchable}
@@ -33,6 +33,7 @@ use Rattle.mesh_rules.specs.Machine.{Mesh, commit}
 use Rattle.mesh_rules.specs.Events.{first_route, or_route}
 use Rattle.mesh_laws.specs.HopLaw.{leg_at, mail_between}
 use Rattle.mesh_laws.specs.HopShapes.{PlainPath, path_kind}
+use Rattle.mesh_laws.specs.LabelLaw.{HasBackLabelOfLink}
 use Rattle.mesh_laws.proofs.hops.Plans.{Plan, plan, node_at, fibre_at, IsRoute, Leads, route_made, distinct, same, same_node, lt_true, own_near, fibre_out_is}
 use Rattle.mesh_nodes.specs.Routes.{AreRowsOf}
 use Rattle.mesh_nodes.proofs.Cases.{if_cases}
@@ -40,7 +41,8 @@ use Rattle.mesh_nodes.proofs.routes.Nodes.{found-leads}
 use Rattle.mesh_nodes.proofs.LegList.{same_lsp-eq, same_lsp-refl}
 use Rattle.mesh_laws.proofs.hops.Views.{leg-here, leg-there, mail-from, mail-else, notices-plain}
 use Rattle.mesh_laws.proofs.hops.Purposes.{Purpose, Carries, Each, Tells, tells_role}
-use Rattle.mesh_laws.proofs.hops.Chain.{LegFits, RisksFit, Chain, asked_fits, is_or_not, no_label_in}
+use Rattle.mesh_laws.proofs.hops.Chain.{LegFits, RisksFit, Chain, asked_fits, is_or_not, no_back_out, no_label_in}
+use Rattle.mesh_laws.proofs.hops.Labels.{first_back_of_link, same_link}
 use Rattle.mesh_laws.proofs.hops.Sending.{sent_by, sent-first, sent-past}
 use Rattle.mesh_laws.proofs.hops.OtherLsps.{leg-other, mail-other}
 use Rattle.mesh_laws.proofs.hops.Own.{IsOf}
@@ -57,7 +59,8 @@ module _ (t : Network) (s : Mesh) (n : NodeId) (o : Routes) (st : NodeState) (q 
     (number : w.lsp.lsp ≡ (s.nodes n.0).lsp) (more : w.lsp.lsp < next.lsp) (tells : Tells q w.role)
     (plain : path_kind w.role ≡ PlainPath)
     (risks : RisksFit t q (recorded (known_rows (local_node t n) st) w.role)) (guards : IsGuarded o w.lsp q)
-    (beside : StandsBeside t w.lsp q (plan (hop ∷ w.route) w.egress)) where
+    (beside : StandsBeside t w.lsp q (plan (hop ∷ w.route) w.egress))
+    (back : (x : ℕ) → w.back ≡ Some x → has (up_to (labels_of (own_link (local_node t n) w.out.id))) x ≡ true) where
   abbrev p : Plan
   p = plan (hop ∷ w.route) w.egress
 
@@ -100,6 +103,11 @@ module _ (t : Network) (s : Mesh) (n : NodeId) (o : Routes) (st : NodeState) (q 
       ap (fibre_out w.out) (sym at_n) ∙ ap (λ k. fibre_out k hop.node) (sym link_is) ∙
       fibre_out_is t p 0 (distinct t w.lsp.ingress p route 0 1 (omega arith) (omega arith) (omega arith)) first
 
+  back_fits : HasBackLabelOfLink (local_node t hop.node) leg
+  back_fits =
+      subst (λ m. HasBackLabelOfLink (local_node t m) leg) (sym at_n)
+      (λ f x on is. same_link (local_node t n) (fibre_out w.out n) f x on (back x is))
+
   leg_fits : LegFits t q w.lsp p 0 leg
   leg_fits =
       let some : nat_lt 0 (suc (length w.route)) ≡ true = lt_true {a = 0} {b = suc (length w.route)} (omega arith) in
@@ -116,7 +124,7 @@ module _ (t : Network) (s : Mesh) (n : NodeId) (o : Routes) (st : NodeState) (q 
         route = refl;
         sent = tt;
         phase = asked_fits q 0 (suc (length w.route)) (omega arith);
-        labels = no_label_in (local_node t (node_at p 0)) leg refl;
+        labels = no_label_in (local_node t (node_at p 0)) leg refl (λ keeps. no_back_out leg refl) back_fits;
       }
 
   goes_to : (b : NodeId) → b.0 ≢ (node_at (plan (hop ∷ w.route) w.egress) 1).0 → sent_by w.lsp answer.sent b ≡ []
@@ -247,7 +255,8 @@ module _ (t : Network) (s : Mesh) (n : NodeId) (o : Routes) (f : EachFollows t s
         begins_stepped t s n o state Carries (working_lsp place state w out further) hop
         (call_record w Asking (Some (next_lsp place state)) Unset)
         (record { tunnel = state.tunnel + 1; lsp = state.lsp + 1 })
-        made over refl refl (omega arith) tt refl refl tt tt f)))
+        made over refl refl (omega arith) tt refl refl tt tt
+        (first_back_of_link place state w.both (Work w.protected) out) f)))
 
     route_stepped : (route : List Step) → makes_route t n w.egress route ≡ true → (out : Option LinkSpec) →
         first_link place route ≡ out → Steps (over_first place state w route out)

@@ -16,7 +16,7 @@ use Rattle.mesh_rules.specs.Commands.{is_searchable}
 use Rattle.mesh_rules.specs.Legs.{reserved}
 use Rattle.mesh_rules.specs.LocalNodes.{LocalNode, local_node}
 use Rattle.mesh_laws.specs.HopShapes.{Shape, leg_kind, msg_kind}
-use Rattle.mesh_laws.specs.LabelLaw.{KeepsLabels}
+use Rattle.mesh_laws.specs.LabelLaw.{HasBackLabelOfLink, HasOneBackLabel, KeepsLabels}
 use Rattle.mesh_laws.specs.RiskLaw.{rows_of}
 use Rattle.mesh_laws.proofs.hops.Plans.{Plan, hops, node_at, fibre_at}
 use Rattle.mesh_laws.proofs.hops.Purposes.{Purpose, Carries, Guards, Rest, Tells, role_of, has_path}
@@ -79,12 +79,19 @@ abbrev pub WasSent : List ℕ → Option ℕ → Type 0
 WasSent sent None = Unit {0}
 WasSent sent (Some x) = has sent x ≡ true
 
--- a leg without a label in keeps the labels of its node
-pub no_label_in : (p : LocalNode) (g : Leg) → g.in_label ≡ None → KeepsLabels p g
-no_label_in p g none =
+-- a leg without a back label out has no two labels for the way back
+pub no_back_out : (g : Leg) → g.back_out ≡ None → HasOneBackLabel g
+no_back_out g none x y enters leaves = absurd (cc (none, leaves))
+
+-- a leg without a label in keeps the labels of its node where it keeps those for the way back
+pub no_label_in : (p : LocalNode) (g : Leg) → g.in_label ≡ None → (p.convert ≡ false → HasOneBackLabel g) →
+    HasBackLabelOfLink p g → KeepsLabels p g
+no_label_in p g none one_back back_of_link =
     record {
       one = λ keeps x y enters leaves. absurd (cc (none, enters));
       of_link = λ f x on enters. absurd (cc (none, enters));
+      one_back = one_back;
+      back_of_link = back_of_link;
     }
 
 pub record LegFits (t : Network) (q : Purpose) (l : Lsp) (p : Plan) (i : ℕ) (g : Leg) : Type 0 where

@@ -15,7 +15,7 @@ use Rattle.mesh_laws.specs.HopShapes.{ArmedLeg, FallingLeg, IsTorn, Closes, Fall
 use Rattle.mesh_laws.proofs.hops.Plans.{Plan, hops, node_at, fibre_at, lt_true, lt_false}
 use Rattle.mesh_laws.proofs.hops.Purposes.{Purpose, Carries, Guards, role_of}
 use Rattle.mesh_laws.proofs.hops.RowStates.{reserved_leg, torn_leg}
-use Rattle.mesh_laws.proofs.hops.Chain.{LegFits, Fits, HasIn, HasOut, PhaseFits, WasSent, no_label_in, reserved_fits}
+use Rattle.mesh_laws.proofs.hops.Chain.{LegFits, Fits, HasIn, HasOut, PhaseFits, WasSent, no_back_out, no_label_in, reserved_fits}
 use Rattle.mesh_laws.proofs.hops.Activation.{UsedHasOut}
 use Rattle.mesh_laws.proofs.hops.LegKinds.{closing_kind, reserved_kind}
 
@@ -71,7 +71,8 @@ module _ (t : Network) (q : Purpose) (l : Lsp) (p : Plan) where
     route = fits.route;
     sent = fits.sent;
     phase = rw fits.role (go q g.phase fits.phase);
-    labels = no_label_in (local_node t (node_at p i)) (closed g) refl;
+    labels = no_label_in (local_node t (node_at p i)) (closed g) refl (λ keeps. no_back_out (closed g) refl)
+        fits.labels.back_of_link;
   }
     where
       go : (q : Purpose) (f : Phase) → PhaseFits q f i (hops p) g.in_label g.out_label →
@@ -146,7 +147,12 @@ module _ (t : Network) (q : Purpose) (l : Lsp) (p : Plan) where
     route = fits.route;
     sent = fits.sent;
     phase = phase;
-    labels = record { one = fits.labels.one; of_link = fits.labels.of_link };
+    labels = record {
+      one = fits.labels.one;
+      of_link = fits.labels.of_link;
+      one_back = fits.labels.one_back;
+      back_of_link = fits.labels.back_of_link;
+    };
   }
 
   out_label : (i : ℕ) (g : Leg) → LegFits t q l p i g → (x : ℕ) × (g.out_label ≡ Some x) →

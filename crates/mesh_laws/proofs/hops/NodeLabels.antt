@@ -1,4 +1,4 @@
--- A leg at a node that doesn't convert has one label, and its label in is one of its link's.
+-- A leg at a node that doesn't convert has one label each way, and a label that it takes is one of its link's.
 use Rattle.std.proofs.Common.{◌≡◌, List, inl, inr}
 use Rattle.std.specs.Prelude.{Option, Some, None}
 use Rattle.std.proofs.lemmas.List.Elements.{All-from_recursion}

@@ -42,6 +42,7 @@ use Rattle.mesh_laws.proofs.hops.LegChanges.{armed_role, previous_is}
 use Rattle.mesh_laws.proofs.hops.Purposes.{Purpose, Guards}
 use Rattle.mesh_laws.proofs.hops.Risks.{recorded-fit}
 use Rattle.mesh_laws.proofs.hops.Chain.{LegFits}
+use Rattle.mesh_laws.proofs.hops.Labels.{first_back_of_link}
 use Rattle.mesh_laws.proofs.hops.Own.{IsQuiet}
 use Rattle.mesh_laws.proofs.hops.Turned.{BackStands, decide_stepped}
 use Rattle.mesh_laws.proofs.hops.Planned.{Routes, Follows, EachFollows}
@@ -177,7 +178,7 @@ module _ (t : Network) (s : Mesh) (n : NodeId) (o : Routes) (f : EachFollows t s
           (recorded-fit t (Guards w.lsp.lsp (route_from place w)) (known_rows place st)
           (backup_lsp place st w out further).role
           (λ searchable. known-are t n st searchable are) (refl, refl) known)
-          sent (rw here beside) f)))
+          sent (rw here beside) (first_back_of_link place st (is_two_way w) (guarding place w) out) f)))
 
       over_stepped : (route : List Step) →
           is_beside t n w.egress (Some (route_from (local_node t n) w)) route ≡ true → (out : Option LinkSpec) →

@@ -27,7 +27,7 @@ use Rattle.mesh_rules.specs.Machine.{Mesh}
 use Rattle.mesh_laws.specs.HopShapes.{PlainPath, path_kind, phase_kind}
 use Rattle.mesh_laws.specs.HopLaw.{is_message_of, messages_of, leg_at, mail_between}
 use Rattle.mesh_laws.proofs.hops.Plans.{Plan, hops, node_at, link_at, fibre_at, IsRoute, Leads, distinct, other, lt_true, lt_false, joined, own_near, own_far, fibre_in_is, fibre_out_is}
-use Rattle.mesh_laws.proofs.hops.Labels.{has_least, has_meet, left_of_link}
+use Rattle.mesh_laws.proofs.hops.Labels.{back_label_of_link, back_label_same, has_least, has_meet, left_of_link}
 use Rattle.mesh_nodes.proofs.LegList.{same_lsp-refl}
 use Rattle.mesh_nodes.specs.Routes.{AreRowsOf}
 use Rattle.mesh_nodes.proofs.routes.Nodes.{known-are}
@@ -188,6 +188,8 @@ module _ (t : Network) (q : Purpose) (s : Mesh) (l : Lsp) (p : Plan) (i : ℕ) (
                   (subst (λ z. has (up_to (labels_of (own_link place (fibre_in over.link d).link))) z ≡ true) is_y
                   (left_of_link place state.legs (asked_role purpose) risks (fibre_in over.link d) set y
                   (has_least offered y is)));
+              one_back = λ keeps a b enters leaves. absurd (cc enters);
+              back_of_link = λ f z on label. absurd (cc label);
             };
           })
           (path_answered q p i (leg_at s l u) l e k r set label purpose (messages_of l rest) _ plain hop_here
@@ -225,7 +227,8 @@ module _ (t : Network) (q : Purpose) (s : Mesh) (l : Lsp) (p : Plan) (i : ℕ) (
             route = is;
             sent = tt;
             phase = asked_fits q (suc i) (hops p) small;
-            labels = no_label_in place g refl;
+            labels = no_label_in place g refl (back_label_same place state asks n.link)
+                (back_label_of_link place state asks n.link);
           })
           (path_passed q p i (leg_at s l u) l e k r set label purpose (messages_of l rest) _ plain
           hop_here g refl refl within)

@@ -108,7 +108,8 @@ module _ (t : Network) (q : Purpose) (s : Mesh) (l : Lsp) (p : Plan) (i : ℕ) (
           up_taken t q s l p i route chain below (Resv l e k x) rest was own
           (puts (connected g None x) []) (Some (connected g None x)) [] []
           (rw mine refl) (sends_none l p i) (connected_fits t q l p i g None x fits (rw first refl)
-          (resv_sent q p i _ _ _ g l e k x asked hop_of) (no_label_in place (connected g None x) refl))
+          (resv_sent q p i _ _ _ g l e k x asked hop_of)
+          (no_label_in place (connected g None x) refl fits.labels.one_back fits.labels.back_of_link))
           (λ j eq. absurd (omega arith))
           (resv_connects q p i _ _ _ g l e k x asked hop_of (connected g None x)
           (kind None) refl refl refl)
@@ -156,6 +157,8 @@ module _ (t : Network) (q : Purpose) (s : Mesh) (l : Lsp) (p : Plan) (i : ℕ) (
                 let is_y : y ≡ z = cc label in
                 subst (λ f. has (up_to (labels_of (own_link place f.link))) z ≡ true) there
                 (subst (λ z. has (up_to (labels_of (own_link place (fibre_at t p j).link))) z ≡ true) is_y of_link);
+            one_back = fits.labels.one_back;
+            back_of_link = fits.labels.back_of_link;
           }))
           (λ m eq. let at_j : m ≡ j = omega arith in
           asked_reserved q p m _ _ _ g (hop_before m eq) (connected g (Some y) x) g.lsp g.egress (link_at p j) y
