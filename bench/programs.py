@@ -1,13 +1,23 @@
 """The programs that the benchmarks time, built first where they aren't. The times are then those of the programs alone."""
 
+import ctypes
 import os
+import signal
 import subprocess
 import sys
 import tempfile
 import time
 from dataclasses import dataclass
+from functools import cached_property
 
-TOP = os.path.dirname(os.path.dirname(os.path.realpath(__file__)))
+HERE = os.path.dirname(os.path.realpath(__file__))
+TOP = os.path.dirname(HERE)
+
+# From <linux/prctl.h>.
+PR_SET_CHILD_SUBREAPER = 36
+
+# Tells a process that becomes the program, with these files as its input and output, once a line comes; then the shell is gone.
+LAUNCH = 'given=$1 out=$2; shift 2; exec 3<&0; { read -r _ <&3 && exec "$@" <"$given" >"$out" 3<&-; } & echo $!'
 
 
 def ason():
@@ -42,26 +52,64 @@ def route_times():
     return of_crate("route_times")
 
 
+def compiled(source: str, folder: str) -> tuple[str | None, str]:
+    """The program of a C++ file beside this one, made in the folder; or None, and why there is none."""
+    program = os.path.join(folder, os.path.splitext(source)[0])
+    words = ["g++", "-std=c++17", "-O2", "-o", program, os.path.join(HERE, source)]
+    try:
+        made = subprocess.run(words, capture_output=True, check=False)
+    except FileNotFoundError:
+        return None, "g++ isn't installed"
+    return (None, "it can't be compiled") if made.returncode else (program, "")
+
+
 @dataclass(frozen=True)
 class Run:
-    """The seconds on the clock and of the processor, the peak memory in MB, the status, and the lines of the output."""
+    """The seconds on the clock and of the processor, the peak memory in MB, the status, and the output."""
 
     clock: float
     processor: float
     memory: float
     status: int
-    lines: list[str]
+    output: bytes
+
+    @cached_property
+    def lines(self) -> list[str]:
+        return self.output.decode().splitlines()
 
 
-def run(program, words, text):
-    """One run of the program over this input."""
-    with tempfile.TemporaryFile() as given, tempfile.TemporaryFile() as out:
-        given.write(text)
-        given.seek(0)
-        begun = time.monotonic()
-        child = subprocess.Popen([program, *words], stdin=given, stdout=out)
-        _, status, usage = os.wait4(child.pid, 0)
-        clock = time.monotonic() - begun
-        out.seek(0)
-        lines = out.read().decode().splitlines()
-        return Run(clock, usage.ru_utime + usage.ru_stime, usage.ru_maxrss / 1024, status, lines)
+def launched(words: list[str], given: str, out: str, quiet: bool) -> tuple[int, subprocess.Popen]:
+    """A process that becomes a program once a line is written to the shell that made it.
+
+    Linux counts the memory of whoever starts a program to that program's peak. A shell has little, and this one ends before
+    the program begins, so that its process comes to this one, which alone is told what it took.
+    """
+    ctypes.CDLL(None).prctl(PR_SET_CHILD_SUBREAPER, 1, 0, 0, 0)
+    errors = subprocess.DEVNULL if quiet else None
+    line = ["sh", "-c", LAUNCH, "sh", given, out, *words]
+    shell = subprocess.Popen(line, stdin=subprocess.PIPE, stdout=subprocess.PIPE, stderr=errors)
+    process = int(shell.stdout.readline())
+    shell.wait()
+    return process, shell
+
+
+def run(program: str, words: list[str], text: bytes = b"", quiet: bool = False) -> Run:
+    """One run of the program over this input, with no errors shown where it is to be quiet."""
+    with tempfile.TemporaryDirectory() as folder:
+        given, out = os.path.join(folder, "given"), os.path.join(folder, "out")
+        with open(given, "wb") as file:
+            file.write(text)
+        process, shell = launched([program, *words], given, out, quiet)
+        with shell.stdin, shell.stdout:
+            begun = time.monotonic()
+            shell.stdin.write(b"\n")
+            shell.stdin.flush()
+            try:
+                _, status, usage = os.wait4(process, 0)
+            except KeyboardInterrupt:
+                # A shell has its processes ignore what a terminal's interrupt sends.
+                os.kill(process, signal.SIGKILL)
+                raise
+            clock = time.monotonic() - begun
+        with open(out, "rb") as file:
+            return Run(clock, usage.ru_utime + usage.ru_stime, usage.ru_maxrss / 1024, status, file.read())

@@ -1,4 +1,6 @@
-"""A network of 64 nodes in a ring, each joined to the next four, and 4,096 calls over it, half of them with a backup."""
+"""A network of 64 nodes in a ring, each joined to the next four, and calls over it."""
+
+import plans
 
 NODES = 64
 STEPS = (1, 2, 3, 4)
@@ -9,6 +11,9 @@ NEAR = 28
 FAR = 4
 BARE = 4
 LINKS_PER_ROUTE = 4
+
+# The links of each route where calls go evenly over all fibres.
+LONG_ROUTE = 8
 
 
 def link(node, step):
@@ -28,7 +33,8 @@ def bare_route(node, way, links=LINKS_PER_ROUTE):
 
 
 def setups():
-    """Both kinds of backups leave a node over its third link, on labels that they share, and go different ways from there."""
+    """4,096 calls, half of them with a backup. Both kinds of backups leave a node over its third link, on labels that they share,
+    and go different ways from there."""
     calls = []
     for node in range(NODES):
         near, far, turn = (node + 1) % NODES, (node + 2) % NODES, link(node, 3)
@@ -41,15 +47,28 @@ def setups():
     return [f"setup c{number} {call}" for number, call in enumerate(calls)]
 
 
-def plan(lines, srlgs_per_link=0):
-    """The plan with this script, whose nodes all convert wavelengths. Each link has so many risk groups of its own."""
-    text = ["script = [", *(f'"{line}",' for line in lines), "]"]
-    for node in range(NODES):
-        text += ["[[node]]", f'name = "n{node}"', f"id = {node + 1}", "convert = true"]
-    for node in range(NODES):
-        for step in STEPS:
-            number = link(node, step)
-            srlgs = ", ".join(str(number * srlgs_per_link + more) for more in range(srlgs_per_link))
-            text += ["[[link]]", f"id = {number}", f'ends = ["n{node}", "n{(node + step) % NODES}"]', "labels = 80"]
-            text.append(f"srlg = [{srlgs}]")
-    return ("\n".join(text) + "\n").encode()
+def even_setups(calls: int) -> list[str]:
+    """Calls that begin at each node in turn, and go around the ring in each of the eight ways, so that all fibres have as many."""
+    lines = []
+    for call in range(calls):
+        start, way = call % NODES, call // NODES % (2 * len(STEPS))
+        route, end = bare_route(start, way, LONG_ROUTE)
+        lines.append(f"setup c{call} n{start} n{end} unprotected via {','.join(map(str, route))}")
+    return lines
+
+
+def settled_setups(calls: int) -> list[str]:
+    """Protected calls that begin at each node in turn, and end from 2 nodes further on around the ring. Each is set up before the
+    next one, so that none finds the wavelength that it was offered taken meanwhile."""
+    return [
+        line
+        for call in range(calls)
+        for line in (f"setup c{call} n{call % NODES} n{(call + 2 + call // NODES) % NODES}", "settle 1000")
+    ]
+
+
+def plan(lines, srlgs_per_link=0, convert=True, wait=0):
+    """The plan with this script, whose nodes all convert wavelengths or don't. Each link has so many risk groups of its own."""
+    names = [f"n{node}" for node in range(NODES)]
+    links = [(names[node], names[(node + step) % NODES]) for node in range(NODES) for step in STEPS]
+    return plans.text(lines, names, links, convert, wait, srlgs_per_link)
