@@ -9,6 +9,7 @@ pub mod Finding
 pub mod Firsts
 pub mod Fitting
 pub mod Following
+mod FoundStation
 pub mod Heard
 pub mod InOrder
 pub mod JoinNext

@@ -1,6 +1,5 @@
-use Rattle.std.proofs.Common.{◌≡◌, ◌<◌, nat_eq, length, refl, sym, ap, ◌∙◌, subst, arith}
+use Rattle.std.proofs.Common.{◌≡◌, nat_eq, sym, ap, ◌∙◌, subst, arith}
 use Rattle.std.specs.Prelude.{List, Some, position, slice_get, slice_set}
-use Rattle.std.proofs.lemmas.Option.{slice_get_read}
 use Rattle.ason_base.specs.Network.{Network}
 use Rattle.ason_base.proofs.Results.{on_err, on_ok}
 use Rattle.world_rules.specs.Runs.{is_channel}
@@ -10,8 +9,9 @@ use Rattle.fleet.specs.Commands.{is_seat, lines_in, station_in}
 use Rattle.fleet.specs.Standing.{FleetState}
 use Rattle.station.specs.Watched.{ShowsNoiseMore}
 use Rattle.fleet.specs.Views.{ShowNoiseMore}
-use Rattle.fleet.proofs.Finding.{place-within, seat-lost}
-use Rattle.fleet.proofs.Kept.{seats-count, seats-kept, set-links, set-same}
+use Rattle.fleet.proofs.Finding.{seat-lost}
+use Rattle.fleet.proofs.FoundStation.{station-read, station-within}
+use Rattle.fleet.proofs.Kept.{seats-kept, set-links, set-same}
 use Rattle.fleet.proofs.Lines.{noise-stands}
 use Rattle.fleet.proofs.Heard.{shows-self}
 use Rattle.fleet.proofs.Places.{zip-self, zip-set}
@@ -21,9 +21,8 @@ pub index_mut-requires : goal.index_mut-requires
 index_mut-requires c =
     omega (
       arith,
-      place-within (is_seat c.args.to) c.deref.result.now c.in-Some.place (sym c.in-Some.ensures),
-      ap length c.deref.ensures.value,
-      seats-count c.self.inside.seats.items c.self.inside.stations.items c.self.invariant,
+      station-within c.args.to c.deref.result.now c.self.inside.seats.items c.self.inside.stations.items c.in-Some.place
+          c.deref.ensures.value c.self.invariant c.in-Some.ensures,
       c.self.inside.stations.ok.0,
     )
 
@@ -32,35 +31,26 @@ hear-requires-clause-room c =
     let f = c.args.self.now in
     let stations = c.self.inside.stations.items in
     let place = c.in-Some.place in
-    let below : place < length stations =
-    omega (
-      arith,
-      place-within (is_seat c.args.to) c.deref.result.now place (sym c.in-Some.ensures),
-      ap length c.deref.ensures.value,
-      seats-count c.self.inside.seats.items stations c.self.invariant,
-    ) in
-    let there : slice_get f.stations place ≡ Some c.index_mut.result.now =
-    ap (λ (x : FleetState). slice_get x.stations place) (sym c.self.view_is)
-    ∙ slice_get_read stations (length stations) place c.index_mut.result.now refl below c.index_mut.ensures.value in
+    let there : slice_get stations place ≡ Some c.index_mut.result.now =
+    station-read c.args.to c.deref.result.now c.self.inside.seats.items stations place c.deref.ensures.value c.self.invariant
+    c.in-Some.ensures c.index_mut.result.now c.index_mut.ensures.value in
+    let here : slice_get f.stations place ≡ Some c.index_mut.result.now =
+    ap (λ (x : FleetState). slice_get x.stations place) (sym c.self.view_is) ∙ there in
     let found : position (is_seat c.args.to) f.seats ≡ Some place =
     ap (position (is_seat c.args.to)) (sym (c.deref.ensures.value ∙ ap (λ (x : FleetState). x.seats) c.self.view_is))
     ∙ sym c.in-Some.ensures in
-    sym (ap (λ k. nat_eq k 50000) (ap lines_in (ap (station_in f) found ∙ there))) ∙ c.requires.room
+    sym (ap (λ k. nat_eq k 50000) (ap lines_in (ap (station_in f) found ∙ here))) ∙ c.requires.room
 
 pub invariant_of-self : goal.invariant_of-self
 invariant_of-self c =
     let stations = c.self.inside.stations.items in
     let place = c.in-Some.place in
-    let below : place < length stations =
-    omega (
-      arith,
-      place-within (is_seat c.args.to) c.deref.result.now place (sym c.in-Some.ensures),
-      ap length c.deref.ensures.value,
-      seats-count c.self.inside.seats.items stations c.self.invariant,
-    ) in
+    let there : slice_get stations place ≡ Some c.index_mut.result.now =
+    station-read c.args.to c.deref.result.now c.self.inside.seats.items stations place c.deref.ensures.value c.self.invariant
+    c.in-Some.ensures c.index_mut.result.now c.index_mut.ensures.value in
     seats-kept c.self.inside.seats.items stations (slice_set stations place c.hear.new.station) c.self.invariant
     (set-links stations place c.index_mut.result.now c.hear.new.station
-    (slice_get_read stations (length stations) place c.index_mut.result.now refl below c.index_mut.ensures.value)
+    there
     c.hear.ensures.links)
 
 pub returns-in-None-clause-on : goal.returns-in-None-clause-on
@@ -76,20 +66,16 @@ returns-in-Some-clause-on c =
     let f = c.args.self.now in
     let stations = c.self.inside.stations.items in
     let place = c.in-Some.place in
-    let below : place < length stations =
-    omega (
-      arith,
-      place-within (is_seat c.args.to) c.deref.result.now place (sym c.in-Some.ensures),
-      ap length c.deref.ensures.value,
-      seats-count c.self.inside.seats.items stations c.self.invariant,
-    ) in
+    let there : slice_get stations place ≡ Some c.index_mut.result.now =
+    station-read c.args.to c.deref.result.now c.self.inside.seats.items stations place c.deref.ensures.value c.self.invariant
+    c.in-Some.ensures c.index_mut.result.now c.index_mut.ensures.value in
     on_ok c.hear.result _ _
     (λ hears. noise-stands c.args.from c.args.to c.args.bytes.now f _ place c.index_mut.result.now c.hear.new.station
     c.requires.near
     (ap (position (is_seat c.args.to)) (sym (c.deref.ensures.value ∙ ap (λ (x : FleetState). x.seats) c.self.view_is))
     ∙ sym c.in-Some.ensures)
     (ap (λ (x : FleetState). slice_get x.stations place) (sym c.self.view_is)
-    ∙ slice_get_read stations (length stations) place c.index_mut.result.now refl below c.index_mut.ensures.value)
+    ∙ there)
     hears (ap (λ (x : FleetState). slice_set x.stations place c.hear.new.station) c.self.view_is)
     (ap (λ (x : FleetState). x.seats) c.self.view_is) (record {
       posts = ap (λ (x : FleetState). x.posts) c.self.view_is;
@@ -102,13 +88,9 @@ returns-in-Some-clause-err c =
     let inside = c.self.inside in
     let stations = inside.stations.items in
     let place = c.in-Some.place in
-    let below : place < length stations =
-    omega (
-      arith,
-      place-within (is_seat c.args.to) c.deref.result.now place (sym c.in-Some.ensures),
-      ap length c.deref.ensures.value,
-      seats-count inside.seats.items stations c.self.invariant,
-    ) in
+    let there : slice_get stations place ≡ Some c.index_mut.result.now =
+    station-read c.args.to c.deref.result.now inside.seats.items stations place c.deref.ensures.value c.self.invariant
+    c.in-Some.ensures c.index_mut.result.now c.index_mut.ensures.value in
     on_err c.hear.result _ _
     (λ same. ap (λ (xs : List StationState). record {
       seats = inside.seats.items;
@@ -117,7 +99,7 @@ returns-in-Some-clause-err c =
       network = inside.network;
       failed = inside.failed.items;
     }) (set-same stations place c.index_mut.result.now c.hear.new.station
-    (slice_get_read stations (length stations) place c.index_mut.result.now refl below c.index_mut.ensures.value) same)
+    there same)
     ∙ c.self.view_is) c.hear.ensures.err
 
 pub returns-in-None-clause-shown : goal.returns-in-None-clause-shown
@@ -127,14 +109,10 @@ pub returns-in-Some-clause-shown : goal.returns-in-Some-clause-shown
 returns-in-Some-clause-shown c =
     let stations = c.self.inside.stations.items in
     let place = c.in-Some.place in
-    let below : place < length stations =
-    omega (
-      arith,
-      place-within (is_seat c.args.to) c.deref.result.now place (sym c.in-Some.ensures),
-      ap length c.deref.ensures.value,
-      seats-count c.self.inside.seats.items stations c.self.invariant,
-    ) in
+    let there : slice_get stations place ≡ Some c.index_mut.result.now =
+    station-read c.args.to c.deref.result.now c.self.inside.seats.items stations place c.deref.ensures.value c.self.invariant
+    c.in-Some.ensures c.index_mut.result.now c.index_mut.ensures.value in
     subst (λ (x : FleetState). ShowNoiseMore x.stations (slice_set stations place c.hear.new.station)) c.self.view_is
     (zip-set ShowsNoiseMore shows-self stations place c.index_mut.result.now c.hear.new.station
-    (slice_get_read stations (length stations) place c.index_mut.result.now refl below c.index_mut.ensures.value)
+    there
     c.hear.ensures.shown)

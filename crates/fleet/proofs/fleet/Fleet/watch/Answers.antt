@@ -1,10 +1,9 @@
-use Rattle.std.proofs.Common.{◌<◌, length, refl, sym, ap, ◌∙◌, arith}
-use Rattle.std.specs.Prelude.{position, slice_get, slice_set}
-use Rattle.std.proofs.lemmas.Option.{slice_get_read}
+use Rattle.std.proofs.Common.{◌≡◌, sym, ap, ◌∙◌, arith}
+use Rattle.std.specs.Prelude.{Some, position, slice_get, slice_set}
 use Rattle.fleet.specs.Commands.{is_seat}
 use Rattle.fleet.specs.Standing.{FleetState}
-use Rattle.fleet.proofs.Finding.{place-within}
-use Rattle.fleet.proofs.Kept.{seats-count, seats-kept, set-links}
+use Rattle.fleet.proofs.FoundStation.{station-read, station-within}
+use Rattle.fleet.proofs.Kept.{seats-kept, set-links}
 use Rattle.fleet.proofs.Watching.{watches-links}
 use Rattle.fleet.proofs.fleet.Fleet.watch.Goals as goal
 
@@ -12,9 +11,8 @@ pub index_mut-requires : goal.index_mut-requires
 index_mut-requires g c =
     omega (
       arith,
-      place-within (is_seat c.args.node) c.deref.result.now c.in-Some.place (sym c.in-Some.ensures),
-      ap length c.deref.ensures.value,
-      seats-count c.self.inside.seats.items c.self.inside.stations.items c.self.invariant,
+      station-within c.args.node c.deref.result.now c.self.inside.seats.items c.self.inside.stations.items c.in-Some.place
+          c.deref.ensures.value c.self.invariant c.in-Some.ensures,
       c.self.inside.stations.ok.0,
     )
 
@@ -22,29 +20,21 @@ pub invariant_of-self : goal.invariant_of-self
 invariant_of-self g c =
     let stations = c.self.inside.stations.items in
     let place = c.in-Some.place in
-    let below : place < length stations =
-    omega (
-      arith,
-      place-within (is_seat c.args.node) c.deref.result.now place (sym c.in-Some.ensures),
-      ap length c.deref.ensures.value,
-      seats-count c.self.inside.seats.items stations c.self.invariant,
-    ) in
+    let there : slice_get stations place ≡ Some c.index_mut.result.now =
+    station-read c.args.node c.deref.result.now c.self.inside.seats.items stations place c.deref.ensures.value c.self.invariant
+    c.in-Some.ensures c.index_mut.result.now c.index_mut.ensures.value in
     seats-kept c.self.inside.seats.items stations (slice_set stations place c.watch.new.self) c.self.invariant
     (set-links stations place c.index_mut.result.now c.watch.new.self
-    (slice_get_read stations (length stations) place c.index_mut.result.now refl below c.index_mut.ensures.value)
+    there
     (watches-links c.watch.result c.index_mut.result.now c.watch.new.self c.watch.ensures))
 
 pub returns : goal.returns
 returns g c =
     let stations = c.self.inside.stations.items in
     let place = c.in-Some.place in
-    let below : place < length stations =
-    omega (
-      arith,
-      place-within (is_seat c.args.node) c.deref.result.now place (sym c.in-Some.ensures),
-      ap length c.deref.ensures.value,
-      seats-count c.self.inside.seats.items stations c.self.invariant,
-    ) in
+    let there : slice_get stations place ≡ Some c.index_mut.result.now =
+    station-read c.args.node c.deref.result.now c.self.inside.seats.items stations place c.deref.ensures.value c.self.invariant
+    c.in-Some.ensures c.index_mut.result.now c.index_mut.ensures.value in
     record {
       place = place;
       found =
@@ -53,7 +43,7 @@ returns g c =
       before = c.index_mut.result.now;
       there =
           ap (λ (x : FleetState). slice_get x.stations place) (sym c.self.view_is)
-          ∙ slice_get_read stations (length stations) place c.index_mut.result.now refl below c.index_mut.ensures.value;
+          ∙ there;
       after = c.watch.new.self;
       watches = c.watch.ensures;
       fleet =
