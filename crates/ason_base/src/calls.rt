@@ -10,14 +10,14 @@ use crate::labels::Label;
 use std::alloc::Global;
 
 /// What an LSP is for.
-#[derive(Clone, Copy, Debug, PartialEq, Eq, Drop)]
+#[derive(Clone, Copy, PartialEq, Eq, Drop)]
 pub enum Role {
     Work,
     Back,
 }
 
 /// How far one LSP has come at one node.
-#[derive(Clone, Copy, Debug, PartialEq, Eq, Drop)]
+#[derive(Clone, Copy, PartialEq, Eq, Drop)]
 pub enum Phase {
     /// A Path passed.
     Asked,
@@ -34,7 +34,7 @@ pub enum Phase {
 }
 
 /// What becomes of a call (ITU-T G.8080, call control).
-#[derive(Clone, Copy, Debug, PartialEq, Eq, Drop)]
+#[derive(Clone, Copy, PartialEq, Eq, Drop)]
 pub enum CallState {
     /// The working LSP is asked for.
     Asking,
@@ -55,7 +55,7 @@ pub enum CallState {
 }
 
 /// Why a call is blocked, bare or stuck.
-#[derive(Clone, Copy, Debug, PartialEq, Eq, Drop)]
+#[derive(Clone, Copy, PartialEq, Eq, Drop)]
 pub enum Cause {
     Unset,
     /// No route leads to the egress.
@@ -73,7 +73,7 @@ pub enum Cause {
 }
 
 /// One call, as a table shows it.
-#[derive(Clone, Copy, Debug, PartialEq, Eq, Drop)]
+#[derive(Clone, Copy, Drop)]
 pub struct CallRow {
     pub call: CallNo,
     pub ingress: NodeId,
@@ -85,7 +85,7 @@ pub struct CallRow {
 }
 
 /// One leg, as a table shows it. `back_in` and `back_out` are the labels of the backward direction.
-#[derive(Clone, Copy, Debug, PartialEq, Eq, Drop)]
+#[derive(Clone, Copy, PartialEq, Eq, Drop)]
 pub struct LegRow {
     pub lsp: Lsp,
     pub node: NodeId,

@@ -1,7 +1,7 @@
 //! Error codes (RFC 2205, appendix B; RFC 3209, section 7.3; RFC 3473, section 4.2).
 
 /// An error code and its value, as an ERROR_SPEC object bears them.
-#[derive(Clone, Copy, Debug, PartialEq, Eq, Drop)]
+#[derive(Clone, Copy, PartialEq, Eq, Drop)]
 pub struct ErrCode {
     pub code: u8,
     pub value: u16,

@@ -10,7 +10,7 @@ use crate::steps::Steps;
 use std::alloc::Global;
 
 /// What fails or is repaired as one.
-#[derive(Clone, Copy, Debug, PartialEq, Eq, Drop)]
+#[derive(Clone, Copy, Drop)]
 pub enum Group {
     Srlg(u32),
     Link(LinkId),
@@ -218,7 +218,7 @@ pub struct EntryRef<'a> {
 }
 
 /// What is done to one frame of a channel.
-#[derive(Clone, Copy, Debug, PartialEq, Eq, Drop)]
+#[derive(Clone, Copy, Drop)]
 pub enum DisturbKind {
     Lose,
     Repeat,
@@ -226,7 +226,7 @@ pub enum DisturbKind {
 }
 
 /// The k-th frame from now on the channel is lost, repeated or held back.
-#[derive(Clone, Copy, Debug, PartialEq, Eq, Drop)]
+#[derive(Clone, Copy, Drop)]
 pub struct Disturb {
     pub kind: DisturbKind,
     pub from: NodeId,

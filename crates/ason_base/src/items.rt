@@ -8,7 +8,7 @@ use std::alloc::Global;
 use std::marker::Model;
 
 /// A list.
-#[derive(Debug, Drop)]
+#[derive(Drop)]
 pub struct Items<T> {
     items: Vec<T>,
 }

@@ -9,7 +9,7 @@ use std::marker::Model;
 const LABELS: u128 = 0xFFFF_FFFF_FFFF_FFFF_FFFF;
 
 /// A wavelength of a fibre: 1 to 80.
-#[derive(Clone, Copy, Debug, PartialEq, Eq, PartialOrd, Ord, Drop)]
+#[derive(Clone, Copy, PartialEq, Eq, Drop)]
 pub struct Label(u8);
 
 impl Model for Label {
@@ -47,7 +47,7 @@ impl Label {
 }
 
 /// A set of labels. Contracts see it as the rising list of its members.
-#[derive(Debug, Drop)]
+#[derive(Drop)]
 pub struct LabelSet {
     // Bit n stands for label n.
     mask: u128,

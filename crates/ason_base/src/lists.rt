@@ -17,7 +17,7 @@ pub type Bytes = Items<u8>;
 pub type Numbers = Items<u32>;
 
 /// A list of SRLG numbers, rising (RFC 4203, section 1.3).
-#[derive(Debug, Drop)]
+#[derive(Drop)]
 pub struct Srlgs {
     numbers: Vec<u32>,
 }

@@ -11,7 +11,7 @@ use crate::steps::Steps;
 use std::alloc::Global;
 
 /// What the LSP of a Path is for (PROTECTION, RFC 4872, section 14).
-#[derive(Debug, Drop)]
+#[derive(Drop)]
 pub enum PathRole {
     /// A working LSP; `guard` tells whether a backup is to stand beside it.
     Work {
@@ -48,7 +48,7 @@ impl Copied for PathRole {
 }
 
 /// A message of RSVP-TE.
-#[derive(Debug, Drop)]
+#[derive(Drop)]
 pub enum Msg {
     /// Asks for an LSP, with the labels that the sender's side allows (RFC 3473, section 2).
     Path {
@@ -164,7 +164,7 @@ impl Copied for Msg {
 }
 
 /// A message's number on a hop, in the sender's epoch (RFC 2961, section 4.2).
-#[derive(Clone, Copy, Debug, PartialEq, Eq, Drop)]
+#[derive(Clone, Copy, PartialEq, Eq, Drop)]
 pub struct MsgId {
     pub epoch: u32,
     pub number: u32,
@@ -174,7 +174,7 @@ pub struct MsgId {
 pub type Ids = Items<MsgId>;
 
 /// What one frame carries: a message with its number, or none, and acknowledgements (RFC 2961, section 4).
-#[derive(Debug, Drop)]
+#[derive(Drop)]
 pub struct Packet {
     pub id: Option<MsgId>,
     pub acks: Ids,
@@ -199,7 +199,7 @@ impl Copied for Packet {
 }
 
 /// Why bytes give no value.
-#[derive(Clone, Copy, Debug, PartialEq, Eq, Drop)]
+#[derive(Clone, Copy, Drop)]
 pub enum DecodeError {
     /// The bytes spell nothing.
     NotMessage,

@@ -21,7 +21,7 @@ pub const MOST_LINKS: usize = 256;
 pub const MOST_SRLGS: usize = 16;
 
 /// A node. One that doesn't convert keeps an LSP's label.
-#[derive(Clone, Copy, Debug, PartialEq, Eq, Drop)]
+#[derive(Clone, Copy, Drop)]
 pub struct NodeSpec {
     pub id: NodeId,
     pub convert: bool,
@@ -55,7 +55,7 @@ impl Copied for LinkSpec {
 }
 
 /// A link as routing knows it (RFC 3630, RFC 4203).
-#[derive(Debug, Drop)]
+#[derive(Drop)]
 pub struct TeRow {
     pub link: LinkId,
     pub low: NodeId,
@@ -96,7 +96,7 @@ impl Copied for TeRow {
 }
 
 /// Why nodes and links make no topology. Places count from 0.
-#[derive(Clone, Copy, Debug, PartialEq, Eq, Drop)]
+#[derive(Clone, Copy, Debug, Drop)]
 pub enum TopologyFault {
     /// There isn't 1 to 64 nodes, or there are more than 256 links.
     Count,

@@ -4,7 +4,7 @@ ghost use Rattle.std.specs.Prelude.{◌≡◌, ◌≤◌, IfOk, IsTrue};
 ghost use Rattle.ason_base.specs.Numerals.{are_digits, is_numeral, number_up_to, number_within};
 
 /// Why a word gives no number.
-#[derive(Clone, Copy, Debug, PartialEq, Eq, Drop)]
+#[derive(Clone, Copy, Drop)]
 pub enum NumeralFault {
     /// It isn't decimal digits without a leading zero.
     NoNumber,

@@ -16,7 +16,7 @@ use std::cmp::Ordering;
 use std::marker::Model;
 
 /// One thing that may fail under a link: an SRLG, or the link itself. SRLGs stand before links.
-#[derive(Clone, Copy, Debug, PartialEq, Eq, PartialOrd, Ord, Drop)]
+#[derive(Clone, Copy, PartialEq, Eq, PartialOrd, Ord, Drop)]
 pub enum Risk {
     Srlg(u32),
     Link(LinkId),
@@ -41,7 +41,7 @@ impl Model for RiskSet {
 }
 
 /// Why a route has no set of risks.
-#[derive(Clone, Copy, Debug, PartialEq, Eq, Drop)]
+#[derive(Clone, Copy, Drop)]
 pub enum RiskFault {
     /// The first link of the route that has no row.
     Unknown(LinkId),

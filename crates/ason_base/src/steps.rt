@@ -4,7 +4,7 @@ use crate::ids::{LinkId, NodeId};
 use crate::items::Items;
 
 /// One step of a route: the node that sends, and the link that it sends over.
-#[derive(Clone, Copy, Debug, PartialEq, Eq, Drop)]
+#[derive(Clone, Copy, Drop)]
 pub struct Step {
     pub node: NodeId,
     pub link: LinkId,

@@ -5,7 +5,7 @@ ghost use Rattle.std.specs.Io.KnownBytes.{ReadConsumes};
 ghost use Rattle.ason_io.specs.Faults.{Rose};
 
 /// The source or the sink failed.
-#[derive(Clone, Copy, Debug, PartialEq, Eq, Drop)]
+#[derive(Clone, Copy, Drop)]
 pub struct Failed;
 
 /// What bytes are read from, in order and in pieces of any size.

@@ -76,7 +76,7 @@ impl Source for SureSource {
 }
 
 /// A sink that drops what it takes, tells nothing of it and never fails.
-#[derive(Clone, Copy, Debug, Drop)]
+#[derive(Clone, Copy, Drop)]
 pub struct SureSink;
 
 impl SureSink {

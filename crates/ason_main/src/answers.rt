@@ -42,7 +42,7 @@ const USAGE: &[u8] =
     | route FROM TO | load SEED NODES CALLS | best FROM TO | survey\n";
 
 /// How a command ended, with the process's exit status as its number.
-#[derive(Clone, Copy, Debug, PartialEq, Eq, Drop)]
+#[derive(Clone, Copy, Drop)]
 pub enum Status {
     /// The plan was run and its tables written, or its trace, its survey, its routes, its best pair, what the messages
     /// say, or what became of a generated plan's calls: 0.

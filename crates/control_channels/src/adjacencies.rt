@@ -20,7 +20,7 @@ use hop_reliable::{Heard, Hop};
 use std::alloc::Global;
 
 /// The hop to one neighbour.
-#[derive(Debug, Drop)]
+#[derive(Drop)]
 pub struct Adjacency {
     pub peer: NodeId,
     pub hop: Hop,

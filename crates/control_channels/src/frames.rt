@@ -9,7 +9,7 @@ use flood::{Content, write_frame};
 use std::alloc::Global;
 
 /// Bytes on their way to a neighbour.
-#[derive(Debug, Drop)]
+#[derive(Drop)]
 pub struct Frame {
     pub to: NodeId,
     pub bytes: Bytes,
@@ -19,7 +19,7 @@ pub struct Frame {
 pub type Frames = Items<Frame>;
 
 /// What makes frames: each is written in one buffer that is used again, and its bytes are taken from there.
-#[derive(Debug, Drop)]
+#[derive(Drop)]
 pub struct FrameMaker {
     /// Where frames and lists of them get their memory.
     pub alloc: Global,

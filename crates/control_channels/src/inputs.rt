@@ -14,7 +14,7 @@ pub enum CoreInput {
 }
 
 /// How much a controller sent that isn't acknowledged: messages of its hops, and rows that it floods.
-#[derive(Clone, Copy, Debug, PartialEq, Eq, Drop)]
+#[derive(Clone, Copy, Drop)]
 pub struct Pending {
     pub hop: usize,
     pub flood: usize,

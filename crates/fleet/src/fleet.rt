@@ -29,7 +29,7 @@ pub enum RoundFault {
 }
 
 /// How much waits.
-#[derive(Clone, Copy, Debug, PartialEq, Eq, Drop)]
+#[derive(Clone, Copy, PartialEq, Eq, Drop)]
 pub struct FleetPending {
     /// Items on desks.
     pub desk: usize,

@@ -10,14 +10,14 @@ use station::Station;
 use std::alloc::Global;
 
 /// The far end of a link: the place of the other station, and there the place of the link back.
-#[derive(Clone, Copy, Debug, PartialEq, Eq, Drop)]
+#[derive(Clone, Copy, Drop)]
 pub struct End {
     pub station: usize,
     pub link: usize,
 }
 
 /// A node, and the far end of each of its links.
-#[derive(Debug, Drop)]
+#[derive(Drop)]
 pub struct Seat {
     pub id: NodeId,
     pub ends: Vec<End>,

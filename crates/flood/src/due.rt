@@ -10,7 +10,7 @@ use std::collections::VecDeque;
 
 /// A row that a neighbour hasn't acknowledged, with its number there. `age` counts ticks since its first sending, where 68
 /// counts as 8; before that it is none.
-#[derive(Debug, Drop)]
+#[derive(Drop)]
 pub struct Due {
     pub number: u32,
     pub age: Option<u8>,

@@ -15,7 +15,7 @@ use std::alloc::Global;
 use std::marker::Model;
 
 /// The known rows of a node, and the rows that each neighbour hasn't acknowledged.
-#[derive(Debug, Drop)]
+#[derive(Drop)]
 pub struct Flood {
     me: NodeId,
     known: KnownRows,

@@ -21,7 +21,7 @@ pub const RSVP: u8 = 46;
 pub const FLOOD: u8 = 89;
 
 /// What one frame bears.
-#[derive(Debug, Drop)]
+#[derive(Drop)]
 pub enum Content {
     /// A packet of a hop: an RSVP message with its number, or acknowledgements alone.
     Message(Packet),

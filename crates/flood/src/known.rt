@@ -12,7 +12,7 @@ use std::marker::Model;
 
 /// The known rows, in order of learning. Beside them stand the numbers of their links, rising, and their different ends, so
 /// that neither is looked for among all rows.
-#[derive(Debug, Drop)]
+#[derive(Drop)]
 pub struct KnownRows {
     rows: Vec<TeRow>,
     links: Vec<u32>,

@@ -21,7 +21,7 @@ const ROW: u8 = 1;
 const ACK: u8 = 2;
 
 /// A flood message.
-#[derive(Debug, Drop)]
+#[derive(Drop)]
 pub enum FloodMsg {
     /// A row, numbered on its channel from 1, as its origin gives it.
     Row {

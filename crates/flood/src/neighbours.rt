@@ -14,7 +14,7 @@ use std::collections::VecDeque;
 use std::marker::Model;
 
 /// A neighbour, the last number that a row due to it got, and the rows that it hasn't acknowledged, in order of number.
-#[derive(Debug, Drop)]
+#[derive(Drop)]
 pub struct Neighbour {
     id: NodeId,
     sent: u32,

@@ -7,7 +7,7 @@ use ason_base::{Items, NodeId, TeRow};
 pub type FloodSends = Items<(NodeId, FloodMsg)>;
 
 /// What came of a flood message: the row, if it was new, and what is to be sent.
-#[derive(Debug, Drop)]
+#[derive(Drop)]
 pub struct FloodOut {
     pub learnt: Option<TeRow>,
     pub sends: FloodSends,

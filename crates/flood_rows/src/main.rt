@@ -9,7 +9,7 @@ use std::alloc::Global;
 use std::{env, io};
 
 /// What the words ask for.
-#[derive(Clone, Copy, Debug, Drop)]
+#[derive(Clone, Copy, Drop)]
 struct Load {
     times: u32,
     rows: u32,
@@ -17,7 +17,7 @@ struct Load {
 }
 
 /// What there is at last.
-#[derive(Clone, Copy, Debug, Drop)]
+#[derive(Clone, Copy, Drop)]
 struct Learnt {
     known: usize,
     due: usize,

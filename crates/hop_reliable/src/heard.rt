@@ -11,7 +11,7 @@ use std::alloc::Global;
 pub const EPOCH: u32 = 1;
 
 /// What a packet is to a hop that has handed up the messages 1 to n.
-#[derive(Clone, Copy, Debug, PartialEq, Eq, Drop)]
+#[derive(Clone, Copy, Drop)]
 pub enum Heard {
     /// It has no message.
     Acked,

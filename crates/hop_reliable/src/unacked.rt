@@ -10,7 +10,7 @@ use ason_base::{Copied, Ids, Msg, MsgId, OutOfMemory, Packet};
 use std::alloc::Global;
 
 /// A message that was sent and not acknowledged. `age` counts ticks since its first sending, where 68 counts as 8.
-#[derive(Debug, Drop)]
+#[derive(Drop)]
 pub struct Unacked {
     pub number: u32,
     pub age: u8,

@@ -8,7 +8,7 @@ use ason_base::{Fibre, Label, Leg};
 use mesh_rules::links::reverse_of;
 
 /// A label that a leg takes, and the fibre that it is on.
-#[derive(Clone, Copy, Debug, Drop)]
+#[derive(Clone, Copy, Drop)]
 pub struct TakenLabel {
     pub fibre: Fibre,
     pub label: Label,

@@ -8,7 +8,7 @@ use crate::edits::insert_here;
 use ason_base::{CallNo, Lsp};
 
 /// The LSP of a call, if it has one.
-#[derive(Clone, Copy, Debug, Drop)]
+#[derive(Clone, Copy, Drop)]
 pub struct LspOfCall {
     pub lsp: Option<Lsp>,
     pub call: CallNo,

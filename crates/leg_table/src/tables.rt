@@ -24,7 +24,7 @@ use std::marker::Model;
 pub const MOST_LEGS: usize = 4096;
 
 /// Why a leg isn't put.
-#[derive(Clone, Copy, Debug, PartialEq, Eq, Drop)]
+#[derive(Clone, Copy, Drop)]
 pub enum PutFault {
     /// There are 4,096 legs.
     Full,

@@ -7,7 +7,7 @@ ghost use Rattle.link_owner.specs.Claims.{IsLeast, NoClaim, has_so, is_backup, i
 use ason_base::{Label, Lsp};
 
 /// How a leg has its label.
-#[derive(Clone, Copy, Debug, PartialEq, Eq, Drop)]
+#[derive(Clone, Copy, Drop)]
 pub enum ClaimKind {
     /// As a working leg, alone.
     Working,
@@ -16,7 +16,7 @@ pub enum ClaimKind {
 }
 
 /// A leg's claim of a label.
-#[derive(Clone, Copy, Debug, Drop)]
+#[derive(Clone, Copy, Drop)]
 pub struct Claim {
     pub label: Label,
     pub lsp: Lsp,
@@ -24,7 +24,7 @@ pub struct Claim {
 }
 
 /// Why a label isn't given.
-#[derive(Clone, Copy, Debug, PartialEq, Eq, Drop)]
+#[derive(Clone, Copy, Drop)]
 pub enum ClaimFault {
     /// This LSP's leg has it.
     Held(Lsp),
@@ -32,7 +32,7 @@ pub enum ClaimFault {
 }
 
 /// Which claims of a label are looked for.
-#[derive(Clone, Copy, Debug, Drop)]
+#[derive(Clone, Copy, Drop)]
 pub enum Sought {
     Any,
     AnyWorking,

@@ -10,7 +10,7 @@ use std::alloc::Global;
 use std::marker::Model;
 
 /// A fibre that comes in, and who has its labels.
-#[derive(Debug, Drop)]
+#[derive(Drop)]
 pub struct FibreOwner {
     fibre: Fibre,
     labels: u8,

@@ -9,7 +9,7 @@ use crate::claims::{Claim, Sought, has_backup, has_working};
 use ason_base::{Label, LabelSet};
 
 /// The labels from 1 to 80 that no leg has as a working leg, and those that none has as a backup.
-#[derive(Debug, Drop)]
+#[derive(Drop)]
 pub struct FreeLabels {
     of_working: LabelSet,
     of_backups: LabelSet,

@@ -9,11 +9,11 @@ use std::alloc::Global;
 use std::marker::Model;
 
 /// This other LSP's backup is activated on the label.
-#[derive(Clone, Copy, Debug, PartialEq, Eq, Drop)]
+#[derive(Clone, Copy, Drop)]
 pub struct Busy(pub Lsp);
 
 /// A fibre that comes in or goes out, with a place for the mark of each label, so that a mark takes no memory.
-#[derive(Debug, Drop)]
+#[derive(Drop)]
 pub struct MarkedFibre {
     fibre: Fibre,
     marks: Vec<Option<Lsp>>,

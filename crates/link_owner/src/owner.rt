@@ -19,7 +19,7 @@ use std::marker::Model;
 
 /// Who has which label of the fibres that come in at a node, and whose backup is activated on each label of its fibres.
 /// The node gives these labels out, and no other does; on those of fibres that go out it has marks alone.
-#[derive(Debug, Drop)]
+#[derive(Drop)]
 pub struct Owner {
     fibres: Vec<FibreOwner>,
     lit: Vec<MarkedFibre>,

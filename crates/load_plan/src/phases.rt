@@ -12,7 +12,7 @@ use std::alloc::Global;
 use table_text::words::state_word;
 
 /// What was done before a line is printed.
-#[derive(Clone, Copy, Debug, PartialEq, Eq, Drop)]
+#[derive(Clone, Copy, Drop)]
 pub enum LoadPhase {
     /// All calls were set up.
     Built,

@@ -18,7 +18,7 @@ pub(crate) struct Waiting {
 }
 
 /// A message under way.
-#[derive(Debug, Drop)]
+#[derive(Drop)]
 pub(crate) struct Sent {
     pub(crate) from: NodeId,
     pub(crate) to: NodeId,

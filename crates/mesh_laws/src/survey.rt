@@ -6,7 +6,7 @@ use ason_base::{CallNo, Fibre, Group, Items, Label};
 pub type CallNos = Items<CallNo>;
 
 /// The calls that the failure of a group would hit: those with a reserved backup, and the others.
-#[derive(Debug, Drop)]
+#[derive(Drop)]
 pub struct Hit {
     pub group: Group,
     pub guarded: CallNos,
@@ -15,7 +15,7 @@ pub struct Hit {
 
 /// Two guarded calls that would contend for a label if both groups failed: the first group hits the
 /// one, the second group the other, and the backups of both take the label.
-#[derive(Clone, Copy, Debug, PartialEq, Eq, Drop)]
+#[derive(Clone, Copy, Drop)]
 pub struct Contend {
     pub first: Group,
     pub second: Group,

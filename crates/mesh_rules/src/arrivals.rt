@@ -3,7 +3,7 @@
 use ason_base::{LinkId, Lsp, NodeId};
 
 /// The LSP and egress that a message names, and the neighbour and link that it came by.
-#[derive(Clone, Copy, Debug, PartialEq, Eq, Drop)]
+#[derive(Clone, Copy, Drop)]
 pub struct Arrival {
     pub lsp: Lsp,
     pub egress: NodeId,

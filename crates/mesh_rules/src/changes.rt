@@ -21,7 +21,7 @@ pub enum CallChange {
 }
 
 /// The tunnel and LSP numbers that an ingress gives out next.
-#[derive(Clone, Copy, Debug, PartialEq, Eq, Drop)]
+#[derive(Clone, Copy, Drop)]
 pub struct NextNumbers {
     pub tunnel: u32,
     pub lsp: u32,

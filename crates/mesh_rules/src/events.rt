@@ -17,7 +17,7 @@ pub enum MeshEvent {
 }
 
 /// Why an event changed nothing.
-#[derive(Clone, Copy, Debug, PartialEq, Eq, Drop)]
+#[derive(Clone, Copy, Drop)]
 pub enum StepFault {
     /// The event isn't enabled in this state.
     NotEnabled,

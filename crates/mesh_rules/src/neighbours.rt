@@ -3,7 +3,7 @@
 use ason_base::{Fibre, NodeId};
 
 /// A neighbour, and the fibre by which an LSP comes from it or goes to it.
-#[derive(Clone, Copy, Debug, PartialEq, Eq, Drop)]
+#[derive(Clone, Copy, Drop)]
 pub struct Neighbour {
     pub node: NodeId,
     pub fibre: Fibre,

@@ -9,7 +9,7 @@ use ason_base::OutOfMemory;
 use std::alloc::{AllocError, AllocFailed};
 
 /// What part of a plan is at fault. Parts count from 1.
-#[derive(Clone, Copy, Debug, PartialEq, Eq, Drop)]
+#[derive(Clone, Copy, Drop)]
 pub enum PlanEntry {
     /// The text as a whole.
     Toml,
@@ -24,7 +24,7 @@ pub enum PlanEntry {
 }
 
 /// What is wrong with a part of a plan.
-#[derive(Clone, Copy, Debug, PartialEq, Eq, Drop)]
+#[derive(Clone, Copy, Drop)]
 pub enum PlanKind {
     /// The bytes aren't UTF-8, or no TOML.
     Syntax,
@@ -69,14 +69,14 @@ pub enum PlanKind {
 }
 
 /// The first fault of a plan.
-#[derive(Clone, Copy, Debug, PartialEq, Eq, Drop)]
+#[derive(Clone, Copy, Drop)]
 pub struct PlanFault {
     pub entry: PlanEntry,
     pub kind: PlanKind,
 }
 
 /// Why there is no plan.
-#[derive(Clone, Copy, Debug, PartialEq, Eq, Drop)]
+#[derive(Clone, Copy, Drop)]
 pub enum PlanError {
     Fault(PlanFault),
     OutOfMemory,
@@ -107,7 +107,7 @@ impl<T: Drop> From<AllocFailed<T>> for PlanError {
 }
 
 /// Why a part of a plan isn't read.
-#[derive(Clone, Copy, Debug, PartialEq, Eq, Drop)]
+#[derive(Clone, Copy, Drop)]
 pub enum EntryError {
     Fault(PlanKind),
     OutOfMemory,

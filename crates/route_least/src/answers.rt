@@ -7,7 +7,7 @@ use ason_base::ids::OutOfMemory;
 use ason_base::steps::Steps;
 
 /// The least route: its steps, the sum of its metrics, and each node's potential.
-#[derive(Debug, Drop)]
+#[derive(Drop)]
 pub struct Found {
     pub route: Steps,
     pub cost: u32,
@@ -15,7 +15,7 @@ pub struct Found {
 }
 
 /// Why there is no least route.
-#[derive(Debug, Drop)]
+#[derive(Drop)]
 pub enum RouteFault {
     /// No walk that is allowed joins the two nodes.
     NoRoute(Potentials),

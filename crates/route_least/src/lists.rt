@@ -7,7 +7,7 @@ use std::alloc::Global;
 use std::marker::Model;
 
 /// A list of links.
-#[derive(Debug, Drop)]
+#[derive(Drop)]
 pub struct LinkIds {
     links: Vec<LinkId>,
 }
@@ -48,7 +48,7 @@ impl LinkIds {
 }
 
 /// A list of nodes.
-#[derive(Debug, Drop)]
+#[derive(Drop)]
 pub struct NodeIds {
     nodes: Vec<NodeId>,
 }
@@ -89,7 +89,7 @@ impl NodeIds {
 }
 
 /// Nodes with the least cost of a walk that leads there from the start, rising by node. Nodes to which no walk leads aren't there.
-#[derive(Debug, Drop)]
+#[derive(Drop)]
 pub struct Potentials {
     entries: Vec<(NodeId, u32)>,
 }
@@ -139,7 +139,7 @@ impl Potentials {
 }
 
 /// What a walk must keep off.
-#[derive(Debug, Drop)]
+#[derive(Drop)]
 pub struct Banned {
     /// Links that it must not use.
     pub links: LinkIds,

@@ -25,7 +25,7 @@ use ason_base::steps::Steps;
 use std::alloc::Global;
 
 /// The rows of a network, prepared for searches. It is good for as long as the rows are the same.
-#[derive(Debug, Drop)]
+#[derive(Drop)]
 pub struct RouteNetwork {
     places: Vec<Place>,
     order: Vec<NodePlace>,

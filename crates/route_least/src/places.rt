@@ -9,7 +9,7 @@ use ason_base::network::TeRow;
 use std::alloc::Global;
 
 /// A row, seen from one of its ends: its place in the list of rows, its link and metric, and the place of its other end.
-#[derive(Clone, Copy, Debug, PartialEq, Eq, Drop)]
+#[derive(Clone, Copy, Drop)]
 pub(crate) struct Arc {
     pub(crate) row: usize,
     pub(crate) head: usize,
@@ -18,7 +18,7 @@ pub(crate) struct Arc {
 }
 
 /// A node, and the rows that have it as an end.
-#[derive(Debug, Drop)]
+#[derive(Drop)]
 pub(crate) struct Place {
     pub(crate) node: NodeId,
     pub(crate) arcs: Vec<Arc>,

@@ -6,14 +6,14 @@ use ason_base::ids::{LinkId, OutOfMemory};
 use route_least::{Found, Potentials};
 
 /// A primary route and its backup.
-#[derive(Debug, Drop)]
+#[derive(Drop)]
 pub struct Pair {
     pub primary: Found,
     pub backup: Found,
 }
 
 /// Why there is no pair.
-#[derive(Debug, Drop)]
+#[derive(Drop)]
 pub enum PairFault {
     /// No walk joins the two nodes.
     NoPrimary(Potentials),
@@ -23,7 +23,7 @@ pub enum PairFault {
 }
 
 /// Why a route has no backup.
-#[derive(Clone, Copy, Debug, PartialEq, Eq, Drop)]
+#[derive(Clone, Copy, PartialEq, Eq, Drop)]
 pub enum BackupFault {
     /// The first link of the route that has no row.
     Unknown(LinkId),

@@ -15,7 +15,7 @@ use route_least::NodeIds;
 use std::alloc::Global;
 
 /// The rows that are closed to a backup, by their place in the list, and the nodes that it mustn't visit after its start.
-#[derive(Debug, Drop)]
+#[derive(Drop)]
 pub(crate) struct Bans {
     pub(crate) closed: Vec<bool>,
     pub(crate) nodes: NodeIds,

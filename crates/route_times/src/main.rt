@@ -21,7 +21,7 @@ use std::{env, io};
 use trees::Searched;
 
 /// What the words ask for.
-#[derive(Clone, Copy, Debug, Drop)]
+#[derive(Clone, Copy, Drop)]
 struct Request {
     times: u32,
     each: bool,

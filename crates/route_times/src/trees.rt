@@ -7,7 +7,7 @@ use pair_search::{BestFault, Children, Tree, best};
 use std::alloc::Global;
 
 /// What a search for the best pair came to.
-#[derive(Clone, Copy, Debug, Drop)]
+#[derive(Clone, Copy, Drop)]
 pub struct Searched {
     /// The sum of its costs; none where there is no pair.
     pub total: Option<u32>,

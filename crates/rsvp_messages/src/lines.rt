@@ -18,7 +18,7 @@ use ason_base::{DecodeError, Msg, OutOfMemory, PathRole};
 use std::alloc::Global;
 
 /// What becomes of an object.
-#[derive(Clone, Copy, Debug, PartialEq, Eq, Drop)]
+#[derive(Clone, Copy, Drop)]
 pub enum Fate {
     /// The message reads it.
     Read,
@@ -29,7 +29,7 @@ pub enum Fate {
 }
 
 /// An object of a message: its class, C-Type and length with its header, and what becomes of it.
-#[derive(Clone, Copy, Debug, PartialEq, Eq, Drop)]
+#[derive(Clone, Copy, Drop)]
 pub struct ObjectLine {
     pub class: u8,
     pub ctype: u8,

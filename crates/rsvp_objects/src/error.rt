@@ -16,7 +16,7 @@ const IPV4: u8 = 1;
 const IF_ID: u8 = 3;
 
 /// An error: the node that found it, flags, its code, and the link that it is about, if any.
-#[derive(Clone, Copy, Debug, PartialEq, Eq, Drop)]
+#[derive(Clone, Copy, Drop)]
 pub struct ErrorSpec {
     pub node: NodeId,
     pub flags: u8,

@@ -12,7 +12,7 @@ use byteorder::{BigEndian, ByteOrder};
 use wire_buf::{put_header, put_u32};
 
 /// The sender of a message, and the link that it sends over.
-#[derive(Clone, Copy, Debug, PartialEq, Eq, Drop)]
+#[derive(Clone, Copy, Drop)]
 pub struct HopObject {
     pub sender: NodeId,
     pub link: LinkId,

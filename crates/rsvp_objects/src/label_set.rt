@@ -16,7 +16,7 @@ use wire_buf::{Cursor, put_header, put_u8, put_u24, put_u32};
 const GENERALIZED: u32 = 2;
 
 /// The labels that a Path includes or excludes.
-#[derive(Debug, Drop)]
+#[derive(Drop)]
 pub struct LabelSetObject {
     pub include: bool,
     pub labels: LabelSet,

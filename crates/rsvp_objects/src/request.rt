@@ -15,7 +15,7 @@ const LAMBDA: u8 = 8;
 const LAMBDA_SWITCH: u8 = 150;
 
 /// The request of a wavelength.
-#[derive(Clone, Copy, Debug, PartialEq, Eq, Drop)]
+#[derive(Clone, Copy, Drop)]
 pub struct LabelRequest;
 
 /// The request of a LABEL_REQUEST's body. None exactly where the body isn't the request of a wavelength.

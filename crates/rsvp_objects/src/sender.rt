@@ -15,7 +15,7 @@ const FILTER_SPEC: u8 = 10;
 const SENDER_TEMPLATE: u8 = 11;
 
 /// The sender of an LSP: its ingress, and the LSP's number there.
-#[derive(Clone, Copy, Debug, PartialEq, Eq, Drop)]
+#[derive(Clone, Copy, Drop)]
 pub struct SenderRef {
     pub sender: NodeId,
     pub lsp: u16,

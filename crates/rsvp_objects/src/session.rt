@@ -11,7 +11,7 @@ use byteorder::{BigEndian, ByteOrder};
 use wire_buf::{put_header, put_u16, put_u32};
 
 /// The tunnel that a message is about: its egress, its number at the ingress, and the extended tunnel id.
-#[derive(Clone, Copy, Debug, PartialEq, Eq, Drop)]
+#[derive(Clone, Copy, Drop)]
 pub struct Session {
     pub endpoint: NodeId,
     pub tunnel: u16,

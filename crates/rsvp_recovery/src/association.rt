@@ -12,7 +12,7 @@ use wire_buf::{put_header, put_u16, put_u32};
 
 /// What ties LSPs together: the type of association, its id, and the source that gave the id. In recovery (type 1) the
 /// id is the number of the LSP that is protected.
-#[derive(Clone, Copy, Debug, PartialEq, Eq, Drop)]
+#[derive(Clone, Copy, Drop)]
 pub struct Association {
     pub kind: u16,
     pub id: u16,

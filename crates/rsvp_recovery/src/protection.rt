@@ -21,7 +21,7 @@ const PROTECTING: u32 = 0x4000_0000;
 const REROUTING: u32 = 0x0002_0000;
 
 /// How an LSP takes part in recovery.
-#[derive(Clone, Copy, Debug, PartialEq, Eq, Drop)]
+#[derive(Clone, Copy, PartialEq, Eq, Drop)]
 pub enum Protection {
     /// A working LSP; `guard` tells whether a backup is to stand beside it.
     Work { guard: bool },

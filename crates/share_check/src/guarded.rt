@@ -12,14 +12,14 @@ use ason_base::{Lsp, OutOfMemory, Risk};
 use std::cmp::Ordering;
 
 /// A risk that an LSP guards: the LSP keeps off its label those backups whose primaries have the risk.
-#[derive(Clone, Copy, Debug, Drop)]
+#[derive(Clone, Copy, Drop)]
 pub struct GuardedRisk {
     pub risk: Risk,
     pub lsp: Lsp,
 }
 
 /// A risk that a backup's primary has in common with that of an LSP that has the label.
-#[derive(Clone, Copy, Debug, PartialEq, Eq, Drop)]
+#[derive(Clone, Copy, Drop)]
 pub struct Meets {
     pub risk: Risk,
     pub lsp: Lsp,

@@ -5,7 +5,7 @@ ghost use Rattle.station.specs.declared.halts.Halt.{Halt};
 
 use ason_base::OutOfMemory;
 
-#[derive(Clone, Copy, Debug, PartialEq, Eq, Drop)]
+#[derive(Clone, Copy, Drop)]
 pub(crate) enum Halt {
     /// An input is at hand, and the log is full or no stamp is left for it.
     AtLimit,

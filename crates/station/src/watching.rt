@@ -11,7 +11,7 @@ use mgmt_view::NodeTable;
 use std::alloc::Global;
 
 /// Why a node isn't watched from now on.
-#[derive(Clone, Copy, Debug, PartialEq, Eq, Drop)]
+#[derive(Clone, Copy, Drop)]
 pub enum WatchFault {
     /// It has a viewer.
     Watched,

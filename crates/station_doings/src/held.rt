@@ -4,7 +4,7 @@ use ason_base::NodeId;
 use station_sound::Parcel;
 
 /// A parcel that is held, and how often the node ticked since its taking.
-#[derive(Debug, Drop)]
+#[derive(Drop)]
 pub struct HeldParcel {
     pub from: NodeId,
     pub parcel: Parcel,

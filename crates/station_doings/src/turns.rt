@@ -1,7 +1,7 @@
 //! What a turn answers.
 
 /// How a turn ended.
-#[derive(Clone, Copy, Debug, PartialEq, Eq, Drop)]
+#[derive(Clone, Copy, PartialEq, Eq, Drop)]
 pub enum Turn {
     /// So many lines, at least one, were written in the log; all that was known to be there was done.
     Worked(u64),

@@ -14,7 +14,7 @@ use std::marker::Model;
 pub const MOST_FRAMES: usize = 256;
 
 /// What is known of a parcel before it is taken.
-#[derive(Clone, Copy, Debug, Drop)]
+#[derive(Clone, Copy, Drop)]
 pub struct Head {
     pub number: u64,
     pub stamp: u64,

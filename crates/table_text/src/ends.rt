@@ -8,7 +8,7 @@ use plan_reader::{Plan, node_named};
 use std::alloc::Global;
 
 /// Why two names don't tell two nodes.
-#[derive(Clone, Copy, Debug, PartialEq, Eq, Drop)]
+#[derive(Clone, Copy, Drop)]
 pub(crate) enum EndsFault {
     /// No node has the first name.
     NoFrom,

@@ -14,7 +14,7 @@ use plan_reader::Plan;
 use std::alloc::{AllocError, Global};
 
 /// Why a trace isn't written as a whole.
-#[derive(Clone, Copy, Debug, PartialEq, Eq, Drop)]
+#[derive(Clone, Copy, Drop)]
 pub enum TraceWriteFault {
     /// The sink failed.
     Failed,

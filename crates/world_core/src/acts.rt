@@ -2,7 +2,7 @@
 
 use ason_base::{Bytes, NodeId};
 
-#[derive(Debug, Drop)]
+#[derive(Drop)]
 pub(crate) enum Act {
     /// A frame comes from a node.
     Take { from: NodeId, bytes: Bytes },

@@ -14,7 +14,7 @@ use std::alloc::Global;
 use std::marker::Model;
 
 /// All that was ever sent from a node to another, the oldest first. Nothing is taken off.
-#[derive(Debug, Drop)]
+#[derive(Drop)]
 pub struct Channel {
     to: NodeId,
     frames: Vec<Bytes>,

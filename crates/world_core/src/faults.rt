@@ -5,7 +5,7 @@ ghost use Rattle.world_core.specs.declared.faults.Fault.{Fault};
 
 use ason_base::OutOfMemory;
 
-#[derive(Clone, Copy, Debug, PartialEq, Eq, Drop)]
+#[derive(Clone, Copy, Drop)]
 pub(crate) enum Fault {
     /// It isn't enabled.
     NotEnabled,

@@ -12,7 +12,7 @@ use ason_base::{Event, OutOfMemory, Topology};
 use std::alloc::Global;
 
 /// Why events weren't replayed.
-#[derive(Clone, Copy, Debug, PartialEq, Eq, Drop)]
+#[derive(Clone, Copy, Drop)]
 pub enum ReplayError {
     /// The event with this number, counted from 1, is the first that isn't enabled.
     NotRun(usize),

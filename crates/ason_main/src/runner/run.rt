@@ -26,7 +26,7 @@ use std::thread::Threads;
 pub(crate) const ROUNDS: u32 = 1000;
 
 /// How a run ended.
-#[derive(Clone, Copy, Debug, PartialEq, Eq, Drop)]
+#[derive(Clone, Copy, Drop)]
 pub enum Ran {
     /// The whole script was run.
     Ended,

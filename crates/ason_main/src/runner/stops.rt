@@ -7,7 +7,7 @@ ghost use Rattle.ason_main.specs.Running.{stop_of};
 use ason_base::{NodeId, OutOfMemory};
 use fleet::RoundFault;
 
-#[derive(Clone, Copy, Debug, PartialEq, Eq, Drop)]
+#[derive(Clone, Copy, Drop)]
 pub enum Stop {
     /// The node has made as many events as it may, and an input is at hand.
     AtLimit(NodeId),
