@@ -58,23 +58,26 @@ pub none-sent : (c d : ControllerState) (u : NodeId) (bytes : List ℕ) (frames 
     IsStep c d (input.Frame u bytes) frames → frames ≡ []
 none-sent c d u bytes frames nothing is = (is.reaction.1 nothing).made.frames
 
+-- the controller takes a copy of the bytes, and sends nothing
+pub none-taken : (u : NodeId) (bytes taken : List ℕ) (c d : ControllerState) (frames : List Frame) → taken ≡ bytes →
+    SpellsNothing bytes → IsStep c d (input.Frame u taken) frames → IsStep c d (input.Frame u bytes) []
+none-taken u bytes taken c d frames take nothing step =
+    let is : IsStep c d (input.Frame u bytes) frames =
+    subst (λ xs. IsStep c d (input.Frame u xs) frames) take step in
+    subst (IsStep c d (input.Frame u bytes)) (none-sent c d u bytes frames nothing is) is
+
 -- a line is written, and nothing else changes
-abbrev pub noise-entered : (u me : NodeId) (bytes taken written : List ℕ) (old new : StationState)
-    (frames : List Frame) → taken ≡ bytes → written ≡ bytes → me ≡ me_of old → SpellsNothing bytes → old.controller.steps < 50000 →
-    IsStep old.controller new.controller (input.Frame u taken) frames →
+abbrev pub noise-entered : (u me : NodeId) (bytes written : List ℕ) (old new : StationState) → written ≡ bytes →
+    me ≡ me_of old → old.controller.steps < 50000 → IsStep old.controller new.controller (input.Frame u bytes) [] →
     new ≡ record old {
       controller = new.controller;
       clock = old.clock + 1;
       log = old.log ++ record { stamp = old.clock + 1; node = Some me; event = Noise me u written } ∷ [];
     } → HasEntered (input.Frame u bytes) (Noise (me_of old) u bytes) (old.clock + 1) old new
-noise-entered u me bytes taken written old new frames take write my nothing few step same =
-    let is : IsStep old.controller new.controller (input.Frame u bytes) frames =
-    subst (λ xs. IsStep old.controller new.controller (input.Frame u xs) frames) take step in
+noise-entered u me bytes written old new write my few step same =
     record {
       frames = [];
-      step =
-          subst (IsStep old.controller new.controller (input.Frame u bytes))
-          (none-sent old.controller new.controller u bytes frames nothing is) is;
+      step = step;
       few = few;
       above = omega arith;
       clock = ap (λ (s : StationState). s.clock) same;

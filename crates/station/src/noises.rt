@@ -1,14 +1,17 @@
 //! Bytes that spell nothing.
 
-ghost use Rattle.std.specs.Prelude.{◌≡◌, ◌<◌, ◌+◌, ◌^◌, IfOk, IsSome, OnErr, OnOk, length, position};
+ghost use Rattle.std.specs.Prelude.{◌≡◌, ◌<◌, ◌+◌, ◌^◌, [], IfOk, IsSome, IsTrue, OnErr, OnOk, length, position};
+ghost use Rattle.control_channels.specs.Controllers.{IsStep};
+ghost use Rattle.control_channels.specs.declared.inputs.CoreInput.{CoreInput};
 ghost use Rattle.flood.specs.Frames.{SpellsNothing};
+ghost use Rattle.mesh_nodes.specs.LocalNodes.{is_neighbour};
 ghost use Rattle.station.specs.Fits.{PartsFit, state_of};
 ghost use Rattle.station.specs.Noise.{HasHeard};
 ghost use Rattle.station.specs.Sending.{is_to};
 
 use crate::parts::{Parts, write};
 use ason_base::{Bytes, Entry, Event, NodeId, OutOfMemory};
-use controller::CoreInput;
+use controller::{Controller, CoreInput};
 use std::alloc::Global;
 
 // These bytes once more.
@@ -17,6 +20,27 @@ fn copied(alloc: Global, bytes: &[u8]) -> Result<Bytes, OutOfMemory>
 {
     let bytes = Vec::from_slice(alloc, bytes)?;
     Ok(Bytes::from_vec(bytes))
+}
+
+// The controller takes bytes that spell nothing, which come from a neighbour. After want of memory it is as it was.
+fn hear(
+    alloc: Global,
+    controller: &mut Controller,
+    from: NodeId,
+    bytes: &[u8],
+) -> Result<(), OutOfMemory>
+    requires few { controller.old.steps < 50000 }
+    requires near { IsTrue (is_neighbour controller.old.node.place from) }
+    requires nothing { SpellsNothing bytes.now }
+    ensures step { OnOk result
+        (IsStep controller.old controller.new (CoreInput.Frame from bytes.now) []) }
+    ensures place { controller.new.node.place ≡ controller.old.node.place }
+    ensures err { OnErr result (controller.new ≡ controller.old) }
+{
+    let heard = copied(alloc, bytes)?;
+    let input = CoreInput::Frame { from, bytes: heard };
+    let _none = controller.step(&input)?;
+    Ok(())
 }
 
 /// Bytes that spell nothing come from a neighbour: the controller counts them, and a line is written. What needs
@@ -36,11 +60,9 @@ pub(crate) fn noise(
     ensures err { OnErr result (state_of parts.new ≡ state_of parts.old) }
     ensures fit { PartsFit parts.new }
 {
-    let heard = copied(alloc, bytes)?;
-    let written = copied(alloc, bytes)?;
-    let input = CoreInput::Frame { from, bytes: heard };
     parts.log.reserve(1)?;
-    let _none = parts.controller.step(&input)?;
+    let written = copied(alloc, bytes)?;
+    hear(alloc, &mut parts.controller, from, bytes)?;
     let stamp = parts.clock + 1;
     parts.clock = stamp;
     let to = parts.me;

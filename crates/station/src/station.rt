@@ -61,6 +61,7 @@ impl Station {
         requires { IsSome (find_node t.now id) }
         ensures { IfOk result (IsNewStation t.now id) }
     {
+        let log = Vec::with_capacity(alloc, FIRST_LINES)?;
         let controller = Controller::new(alloc, t, id)?;
         let parts = Parts {
             me: id,
@@ -68,7 +69,7 @@ impl Station {
             desk: Desk::new(alloc),
             links: Vec::new(alloc),
             clock: 0,
-            log: Vec::with_capacity(alloc, FIRST_LINES)?,
+            log,
             held: Vec::new(alloc),
             lines: Vec::new(alloc),
             answer: Turn::Idle,
@@ -91,9 +92,9 @@ impl Station {
         ensures publisher { a.new.publisher ≡ a.old.publisher }
         ensures publisher_back { b.new.publisher ≡ b.old.publisher }
     {
-        let (here, there) = join(alloc, a.parts.me, b.parts.me)?;
         a.parts.links.reserve(1)?;
         b.parts.links.reserve(1)?;
+        let (here, there) = join(alloc, a.parts.me, b.parts.me)?;
         attach(&mut a.parts.links, here);
         attach(&mut b.parts.links, there);
         Ok(())

@@ -10,8 +10,8 @@ use Rattle.station.proofs.Fitting.{parts-entered}
 use Rattle.station.proofs.Hearing.{heard, near-to, noise-entered}
 use Rattle.station.proofs.noises.noise.Goals as goal
 
-pub step-requires-clause-from : goal.step-requires-clause-from
-step-requires-clause-from c =
+pub hear-requires-clause-near : goal.hear-requires-clause-near
+hear-requires-clause-near c =
     let s = state_of c.args.parts.now in
     near-to s.controller.node.place s.controller.steps s.clock c.args.from s.links c.requires.fit.station.links
     c.requires.near
@@ -22,12 +22,11 @@ returns-clause-ok c =
     let u = c.args.from in
     let me = c.args.parts.now.me in
     let entry : Entry = record { stamp = s.clock + 1; node = Some me; event = Noise me u c.in_ok-written.written } in
-    let m : StationState = record s { controller = c.step.new.self; clock = s.clock + 1; log = c.write.new.log.items } in
+    let m : StationState = record s { controller = c.hear.new.controller; clock = s.clock + 1; log = c.write.new.log.items } in
     heard u c.args.bytes.now s m c.requires.nothing c.requires.near refl
-    (noise-entered u me c.args.bytes.now c.in_ok-heard.heard c.in_ok-written.written s m c.in_ok-_none._none
-    c.in_ok-heard.ensures c.in_ok-written.ensures c.requires.fit.me c.requires.nothing
-    (omega (arith, c.requires.room, c.requires.fit.station.count)) c.in_ok-_none.ensures.step
-    (ap (λ xs. record s { controller = c.step.new.self; clock = s.clock + 1; log = xs })
+    (noise-entered u me c.args.bytes.now c.in_ok-written.written s m c.in_ok-written.ensures c.requires.fit.me
+    (omega (arith, c.requires.room, c.requires.fit.station.count)) c.in_ok-hear.ensures.step
+    (ap (λ xs. record s { controller = c.hear.new.controller; clock = s.clock + 1; log = xs })
     (c.write.ensures ∙ ap (λ xs. xs ++ entry ∷ []) c.reserve.ensures.items)))
 
 pub returns-clause-fit : goal.returns-clause-fit
@@ -36,12 +35,11 @@ returns-clause-fit c =
     let u = c.args.from in
     let me = c.args.parts.now.me in
     let entry : Entry = record { stamp = s.clock + 1; node = Some me; event = Noise me u c.in_ok-written.written } in
-    let m : StationState = record s { controller = c.step.new.self; clock = s.clock + 1; log = c.write.new.log.items } in
+    let m : StationState = record s { controller = c.hear.new.controller; clock = s.clock + 1; log = c.write.new.log.items } in
     parts-entered (input.Frame u c.args.bytes.now) (Noise (me_of s) u c.args.bytes.now) (s.clock + 1)
     c.args.parts.now _
-    (noise-entered u me c.args.bytes.now c.in_ok-heard.heard c.in_ok-written.written s m c.in_ok-_none._none
-    c.in_ok-heard.ensures c.in_ok-written.ensures c.requires.fit.me c.requires.nothing
-    (omega (arith, c.requires.room, c.requires.fit.station.count)) c.in_ok-_none.ensures.step
-    (ap (λ xs. record s { controller = c.step.new.self; clock = s.clock + 1; log = xs })
-    (c.write.ensures ∙ ap (λ xs. xs ++ entry ∷ []) c.reserve.ensures.items))) (omega arith) c.step.ensures.place refl
+    (noise-entered u me c.args.bytes.now c.in_ok-written.written s m c.in_ok-written.ensures c.requires.fit.me
+    (omega (arith, c.requires.room, c.requires.fit.station.count)) c.in_ok-hear.ensures.step
+    (ap (λ xs. record s { controller = c.hear.new.controller; clock = s.clock + 1; log = xs })
+    (c.write.ensures ∙ ap (λ xs. xs ++ entry ∷ []) c.reserve.ensures.items))) (omega arith) c.hear.ensures.place refl
     c.requires.fit
