@@ -14,7 +14,7 @@ use Rattle.mesh_laws.specs.HopLaw.{HasShape}
 use Rattle.mesh_laws.specs.HopShapes as row
 use Rattle.mesh_examples.proofs.Scene.{all_enabled, desk, fails_link, joins, learns, leg, lsp, node, over, reported, seen, Seen, sets_up, spec, takes}
 
-abbrev network : Network
+abbrev pub network : Network
 network = record {
   wait = 0;
   nodes = spec 1 true ∷ spec 2 false ∷ spec 3 false ∷ spec 4 false ∷ spec 5 false ∷ spec 6 false ∷ [];
@@ -23,7 +23,7 @@ network = record {
       ∷ []) ∷ joins 6 3 6 2 (2 ∷ []) ∷ joins 7 5 6 1 [] ∷ [];
 }
 
-abbrev events : List MeshEvent
+abbrev pub events : List MeshEvent
 events =
     learns 1 (5 ∷ [])
     ++ learns 2 (3 ∷ [])
@@ -43,7 +43,7 @@ events =
     ∷ takes 1 5
     ∷ []
 
-abbrev as_reached : Seen
+abbrev pub as_reached : Seen
 as_reached = record {
   legs =
       (leg 1 1 Live None (Some 1) 0 1 1 ∷ leg 1 2 Armed None (Some 1) 0 3 1 ∷ [])

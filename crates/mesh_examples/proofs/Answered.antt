@@ -14,7 +14,7 @@ use Rattle.mesh_laws.specs.HopLaw.{HasShape}
 use Rattle.mesh_laws.specs.HopShapes as row
 use Rattle.mesh_examples.proofs.Scene.{all_enabled, called, desk, joins, leg, lsp, node, over, Seen, seen, sets_up, spec, takes}
 
-abbrev network : Network
+abbrev pub network : Network
 network = record {
   wait = 2;
   nodes = spec 1 true ∷ spec 2 true ∷ spec 3 false ∷ spec 4 true ∷ spec 5 false ∷ spec 6 false ∷ [];
@@ -22,14 +22,14 @@ network = record {
       ∷ joins 6 3 5 2 [] ∷ joins 7 4 5 1 [] ∷ [];
 }
 
-abbrev events : List MeshEvent
+abbrev pub events : List MeshEvent
 events =
     sets_up 1 4 5 (over 4 7 ∷ []) (over 4 5 ∷ over 3 4 ∷ over 2 1 ∷ over 1 3 ∷ [])
     ∷ desk 4
     ∷ takes 5 4
     ∷ []
 
-abbrev as_reached : Seen
+abbrev pub as_reached : Seen
 as_reached = record {
   legs =
       []

@@ -1,5 +1,5 @@
 -- A run after which a backup is asked for.
-use Rattle.std.proofs.Common.{◌≡◌, true, false, List, [], ◌∷◌, refl}
+use Rattle.std.proofs.Common.{◌≡◌, true, List, [], ◌∷◌, ◌++◌, refl}
 use Rattle.std.specs.Prelude.{Some, None}
 use Rattle.ason_base.specs.Labels as labels
 use Rattle.ason_base.specs.Network.{Network}
@@ -12,26 +12,17 @@ use Rattle.mesh_rules.specs.Events.{after}
 use Rattle.mesh_rules.specs.Machine.{start}
 use Rattle.mesh_laws.specs.HopLaw.{HasShape}
 use Rattle.mesh_laws.specs.HopShapes as row
-use Rattle.mesh_examples.proofs.Scene.{all_enabled, called, desk, joins, leg, lsp, node, over, Seen, seen, sets_up, spec, takes}
+use Rattle.mesh_examples.proofs.Answered as answered
+use Rattle.mesh_examples.proofs.Scene.{all_enabled, called, leg, lsp, node, Seen, seen, takes}
 
 abbrev network : Network
-network = record {
-  wait = 2;
-  nodes = spec 1 true ∷ spec 2 true ∷ spec 3 false ∷ spec 4 true ∷ spec 5 false ∷ spec 6 false ∷ [];
-  links = joins 1 1 2 1 [] ∷ joins 2 1 3 3 (1 ∷ []) ∷ joins 3 1 5 2 (1 ∷ []) ∷ joins 4 2 3 2 [] ∷ joins 5 3 4 1 []
-      ∷ joins 6 3 5 2 [] ∷ joins 7 4 5 1 [] ∷ [];
-}
+network = answered.network
 
 abbrev events : List MeshEvent
-events =
-    sets_up 1 4 5 (over 4 7 ∷ []) (over 4 5 ∷ over 3 4 ∷ over 2 1 ∷ over 1 3 ∷ [])
-    ∷ desk 4
-    ∷ takes 5 4
-    ∷ takes 4 5
-    ∷ []
+events = answered.events ++ takes 4 5 ∷ []
 
 abbrev as_reached : Seen
-as_reached = record {
+as_reached = record answered.as_reached {
   legs =
       []
       ∷ []
@@ -48,8 +39,6 @@ as_reached = record {
       ∷ []
       ∷ []
       ∷ [];
-  known = 3 ∷ 2 ∷ 4 ∷ 2 ∷ 3 ∷ 0 ∷ [];
-  down = 0 ∷ 0 ∷ 0 ∷ 0 ∷ 0 ∷ 0 ∷ [];
   mail = (0, 0) ∷ (0, 0) ∷ (0, 0) ∷ (0, 0) ∷ (0, 1) ∷ (0, 0) ∷ (0, 0) ∷ [];
 }
 

@@ -1,25 +1,18 @@
 -- A run after which a turned call goes back, since its backup is hit and its working route is repaired.
-use Rattle.std.proofs.Common.{◌≡◌, true, false, List, [], ◌∷◌, ◌++◌, refl}
-use Rattle.std.specs.Prelude.{Some, None}
+use Rattle.std.proofs.Common.{◌≡◌, true, List, [], ◌∷◌, ◌++◌, refl}
 use Rattle.ason_base.specs.Codes.{set_code}
 use Rattle.ason_base.specs.Labels as labels
 use Rattle.ason_base.specs.Network.{Network}
 use Rattle.ason_base.specs.declared.calls.CallState.TheVariants.{Blocked, Guarded}
 use Rattle.ason_base.specs.declared.calls.Cause.TheVariants.{Code, Unset}
-use Rattle.ason_base.specs.declared.calls.Phase.TheVariants.{Held, Live}
 use Rattle.mesh_rules.specs.declared.events.MeshEvent.{MeshEvent}
 use Rattle.mesh_rules.specs.Events.{after}
 use Rattle.mesh_rules.specs.Machine.{start}
-use Rattle.mesh_examples.proofs.Scene.{all_enabled, called, desk, fails_link, joins, learns, leg, over, repairs_link, reported, reverts, seen, Seen, sets_up, spec, takes, ticks}
+use Rattle.mesh_examples.proofs.Deactivating as deactivating
+use Rattle.mesh_examples.proofs.Scene.{all_enabled, called, desk, fails_link, learns, over, repairs_link, reported, reverts, seen, Seen, sets_up, takes, ticks}
 
 abbrev network : Network
-network = record {
-  wait = 2;
-  nodes = spec 1 false ∷ spec 2 false ∷ spec 3 false ∷ spec 4 false ∷ spec 5 true ∷ spec 6 true ∷ [];
-  links =
-      joins 1 1 3 1 [] ∷ joins 2 1 4 1 (1 ∷ []) ∷ joins 3 1 5 1 [] ∷ joins 4 1 6 1 [] ∷ joins 5 2 6 2 (1 ∷ 2
-      ∷ []) ∷ joins 6 3 6 1 (2 ∷ []) ∷ joins 7 4 5 3 [] ∷ [];
-}
+network = deactivating.network
 
 abbrev events : List MeshEvent
 events =
@@ -63,15 +56,7 @@ events =
     ∷ []
 
 abbrev as_reached : Seen
-as_reached = record {
-  legs =
-      (leg 1 1 Live None (Some 1) 0 1 1 ∷ leg 1 2 Held None (Some 1) 0 1 0 ∷ [])
-      ∷ []
-      ∷ (leg 1 1 Live (Some 1) (Some 1) 1 1 0 ∷ [])
-      ∷ []
-      ∷ []
-      ∷ (leg 1 1 Live (Some 1) None 1 0 0 ∷ leg 1 2 Live (Some 1) None 1 0 0 ∷ [])
-      ∷ [];
+as_reached = record deactivating.as_reached {
   calls =
       (reported 1 Guarded Unset 0 1 ∷ called 2 Blocked (Code set_code) ∷ [])
       ∷ []
@@ -82,7 +67,6 @@ as_reached = record {
       ∷ [];
   known = 7 ∷ 7 ∷ 7 ∷ 7 ∷ 7 ∷ 7 ∷ [];
   down = 1 ∷ 0 ∷ 0 ∷ 0 ∷ 0 ∷ 1 ∷ [];
-  mail = (0, 0) ∷ (0, 0) ∷ (0, 0) ∷ (1, 0) ∷ (0, 0) ∷ (0, 0) ∷ (0, 0) ∷ [];
 }
 
 enabled : all_enabled network start events ≡ true

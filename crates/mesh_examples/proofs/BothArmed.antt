@@ -1,10 +1,8 @@
 -- A run after which a Path that activates a backup has passed two nodes.
-use Rattle.std.proofs.Common.{◌≡◌, true, false, List, [], ◌∷◌, ◌++◌, refl}
+use Rattle.std.proofs.Common.{◌≡◌, true, List, [], ◌∷◌, ◌++◌, refl}
 use Rattle.std.specs.Prelude.{Some, None}
 use Rattle.ason_base.specs.Labels as labels
 use Rattle.ason_base.specs.Network.{Network}
-use Rattle.ason_base.specs.declared.calls.CallState.TheVariants.{Turning}
-use Rattle.ason_base.specs.declared.calls.Cause.TheVariants.{Unset}
 use Rattle.ason_base.specs.declared.calls.Phase.TheVariants.{Armed, Held, Live}
 use Rattle.ason_base.specs.declared.calls.Role.TheVariants.{Back}
 use Rattle.mesh_rules.specs.declared.events.MeshEvent.{MeshEvent}
@@ -12,40 +10,17 @@ use Rattle.mesh_rules.specs.Events.{after}
 use Rattle.mesh_rules.specs.Machine.{start}
 use Rattle.mesh_laws.specs.HopLaw.{HasShape}
 use Rattle.mesh_laws.specs.HopShapes as row
-use Rattle.mesh_examples.proofs.Scene.{all_enabled, desk, fails_link, joins, learns, leg, lsp, node, over, reported, seen, Seen, sets_up, spec, takes}
+use Rattle.mesh_examples.proofs.Activating as activating
+use Rattle.mesh_examples.proofs.Scene.{all_enabled, leg, lsp, node, seen, Seen, takes}
 
-abbrev network : Network
-network = record {
-  wait = 0;
-  nodes = spec 1 true ∷ spec 2 false ∷ spec 3 false ∷ spec 4 false ∷ spec 5 false ∷ spec 6 false ∷ [];
-  links =
-      joins 1 1 2 2 (2 ∷ []) ∷ joins 2 1 5 3 [] ∷ joins 3 1 6 1 (2 ∷ []) ∷ joins 4 2 5 1 [] ∷ joins 5 2 6 1 (1
-      ∷ []) ∷ joins 6 3 6 2 (2 ∷ []) ∷ joins 7 5 6 1 [] ∷ [];
-}
+abbrev pub network : Network
+network = activating.network
 
-abbrev events : List MeshEvent
-events =
-    learns 1 (5 ∷ [])
-    ++ learns 2 (3 ∷ [])
-    ++ learns 5 (3 ∷ 5 ∷ [])
-    ++ sets_up 1 1 2 (over 1 3 ∷ over 6 5 ∷ []) (over 1 2 ∷ over 5 4 ∷ [])
-    ∷ desk 1
-    ∷ takes 6 1
-    ∷ takes 2 6
-    ∷ takes 6 2
-    ∷ takes 1 6
-    ∷ takes 5 1
-    ∷ takes 2 5
-    ∷ takes 5 2
-    ∷ fails_link 3
-    ∷ desk 6
-    ∷ takes 1 6
-    ∷ takes 1 5
-    ∷ takes 5 1
-    ∷ []
+abbrev pub events : List MeshEvent
+events = activating.events ++ takes 5 1 ∷ []
 
-abbrev as_reached : Seen
-as_reached = record {
+abbrev pub as_reached : Seen
+as_reached = record activating.as_reached {
   legs =
       (leg 1 1 Live None (Some 1) 0 1 1 ∷ leg 1 2 Armed None (Some 1) 0 3 1 ∷ [])
       ∷ (leg 1 1 Live (Some 1) None 1 0 0 ∷ leg 1 2 Held (Some 1) None 1 0 0 ∷ [])
@@ -54,16 +29,6 @@ as_reached = record {
       ∷ (leg 1 2 Armed (Some 1) (Some 1) 3 3 0 ∷ [])
       ∷ (leg 1 1 Live (Some 1) (Some 1) 1 1 0 ∷ [])
       ∷ [];
-  calls =
-      (reported 1 Turning Unset 1 0 ∷ [])
-      ∷ []
-      ∷ []
-      ∷ []
-      ∷ []
-      ∷ []
-      ∷ [];
-  known = 4 ∷ 4 ∷ 1 ∷ 0 ∷ 5 ∷ 4 ∷ [];
-  down = 0 ∷ 0 ∷ 0 ∷ 0 ∷ 0 ∷ 1 ∷ [];
   mail = (0, 0) ∷ (0, 0) ∷ (0, 0) ∷ (0, 1) ∷ (0, 0) ∷ (0, 0) ∷ (0, 0) ∷ [];
 }
 

@@ -14,7 +14,7 @@ use Rattle.mesh_laws.specs.HopLaw.{HasShape}
 use Rattle.mesh_laws.specs.HopShapes as row
 use Rattle.mesh_examples.proofs.Scene.{all_enabled, desk, fails_link, joins, learns, leg, lsp, node, over, repairs_link, reported, Seen, seen, sets_up, spec, takes}
 
-abbrev network : Network
+abbrev pub network : Network
 network = record {
   wait = 2;
   nodes = spec 1 false ∷ spec 2 false ∷ spec 3 false ∷ spec 4 false ∷ spec 5 true ∷ spec 6 true ∷ [];
@@ -23,7 +23,7 @@ network = record {
       ∷ []) ∷ joins 6 3 6 1 (2 ∷ []) ∷ joins 7 4 5 3 [] ∷ [];
 }
 
-abbrev events : List MeshEvent
+abbrev pub events : List MeshEvent
 events =
     learns 1 (6 ∷ [])
     ++ learns 6 (1 ∷ [])
@@ -48,7 +48,7 @@ events =
     ∷ takes 1 6
     ∷ []
 
-abbrev as_reached : Seen
+abbrev pub as_reached : Seen
 as_reached = record {
   legs =
       (leg 1 1 Live None (Some 1) 0 1 1 ∷ leg 1 2 Held None (Some 1) 0 1 0 ∷ [])

@@ -1,5 +1,5 @@
 -- A run after which the Path of a backup has gone on.
-use Rattle.std.proofs.Common.{◌≡◌, true, false, List, [], ◌∷◌, ◌++◌, refl}
+use Rattle.std.proofs.Common.{◌≡◌, true, List, [], ◌∷◌, ◌++◌, refl}
 use Rattle.std.specs.Prelude.{Some, None}
 use Rattle.ason_base.specs.Labels as labels
 use Rattle.ason_base.specs.Network.{Network}
@@ -12,15 +12,11 @@ use Rattle.mesh_rules.specs.Events.{after}
 use Rattle.mesh_rules.specs.Machine.{start}
 use Rattle.mesh_laws.specs.HopLaw.{HasShape}
 use Rattle.mesh_laws.specs.HopShapes as row
-use Rattle.mesh_examples.proofs.Scene.{all_enabled, called, desk, joins, learns, leg, lsp, node, over, Seen, seen, sets_up, spec, takes}
+use Rattle.mesh_examples.proofs.Answered as answered
+use Rattle.mesh_examples.proofs.Scene.{all_enabled, called, desk, learns, leg, lsp, node, over, Seen, seen, sets_up, takes}
 
 abbrev network : Network
-network = record {
-  wait = 2;
-  nodes = spec 1 true ∷ spec 2 true ∷ spec 3 false ∷ spec 4 true ∷ spec 5 false ∷ spec 6 false ∷ [];
-  links = joins 1 1 2 1 [] ∷ joins 2 1 3 3 (1 ∷ []) ∷ joins 3 1 5 2 (1 ∷ []) ∷ joins 4 2 3 2 [] ∷ joins 5 3 4 1 []
-      ∷ joins 6 3 5 2 [] ∷ joins 7 4 5 1 [] ∷ [];
-}
+network = answered.network
 
 abbrev events : List MeshEvent
 events =

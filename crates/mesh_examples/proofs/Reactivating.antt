@@ -14,7 +14,7 @@ use Rattle.mesh_laws.specs.HopLaw.{HasShape}
 use Rattle.mesh_laws.specs.HopShapes as row
 use Rattle.mesh_examples.proofs.Scene.{all_enabled, desk, fails_link, joins, learns, leg, lsp, node, over, repairs_link, reported, Seen, seen, sets_up, spec, takes, ticks}
 
-abbrev network : Network
+abbrev pub network : Network
 network = record {
   wait = 2;
   nodes = spec 1 true ∷ spec 2 false ∷ spec 3 false ∷ spec 4 true ∷ spec 5 false ∷ spec 6 true ∷ [];
@@ -24,7 +24,7 @@ network = record {
       ∷ joins 9 5 6 1 [] ∷ [];
 }
 
-abbrev events : List MeshEvent
+abbrev pub events : List MeshEvent
 events =
     learns 1 (6 ∷ [])
     ++ learns 3 (2 ∷ [])
@@ -64,7 +64,7 @@ events =
     ∷ takes 3 4
     ∷ []
 
-abbrev as_reached : Seen
+abbrev pub as_reached : Seen
 as_reached = record {
   legs =
       (leg 3 1 Live (Some 1) None 1 0 0 ∷ leg 3 2 Live (Some 1) None 1 0 0 ∷ [])

@@ -1,5 +1,5 @@
 -- A run after which a backup is refused over a fibre that is known to be down.
-use Rattle.std.proofs.Common.{◌≡◌, true, false, List, [], ◌∷◌, ◌++◌, refl}
+use Rattle.std.proofs.Common.{◌≡◌, true, List, [], ◌∷◌, ◌++◌, refl}
 use Rattle.std.specs.Prelude.{Some, None}
 use Rattle.ason_base.specs.Codes.{down_code}
 use Rattle.ason_base.specs.Labels as labels
@@ -10,16 +10,11 @@ use Rattle.ason_base.specs.declared.calls.Phase.TheVariants.{Closing, Held, Live
 use Rattle.mesh_rules.specs.declared.events.MeshEvent.{MeshEvent}
 use Rattle.mesh_rules.specs.Events.{after}
 use Rattle.mesh_rules.specs.Machine.{start}
-use Rattle.mesh_examples.proofs.Scene.{all_enabled, desk, fails_link, joins, learns, leg, over, protects, releases, reported, reverts, seen, Seen, sets_up, spec, takes, ticks}
+use Rattle.mesh_examples.proofs.SharedLabel as shared_label
+use Rattle.mesh_examples.proofs.Scene.{all_enabled, desk, fails_link, learns, leg, over, protects, releases, reported, reverts, seen, Seen, sets_up, takes, ticks}
 
 abbrev network : Network
-network = record {
-  wait = 2;
-  nodes = spec 1 false ∷ spec 2 false ∷ spec 3 false ∷ spec 4 false ∷ spec 5 true ∷ spec 6 false ∷ [];
-  links =
-      joins 1 1 2 1 (1 ∷ []) ∷ joins 2 3 4 1 (2 ∷ []) ∷ joins 3 1 5 2 [] ∷ joins 4 2 6 2 [] ∷ joins 5 5 6 1 []
-      ∷ joins 6 3 5 2 [] ∷ joins 7 4 6 2 [] ∷ [];
-}
+network = shared_label.network
 
 abbrev events : List MeshEvent
 events =

@@ -1,7 +1,7 @@
 -- Two calls whose backups meet on link 5, which has one label, and whose primaries have an SRLG in common. The first
 -- backup finds the label taken when the Resv comes, and its call is bare; it is to be protected again, and its Path is
 -- refused.
-use Rattle.std.proofs.Common.{◌≡◌, true, false, List, [], ◌∷◌, ◌++◌, refl}
+use Rattle.std.proofs.Common.{◌≡◌, true, List, [], ◌∷◌, ◌++◌, refl}
 use Rattle.std.specs.Prelude.{Some, None}
 use Rattle.ason_base.specs.Codes.{label_code, set_code}
 use Rattle.ason_base.specs.Labels as labels
@@ -13,15 +13,11 @@ use Rattle.ason_base.specs.declared.calls.Phase.TheVariants.{Held, Live}
 use Rattle.mesh_rules.specs.declared.events.MeshEvent.{MeshEvent}
 use Rattle.mesh_rules.specs.Events.{after}
 use Rattle.mesh_rules.specs.Machine.{start}
-use Rattle.mesh_examples.proofs.Scene.{all_enabled, called, desk, joins, learns, leg, over, protects, Seen, seen, sets_up, spec, takes}
+use Rattle.mesh_examples.proofs.TakenLabel as taken_label
+use Rattle.mesh_examples.proofs.Scene.{all_enabled, called, desk, learns, leg, over, protects, Seen, seen, sets_up, takes}
 
 abbrev network : Network
-network = record {
-  wait = 0;
-  nodes = spec 1 false ∷ spec 2 false ∷ spec 3 false ∷ spec 4 false ∷ spec 5 true ∷ spec 6 false ∷ [];
-  links = joins 1 1 2 1 (1 ∷ []) ∷ joins 2 3 4 1 (1 ∷ []) ∷ joins 3 1 5 2 [] ∷ joins 4 2 6 2 [] ∷ joins 5 5 6 1 []
-      ∷ joins 6 3 5 2 [] ∷ joins 7 4 6 2 [] ∷ [];
-}
+network = taken_label.network
 
 abbrev first_try : List MeshEvent
 first_try =

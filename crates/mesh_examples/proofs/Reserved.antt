@@ -14,7 +14,7 @@ use Rattle.mesh_laws.specs.HopLaw.{HasShape}
 use Rattle.mesh_laws.specs.HopShapes as row
 use Rattle.mesh_examples.proofs.Scene.{all_enabled, called, desk, joins, learns, leg, lsp, node, over, Seen, seen, sets_up, spec, takes}
 
-abbrev network : Network
+abbrev pub network : Network
 network = record {
   wait = 2;
   nodes = spec 1 false ∷ spec 2 true ∷ spec 3 false ∷ spec 4 true ∷ spec 5 false ∷ spec 6 false ∷ [];
@@ -22,7 +22,7 @@ network = record {
       ∷ []) ∷ joins 5 3 6 1 [] ∷ joins 6 4 6 1 [] ∷ joins 7 5 6 1 [] ∷ [];
 }
 
-abbrev events : List MeshEvent
+abbrev pub events : List MeshEvent
 events =
     learns 3 (6 ∷ [])
     ++ learns 6 (3 ∷ [])
@@ -35,7 +35,7 @@ events =
     ∷ takes 3 6
     ∷ []
 
-abbrev as_reached : Seen
+abbrev pub as_reached : Seen
 as_reached = record {
   legs =
       []

@@ -48,7 +48,7 @@ events =
     ∷ takes 3 5
     ∷ []
 
-abbrev as_reached : Seen
+abbrev pub as_reached : Seen
 as_reached = record {
   legs =
       (leg 1 1 Live None (Some 1) 0 1 0 ∷ leg 1 2 Held None (Some 1) 0 2 2 ∷ [])

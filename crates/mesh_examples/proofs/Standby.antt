@@ -1,5 +1,5 @@
 -- A run after which a backup is reserved, and its call is guarded.
-use Rattle.std.proofs.Common.{◌≡◌, true, false, List, [], ◌∷◌, ◌++◌, refl}
+use Rattle.std.proofs.Common.{◌≡◌, true, List, [], ◌∷◌, ◌++◌, refl}
 use Rattle.std.specs.Prelude.{Some, None}
 use Rattle.ason_base.specs.Labels as labels
 use Rattle.ason_base.specs.Network.{Network}
@@ -12,32 +12,17 @@ use Rattle.mesh_rules.specs.Events.{after}
 use Rattle.mesh_rules.specs.Machine.{start}
 use Rattle.mesh_laws.specs.HopLaw.{HasShape}
 use Rattle.mesh_laws.specs.HopShapes as row
-use Rattle.mesh_examples.proofs.Scene.{all_enabled, called, desk, joins, learns, leg, lsp, node, over, Seen, seen, sets_up, spec, takes}
+use Rattle.mesh_examples.proofs.Reserved as reserved
+use Rattle.mesh_examples.proofs.Scene.{all_enabled, called, leg, lsp, node, Seen, seen, takes}
 
 abbrev network : Network
-network = record {
-  wait = 2;
-  nodes = spec 1 false ∷ spec 2 true ∷ spec 3 false ∷ spec 4 true ∷ spec 5 false ∷ spec 6 false ∷ [];
-  links = joins 1 1 4 1 (1 ∷ []) ∷ joins 2 1 6 3 (1 ∷ 2 ∷ []) ∷ joins 3 3 4 2 (1 ∷ 2 ∷ []) ∷ joins 4 3 5 1 (1 ∷ 2
-      ∷ []) ∷ joins 5 3 6 1 [] ∷ joins 6 4 6 1 [] ∷ joins 7 5 6 1 [] ∷ [];
-}
+network = reserved.network
 
 abbrev events : List MeshEvent
-events =
-    learns 3 (6 ∷ [])
-    ++ learns 6 (3 ∷ [])
-    ++ sets_up 1 6 3 (over 6 6 ∷ over 4 3 ∷ []) (over 6 5 ∷ [])
-    ∷ desk 6
-    ∷ takes 4 6
-    ∷ takes 3 4
-    ∷ takes 4 3
-    ∷ takes 6 4
-    ∷ takes 3 6
-    ∷ takes 6 3
-    ∷ []
+events = reserved.events ++ takes 6 3 ∷ []
 
 abbrev as_reached : Seen
-as_reached = record {
+as_reached = record reserved.as_reached {
   legs =
       []
       ∷ []
@@ -54,8 +39,6 @@ as_reached = record {
       ∷ []
       ∷ (called 1 Guarded Unset ∷ [])
       ∷ [];
-  known = 2 ∷ 0 ∷ 4 ∷ 3 ∷ 2 ∷ 5 ∷ [];
-  down = 0 ∷ 0 ∷ 0 ∷ 0 ∷ 0 ∷ 0 ∷ [];
   mail = (0, 0) ∷ (0, 0) ∷ (0, 0) ∷ (0, 0) ∷ (0, 0) ∷ (0, 0) ∷ (0, 0) ∷ [];
 }
 

@@ -13,7 +13,7 @@ use Rattle.mesh_rules.specs.Events.{after}
 use Rattle.mesh_rules.specs.Machine.{start}
 use Rattle.mesh_examples.proofs.Scene.{all_enabled, called, desk, joins, learns, leg, over, Seen, seen, sets_up, spec, takes}
 
-abbrev network : Network
+abbrev pub network : Network
 network = record {
   wait = 0;
   nodes = spec 1 false ∷ spec 2 false ∷ spec 3 false ∷ spec 4 false ∷ spec 5 true ∷ spec 6 false ∷ [];
@@ -21,7 +21,7 @@ network = record {
       ∷ joins 6 3 5 2 [] ∷ joins 7 4 6 2 [] ∷ [];
 }
 
-abbrev events : List MeshEvent
+abbrev pub events : List MeshEvent
 events =
     learns 5 (1 ∷ [])
     ++ learns 6 (1 ∷ [])
@@ -51,7 +51,7 @@ events =
     ∷ takes 3 5
     ∷ []
 
-abbrev as_reached : Seen
+abbrev pub as_reached : Seen
 as_reached = record {
   legs =
       (leg 1 1 Live None (Some 1) 0 1 0 ∷ leg 1 2 Held None (Some 1) 0 2 2 ∷ [])

@@ -12,7 +12,7 @@ use Rattle.mesh_laws.specs.HopLaw.{HasShape}
 use Rattle.mesh_laws.specs.HopShapes as row
 use Rattle.mesh_examples.proofs.Scene.{all_enabled, desk, fails_link, joins, learns, leg, lsp, node, over, releases, seen, Seen, sets_up, spec, takes}
 
-abbrev network : Network
+abbrev pub network : Network
 network = record {
   wait = 0;
   nodes = spec 1 false ∷ spec 2 false ∷ spec 3 false ∷ spec 4 false ∷ spec 5 true ∷ spec 6 true ∷ [];
@@ -22,7 +22,7 @@ network = record {
       ∷ joins 9 5 6 1 [] ∷ [];
 }
 
-abbrev events : List MeshEvent
+abbrev pub events : List MeshEvent
 events =
     learns 2 (8 ∷ [])
     ++ learns 4 (8 ∷ [])
@@ -43,7 +43,7 @@ events =
     ∷ desk 3
     ∷ []
 
-abbrev as_reached : Seen
+abbrev pub as_reached : Seen
 as_reached = record {
   legs =
       []

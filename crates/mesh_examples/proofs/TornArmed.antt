@@ -1,5 +1,5 @@
 -- A run after which a backup is torn behind the Path that activates it.
-use Rattle.std.proofs.Common.{◌≡◌, true, false, List, [], ◌∷◌, ◌++◌, refl}
+use Rattle.std.proofs.Common.{◌≡◌, true, List, [], ◌∷◌, ◌++◌, refl}
 use Rattle.std.specs.Prelude.{Some, None}
 use Rattle.ason_base.specs.Labels as labels
 use Rattle.ason_base.specs.Network.{Network}
@@ -10,42 +10,17 @@ use Rattle.mesh_rules.specs.Events.{after}
 use Rattle.mesh_rules.specs.Machine.{start}
 use Rattle.mesh_laws.specs.HopLaw.{HasShape}
 use Rattle.mesh_laws.specs.HopShapes as row
-use Rattle.mesh_examples.proofs.Scene.{all_enabled, desk, fails_link, joins, learns, leg, lsp, node, over, releases, seen, Seen, sets_up, spec, takes}
+use Rattle.mesh_examples.proofs.TornActivating as torn_activating
+use Rattle.mesh_examples.proofs.Scene.{all_enabled, leg, lsp, node, seen, Seen, takes}
 
 abbrev network : Network
-network = record {
-  wait = 0;
-  nodes = spec 1 false ∷ spec 2 false ∷ spec 3 false ∷ spec 4 false ∷ spec 5 true ∷ spec 6 true ∷ [];
-  links =
-      joins 1 1 3 1 (1 ∷ 2 ∷ []) ∷ joins 2 1 4 2 (1 ∷ []) ∷ joins 3 1 5 3 (1 ∷ []) ∷ joins 4 1 6 1 []
-      ∷ joins 5 2 4 2 (2 ∷ []) ∷ joins 6 2 5 2 (1 ∷ []) ∷ joins 7 3 4 1 (2 ∷ []) ∷ joins 8 3 5 2 []
-      ∷ joins 9 5 6 1 [] ∷ [];
-}
+network = torn_activating.network
 
 abbrev events : List MeshEvent
-events =
-    learns 2 (8 ∷ [])
-    ++ learns 4 (8 ∷ [])
-    ++ sets_up 1 3 5 (over 3 8 ∷ []) (over 3 7 ∷ over 4 5 ∷ over 2 6 ∷ [])
-    ∷ desk 3
-    ∷ takes 5 3
-    ∷ takes 3 5
-    ∷ releases 1 3
-    ∷ takes 4 3
-    ∷ fails_link 8
-    ∷ takes 2 4
-    ∷ takes 5 2
-    ∷ takes 2 5
-    ∷ desk 5
-    ∷ takes 3 5
-    ∷ takes 4 2
-    ∷ takes 3 4
-    ∷ desk 3
-    ∷ takes 4 3
-    ∷ []
+events = torn_activating.events ++ takes 4 3 ∷ []
 
 abbrev as_reached : Seen
-as_reached = record {
+as_reached = record torn_activating.as_reached {
   legs =
       []
       ∷ (leg 3 2 Held (Some 1) (Some 1) 1 1 0 ∷ [])
@@ -54,16 +29,6 @@ as_reached = record {
       ∷ (leg 3 1 Live (Some 1) None 2 0 0 ∷ leg 3 2 Held (Some 1) None 1 0 0 ∷ [])
       ∷ []
       ∷ [];
-  calls =
-      []
-      ∷ []
-      ∷ []
-      ∷ []
-      ∷ []
-      ∷ []
-      ∷ [];
-  known = 4 ∷ 3 ∷ 3 ∷ 4 ∷ 4 ∷ 2 ∷ [];
-  down = 0 ∷ 0 ∷ 0 ∷ 0 ∷ 1 ∷ 0 ∷ [];
   mail = (0, 0) ∷ (0, 0) ∷ (0, 0) ∷ (0, 0) ∷ (0, 1) ∷ (0, 0) ∷ (1, 0) ∷ (1, 0) ∷ (0, 0) ∷ [];
 }
 

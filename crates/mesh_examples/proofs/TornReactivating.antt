@@ -1,5 +1,5 @@
 -- A run after which a backup is torn that is activated again.
-use Rattle.std.proofs.Common.{◌≡◌, true, false, List, [], ◌∷◌, ◌++◌, refl}
+use Rattle.std.proofs.Common.{◌≡◌, true, List, [], ◌∷◌, ◌++◌, refl}
 use Rattle.std.specs.Prelude.{Some, None}
 use Rattle.ason_base.specs.Labels as labels
 use Rattle.ason_base.specs.Network.{Network}
@@ -10,62 +10,17 @@ use Rattle.mesh_rules.specs.Events.{after}
 use Rattle.mesh_rules.specs.Machine.{start}
 use Rattle.mesh_laws.specs.HopLaw.{HasShape}
 use Rattle.mesh_laws.specs.HopShapes as row
-use Rattle.mesh_examples.proofs.Scene.{all_enabled, desk, fails_link, joins, learns, leg, lsp, node, over, releases, repairs_link, Seen, seen, sets_up, spec, takes, ticks}
+use Rattle.mesh_examples.proofs.Reactivating as reactivating
+use Rattle.mesh_examples.proofs.Scene.{all_enabled, desk, leg, lsp, node, releases, Seen, seen}
 
 abbrev network : Network
-network = record {
-  wait = 2;
-  nodes = spec 1 true ∷ spec 2 false ∷ spec 3 false ∷ spec 4 true ∷ spec 5 false ∷ spec 6 true ∷ [];
-  links =
-      joins 1 1 3 3 [] ∷ joins 2 1 4 1 (2 ∷ []) ∷ joins 3 1 6 1 [] ∷ joins 4 2 3 3 (1 ∷ 2 ∷ [])
-      ∷ joins 5 2 5 1 (2 ∷ []) ∷ joins 6 3 4 3 (2 ∷ []) ∷ joins 7 3 5 2 (1 ∷ []) ∷ joins 8 4 6 2 (1 ∷ [])
-      ∷ joins 9 5 6 1 [] ∷ [];
-}
+network = reactivating.network
 
 abbrev events : List MeshEvent
-events =
-    learns 1 (6 ∷ [])
-    ++ learns 3 (2 ∷ [])
-    ++ learns 5 (2 ∷ 6 ∷ [])
-    ++ learns 6 (2 ∷ 6 ∷ [])
-    ++ sets_up 1 3 1 (over 3 6 ∷ over 4 2 ∷ []) (over 3 7 ∷ over 5 9 ∷ over 6 3 ∷ [])
-    ∷ desk 3
-    ∷ takes 4 3
-    ∷ takes 1 4
-    ∷ fails_link 2
-    ∷ desk 1
-    ∷ takes 4 1
-    ∷ takes 4 1
-    ∷ takes 3 4
-    ∷ takes 5 3
-    ∷ repairs_link 2
-    ∷ takes 3 4
-    ∷ takes 6 5
-    ∷ takes 1 6
-    ∷ takes 6 1
-    ∷ desk 1
-    ∷ takes 5 6
-    ∷ takes 3 5
-    ∷ takes 5 3
-    ∷ takes 6 5
-    ∷ takes 1 6
-    ∷ takes 4 1
-    ∷ takes 3 4
-    ∷ takes 6 1
-    ∷ takes 5 6
-    ∷ takes 3 5
-    ∷ fails_link 2
-    ∷ ticks 3
-    ∷ desk 1
-    ∷ takes 4 1
-    ∷ ticks 3
-    ∷ takes 3 4
-    ∷ releases 1 3
-    ∷ desk 3
-    ∷ []
+events = reactivating.events ++ releases 1 3 ∷ desk 3 ∷ []
 
 abbrev as_reached : Seen
-as_reached = record {
+as_reached = record reactivating.as_reached {
   legs =
       (leg 3 1 Live (Some 1) None 1 0 0 ∷ leg 3 2 Live (Some 1) None 1 0 0 ∷ [])
       ∷ []
@@ -82,8 +37,6 @@ as_reached = record {
       ∷ []
       ∷ []
       ∷ [];
-  known = 4 ∷ 2 ∷ 5 ∷ 3 ∷ 5 ∷ 5 ∷ [];
-  down = 1 ∷ 0 ∷ 0 ∷ 0 ∷ 0 ∷ 0 ∷ [];
   mail = (0, 0) ∷ (0, 0) ∷ (0, 0) ∷ (0, 0) ∷ (0, 0) ∷ (1, 0) ∷ (3, 0) ∷ (0, 0) ∷ (0, 0) ∷ [];
 }
 

@@ -1,24 +1,15 @@
 -- A run after which a call turns as soon as its backup is reserved: its working route is hit.
-use Rattle.std.proofs.Common.{◌≡◌, true, false, List, [], ◌∷◌, ◌++◌, refl}
-use Rattle.std.specs.Prelude.{Some, None}
+use Rattle.std.proofs.Common.{◌≡◌, true, List, [], ◌∷◌, ◌++◌, refl}
 use Rattle.ason_base.specs.Labels as labels
 use Rattle.ason_base.specs.Network.{Network}
-use Rattle.ason_base.specs.declared.calls.CallState.TheVariants.{Turning}
-use Rattle.ason_base.specs.declared.calls.Cause.TheVariants.{Unset}
-use Rattle.ason_base.specs.declared.calls.Phase.TheVariants.{Armed, Held, Live}
 use Rattle.mesh_rules.specs.declared.events.MeshEvent.{MeshEvent}
 use Rattle.mesh_rules.specs.Events.{after}
 use Rattle.mesh_rules.specs.Machine.{start}
-use Rattle.mesh_examples.proofs.Scene.{all_enabled, desk, fails_link, joins, learns, leg, over, reported, seen, Seen, sets_up, spec, takes}
+use Rattle.mesh_examples.proofs.Activating as activating
+use Rattle.mesh_examples.proofs.Scene.{all_enabled, desk, fails_link, learns, over, seen, Seen, sets_up, takes}
 
 abbrev network : Network
-network = record {
-  wait = 0;
-  nodes = spec 1 true ∷ spec 2 false ∷ spec 3 false ∷ spec 4 false ∷ spec 5 false ∷ spec 6 false ∷ [];
-  links =
-      joins 1 1 2 2 (2 ∷ []) ∷ joins 2 1 5 3 [] ∷ joins 3 1 6 1 (2 ∷ []) ∷ joins 4 2 5 1 [] ∷ joins 5 2 6 1 (1
-      ∷ []) ∷ joins 6 3 6 2 (2 ∷ []) ∷ joins 7 5 6 1 [] ∷ [];
-}
+network = activating.network
 
 abbrev events : List MeshEvent
 events =
@@ -44,26 +35,8 @@ events =
     ∷ []
 
 abbrev as_reached : Seen
-as_reached = record {
-  legs =
-      (leg 1 1 Live None (Some 1) 0 1 1 ∷ leg 1 2 Armed None (Some 1) 0 3 1 ∷ [])
-      ∷ (leg 1 1 Live (Some 1) None 1 0 0 ∷ leg 1 2 Held (Some 1) None 1 0 0 ∷ [])
-      ∷ []
-      ∷ []
-      ∷ (leg 1 2 Held (Some 1) (Some 1) 3 3 0 ∷ [])
-      ∷ (leg 1 1 Live (Some 1) (Some 1) 1 1 0 ∷ [])
-      ∷ [];
-  calls =
-      (reported 1 Turning Unset 1 0 ∷ [])
-      ∷ []
-      ∷ []
-      ∷ []
-      ∷ []
-      ∷ []
-      ∷ [];
+as_reached = record activating.as_reached {
   known = 7 ∷ 7 ∷ 7 ∷ 0 ∷ 7 ∷ 7 ∷ [];
-  down = 0 ∷ 0 ∷ 0 ∷ 0 ∷ 0 ∷ 1 ∷ [];
-  mail = (0, 0) ∷ (1, 0) ∷ (0, 0) ∷ (0, 0) ∷ (0, 0) ∷ (0, 0) ∷ (0, 0) ∷ [];
 }
 
 enabled : all_enabled network start events ≡ true

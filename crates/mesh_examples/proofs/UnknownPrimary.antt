@@ -1,6 +1,6 @@
 -- Node 6 doesn't know a link of a backup's primary, so it refuses the Path, and the call is bare. An order to protect a
 -- call whose backup is asked for changes nothing.
-use Rattle.std.proofs.Common.{◌≡◌, true, false, List, [], ◌∷◌, ◌++◌, refl}
+use Rattle.std.proofs.Common.{◌≡◌, true, List, [], ◌∷◌, ◌++◌, refl}
 use Rattle.std.specs.Prelude.{Some, None}
 use Rattle.ason_base.specs.Codes.{primary_code}
 use Rattle.ason_base.specs.Labels as labels
@@ -11,15 +11,11 @@ use Rattle.ason_base.specs.declared.calls.Phase.TheVariants.{Held, Live}
 use Rattle.mesh_rules.specs.declared.events.MeshEvent.{MeshEvent}
 use Rattle.mesh_rules.specs.Events.{after}
 use Rattle.mesh_rules.specs.Machine.{start}
-use Rattle.mesh_examples.proofs.Scene.{all_enabled, called, desk, joins, learns, leg, over, protects, Seen, seen, sets_up, spec, takes}
+use Rattle.mesh_examples.proofs.SharedLabel as shared_label
+use Rattle.mesh_examples.proofs.Scene.{all_enabled, called, desk, learns, leg, over, protects, Seen, seen, sets_up, takes}
 
 abbrev network : Network
-network = record {
-  wait = 2;
-  nodes = spec 1 false ∷ spec 2 false ∷ spec 3 false ∷ spec 4 false ∷ spec 5 true ∷ spec 6 false ∷ [];
-  links = joins 1 1 2 1 (1 ∷ []) ∷ joins 2 3 4 1 (2 ∷ []) ∷ joins 3 1 5 2 [] ∷ joins 4 2 6 2 [] ∷ joins 5 5 6 1 []
-      ∷ joins 6 3 5 2 [] ∷ joins 7 4 6 2 [] ∷ [];
-}
+network = shared_label.network
 
 abbrev events : List MeshEvent
 events =
@@ -49,7 +45,7 @@ events =
     ∷ []
 
 abbrev as_reached : Seen
-as_reached = record {
+as_reached = record shared_label.as_reached {
   legs =
       (leg 1 1 Live None (Some 1) 0 1 0 ∷ leg 1 2 Held None (Some 1) 0 2 2 ∷ [])
       ∷ (leg 1 1 Live (Some 1) None 1 0 0 ∷ leg 1 2 Held (Some 1) None 1 0 0 ∷ [])
@@ -67,8 +63,6 @@ as_reached = record {
       ∷ []
       ∷ [];
   known = 2 ∷ 2 ∷ 2 ∷ 2 ∷ 5 ∷ 4 ∷ [];
-  down = 0 ∷ 0 ∷ 0 ∷ 0 ∷ 0 ∷ 0 ∷ [];
-  mail = (0, 0) ∷ (0, 0) ∷ (0, 0) ∷ (0, 0) ∷ (0, 0) ∷ (0, 0) ∷ (0, 0) ∷ [];
 }
 
 enabled : all_enabled network start events ≡ true
