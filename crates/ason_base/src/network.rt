@@ -1,6 +1,6 @@
 //! The network: its nodes, its links, and which nodes they join.
 
-ghost use Rattle.std.specs.Prelude.{◌≡◌, ◌<◌, IfErr, IfNone, IfOk, IfSome, length, false};
+ghost use Rattle.std.specs.Prelude.{◌≡◌, ◌<◌, IfErr, IfNone, IfOk, IfSome, length, false, map};
 ghost use Rattle.std.specs.List.{list_any};
 ghost use Rattle.std.specs.Option.{option_copied};
 ghost use Rattle.ason_base.specs.Network.{AreLinks, AreNodes, FaultOf, IsTopology, are_ends, find_link, find_node, is_after, is_channel, is_distinct, is_link, is_link_at, is_node_at, is_node_id, joins, receiver_of, row_of, sender_of};
@@ -78,6 +78,18 @@ impl TeRow {
             srlgs,
         })
     }
+}
+
+/// The rows of these links.
+pub fn rows_of(alloc: Global, links: &[LinkSpec]) -> Result<Vec<TeRow>, OutOfMemory>
+    ensures { IfOk result (λ rows. rows.items ≡ map row_of links.now) }
+{
+    let mut rows = Vec::with_capacity(alloc, links.len())?;
+    for link in links {
+        let row = TeRow::of(alloc, link)?;
+        rows.push(row)?;
+    }
+    Ok(rows)
 }
 
 impl Copied for TeRow {

@@ -1,9 +1,9 @@
 //! The tables of one node: its links, what it knows of others', and its legs.
 
-ghost use Rattle.std.specs.Prelude.{◌≡◌, ◌≤◌, ◌<◌, ◌-◌, [], IfErr, IfOk, IsSome, IsTrue, None, OnErr, OnOk, Some, filter, length, map, slice_get, take};
+ghost use Rattle.std.specs.Prelude.{◌≡◌, ◌≤◌, ◌<◌, ◌-◌, [], IfErr, IfOk, IsSome, IsTrue, None, OnErr, OnOk, Some, filter, length, slice_get, take};
 ghost use Rattle.std.specs.Option.{option_copied};
 ghost use Rattle.ason_base.specs.Lsps.{has_fibre, without_fibre};
-ghost use Rattle.ason_base.specs.Network.{find_node, row_of, touches};
+ghost use Rattle.ason_base.specs.Network.{find_node, touches};
 ghost use Rattle.mesh_rules.specs.Changes.{down_after};
 ghost use Rattle.mesh_rules.specs.KnownRows.{has_row};
 ghost use Rattle.mesh_rules.specs.Legs.{find_leg, with_leg, with_phase, without_leg};
@@ -12,6 +12,7 @@ ghost use Rattle.leg_table.specs.Tables.{LegsRise, PutRefused, find_own, learnt,
 
 use crate::boxes::BoxedLeg;
 use crate::legs;
+use ason_base::network::rows_of;
 use ason_base::routes::touches;
 use ason_base::{
     Copied, Fibre, Fibres, Label, Leg, LinkId, LinkSpec, Lsp, NodeId, NodeSpec, OutOfMemory, Phase,
@@ -305,15 +306,4 @@ fn copy_own(alloc: Global, links: &[LinkSpec], n: NodeId) -> Result<Vec<LinkSpec
         }
     }
     Ok(own)
-}
-
-fn rows_of(alloc: Global, links: &[LinkSpec]) -> Result<Vec<TeRow>, OutOfMemory>
-    ensures { IfOk result (λ v. v.items ≡ map row_of links.now) }
-{
-    let mut rows = Vec::with_capacity(alloc, links.len())?;
-    for link in links {
-        let row = TeRow::of(alloc, link)?;
-        rows.push(row)?;
-    }
-    Ok(rows)
 }
