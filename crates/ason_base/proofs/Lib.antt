@@ -1,4 +1,8 @@
 pub mod Bridges
+pub mod Inserted
+pub mod KeyOrder
+pub mod KeyedLists
+pub mod LspOrder
 pub mod MaskMembers
 pub mod MaskCounts
 pub mod LeastMarks

@@ -8,6 +8,8 @@ use Rattle.std.proofs.lemmas.List.Elements.{All-from_recursion, All-weaker, Cont
 use Rattle.std.proofs.lemmas.List.Kept.{AllPairs-cons, Contains-dedup, Contains-from_dedup, IsStrictlySortedBy-dedup}
 use Rattle.std.proofs.lemmas.List.Sorted.{Contains-permutation, IsPermutation-sym}
 use Rattle.ason_base.specs.Risks.{is_below, same_risk, has_risk, have_common, AreDisjoint, AreRising}
+use Rattle.ason_base.specs.InOrder.{IsKeyOrder}
+use Rattle.ason_base.proofs.KeyOrder.{is_order}
 use Rattle.ason_base.proofs.Ordered.{IsOrder, any-there, there-any}
 use Rattle.ason_base.specs.declared.risks.Risk.{Risk}
 use Rattle.ason_base.specs.declared.risks.Risk.TheVariants.{Srlg, Link}
@@ -138,26 +140,40 @@ ordered_same xs ys r moved = (
   (λ h. Contains-dedup laws-law same-eq ys r (Contains-permutation xs ys r moved h)),
 )
 
-below-total : (a b : Risk) → is_below a b ≡ false → is_below b a ≡ false → a ≡ b
-below-total (Srlg a) (Srlg b) h k = let e : a ≡ b = grind arith in ap Srlg e
-below-total (Srlg a) (Link b) h k = cc
-below-total (Link a) (Srlg b) h k = cc
-below-total (Link a) (Link b) h k = let e : a.0 ≡ b.0 = grind arith in λ i. Link (record { 0 = e i })
-
-pub risk_order : IsOrder is_below
-risk_order = record { irreflexive = not-below-itself; transitive = below-trans; total = below-total }
-
 -- One risk, and common ones
 
-same_risk-eq : (a b : Risk) → same_risk a b ≡ true → a ≡ b
+pub same_risk-eq : (a b : Risk) → same_risk a b ≡ true → a ≡ b
 same_risk-eq (Srlg a) (Srlg b) h = let e : a ≡ b = grind arith in ap Srlg e
 same_risk-eq (Srlg a) (Link b) h = cc
 same_risk-eq (Link a) (Srlg b) h = cc
 same_risk-eq (Link a) (Link b) h = let e : a.0 ≡ b.0 = grind arith in λ i. Link (record { 0 = e i })
 
-same_risk-refl : (a : Risk) → same_risk a a ≡ true
+pub same_risk-refl : (a : Risk) → same_risk a a ≡ true
 same_risk-refl (Srlg a) = grind arith
 same_risk-refl (Link a) = grind arith
+
+never-below : (a : Risk) → is_below a a ≡ false
+never-below (Srlg a) = grind arith
+never-below (Link a) = grind arith
+
+below-total : (a b : Risk) → same_risk b a ≡ false → is_below a b ≡ false → is_below b a ≡ true
+below-total (Srlg a) (Srlg b) e f = grind arith
+below-total (Srlg a) (Link b) e f = absurd (cc f)
+below-total (Link a) (Srlg b) e f = refl
+below-total (Link a) (Link b) e f = grind arith
+
+-- SRLGs before links, each by number
+pub risk_key_order : IsKeyOrder same_risk is_below
+risk_key_order = record {
+  itself = same_risk-refl;
+  one = same_risk-eq;
+  never = never-below;
+  through = below-trans;
+  total = below-total;
+}
+
+pub risk_order : IsOrder is_below
+risk_order = is_order risk_key_order
 
 pub has_risk-contains : (risks : List Risk) (r : Risk) → has_risk risks r ≡ true → Contains risks r
 has_risk-contains risks r h =

@@ -1,7 +1,7 @@
 -- Risks in their order, SRLGs before links, each by number; the risks of links and of routes.
 use Rattle.std.specs.Prelude.{◌≡◌, ◌==◌, Bool, true, false, not, nat_lt, IsTrue, List, [], ◌∷◌, ◌++◌, map, filter, Option}
 use Rattle.std.specs.List.{AllPairs, Contains, find, flat_map, list_any}
-use Rattle.ason_base.specs.InOrder.{in_order}
+use Rattle.ason_base.specs.InOrder.{RisesBy, in_order}
 use Rattle.ason_base.specs.declared.ids.LinkId.{LinkId}
 use Rattle.ason_base.specs.declared.network.TeRow.{TeRow}
 use Rattle.ason_base.specs.declared.risks.Risk.{Risk}
@@ -16,7 +16,7 @@ is_below (Link a) (Link b) = nat_lt a.0 b.0
 
 -- each risk is below all later ones
 abbrev pub AreRising : List Risk → Type 0
-AreRising risks = AllPairs (λ x y. IsTrue (is_below x y)) risks
+AreRising risks = RisesBy is_below risks
 
 -- no risk is in both lists
 abbrev pub AreDisjoint : List Risk → List Risk → Type 0

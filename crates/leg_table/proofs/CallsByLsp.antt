@@ -13,7 +13,7 @@ use Rattle.leg_table.specs.declared.lsp_index.LspOfCall.{LspOfCall}
 use Rattle.leg_table.specs.CallLists.{lesser}
 use Rattle.leg_table.specs.LspIndexes.{IsFirstCall, IsIndexOf, has_entry, has_lsp, is_entry, is_same}
 use Rattle.leg_table.specs.Tables.{number_of}
-use Rattle.leg_table.proofs.LspOrder.{entry-eq, same-refl}
+use Rattle.leg_table.proofs.LspOrder.{entry-eq, option_order}
 
 -- no call passes, or this is the least number of those that do
 abbrev pub IsLeast : (CallRec → Bool) → List CallRec → Option CallNo → Type 0
@@ -65,7 +65,7 @@ least-first of l calls es None rise index none =
     (λ h. any-of (is_entry (record { lsp = Some l; call = k })) _ es (entered of l calls es k d index found h) none
     (λ x here apart.
     let is = entry-eq (record { lsp = Some l; call = k }) x here in
-    cc (subst (λ y. is_same y.lsp (Some l) ≡ false) is apart, same-refl (Some l)))))
+    cc (subst (λ y. is_same y.lsp (Some l) ≡ false) is apart, option_order.itself (Some l)))))
 least-first of l calls es (Some n) rise index first = (
   has-found of (find_call n calls) l (sym (index.entries (record { lsp = Some l; call = n })) ∙ first.0),
   all-calls_found (λ d. is_lsp (of d) l ≡ true → n.0 ≤ d.call.0) calls rise
@@ -79,7 +79,7 @@ least-first of l calls es (Some n) rise index first = (
         (is_same x.lsp (Some l) ≡ true → n.0 ≤ x.call.0) → n.0 ≤ d.call.0
     reached k d x found is above =
         subst (λ m. n.0 ≤ m.0) (ap (λ y. y.call) is ∙ sym (found-number k calls d found))
-        (above (ap (λ y. is_same y.lsp (Some l)) is ∙ same-refl (Some l)))
+        (above (ap (λ y. is_same y.lsp (Some l)) is ∙ option_order.itself (Some l)))
 
 -- The least is the first
 

@@ -1,7 +1,7 @@
 -- What halving finds in a list in order, and what a change at that place makes of the list.
 use Rattle.std.proofs.Common.{◌≡◌, ◌≤◌, ◌<◌, ◌+◌, ℕ, suc, Bool, true, false, cond, not, nat_lt, List, [], ◌∷◌, length, get_or, set, refl, sym, ap, subst, ◌∙◌, arith, inl, inr}
 use Rattle.std.specs.Prelude.{◌⊎◌, Some, None, find, filter, position, slice_get}
-use Rattle.share_check.proofs.Inserted.{same_or_before}
+use Rattle.ason_base.proofs.Inserted.{same_or_before}
 use Rattle.leg_table.specs.Tables.{first_changed}
 use Rattle.std.specs.List.{position_or_len, remove}
 use Rattle.std.specs.List.Sorted.{IsPartitionPoint, IsPartitionedBy}
@@ -11,11 +11,11 @@ use Rattle.std.proofs.lemmas.List.Quantifiers.{position-Some}
 use Rattle.std.proofs.lemmas.List.Sums.{fails_before_first, passes_at_first, position_or_len_is}
 use Rattle.std.proofs.lemmas.Option.{slice_get_past}
 
-negated : (b : Bool) → not b ≡ true → b ≡ false
+pub negated : (b : Bool) → not b ≡ true → b ≡ false
 negated true h = absurd (cc h)
 negated false h = refl
 
-negated_false : (b : Bool) → not b ≡ false → b ≡ true
+pub negated_false : (b : Bool) → not b ≡ false → b ≡ true
 negated_false true h = refl
 negated_false false h = absurd (cc h)
 
@@ -211,3 +211,15 @@ pub passes-first : {X : Type 0} (from : X → Bool) (xs : List X) (n : ℕ) (d :
     n < length xs → from (get_or xs n d) ≡ true
 passes-first from xs n d place below = subst (λ m. from (get_or xs m d) ≡ true) (sym place)
     (passes_at_first from xs d (subst (λ m. m < length xs) place below))
+
+-- the one that was found is changed
+pub changed-found : {X : Type 0} (same : X → Bool) (change : X → X) {xs ys : List X} {i : ℕ} {x y : X} →
+    Some i ≡ position same ys → ys ≡ xs → x ≡ get_or xs i x → y ≡ change x → set xs i y ≡ first_changed same change xs
+changed-found same change {xs} {ys} {i} {x} {y} found first is made =
+    ap (set xs i) made ∙ changed-at same change xs i x (sym (found ∙ ap (position same) first)) is
+
+-- none was found, and none is changed
+pub changed-none : {X : Type 0} (same : X → Bool) (change : X → X) {xs ys : List X} → None ≡ position same ys →
+    ys ≡ xs → xs ≡ first_changed same change xs
+changed-none same change {xs} found first =
+    sym (changed-nowhere same change xs (sym (found ∙ ap (position same) first)))

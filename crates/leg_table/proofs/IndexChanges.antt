@@ -6,14 +6,15 @@ use Rattle.ason_base.specs.declared.ids.Lsp.{Lsp}
 use Rattle.leg_table.specs.declared.lsp_index.LspOfCall.{LspOfCall}
 use Rattle.leg_table.specs.LspIndexes.{HasJust, HasNone, IndexRises, IsSet, IsTakenOff, has_entry, is_entry, is_same, without_entry}
 use Rattle.leg_table.proofs.LspIndex.{any-without}
-use Rattle.leg_table.proofs.LspOrder.{same-eq, same-number, same-refl, same-sym}
+use Rattle.ason_base.proofs.KeyOrder.{same_number-eq}
+use Rattle.leg_table.proofs.LspOrder.{option_order, same-sym}
 
 pub number-sym : (a b : ℕ) → nat_eq a b ≡ nat_eq b a
 number-sym a b = grind arith
 
 pub of-call : (e : LspOfCall) (n : CallNo) → nat_eq e.call.0 n.0 ≡ true → e ≡ record { lsp = e.lsp; call = n }
 of-call e n h =
-    let p : e.call.0 ≡ n.0 = same-number e.call.0 n.0 h in
+    let p : e.call.0 ≡ n.0 = same_number-eq e.call.0 n.0 h in
     λ i. record { lsp = e.lsp; call = record { 0 = p i } }
 
 -- the call had none
@@ -77,11 +78,11 @@ set-same n k l es rises just same = record {
     go : (e : LspOfCall) (b : Bool) → nat_eq e.call.0 n.0 ≡ b →
         has_entry e es ≡ cond b (is_same l e.lsp) (has_entry e es)
     go e true h =
-        ap (λ y. has_entry y es) (of-call e n h) ∙ just e.lsp ∙ ap (λ m. is_same m e.lsp) (same-eq k l same)
+        ap (λ y. has_entry y es) (of-call e n h) ∙ just e.lsp ∙ ap (λ m. is_same m e.lsp) (option_order.one k l same)
     go e false h = refl
 
 pub just-there : (x : LspOfCall) (es : List LspOfCall) → HasJust x.call x.lsp es → has_entry x es ≡ true
-just-there x es just = just x.lsp ∙ same-refl x.lsp
+just-there x es just = just x.lsp ∙ option_order.itself x.lsp
 
 pub nothing-off : (n : CallNo) (es : List LspOfCall) → IndexRises es → HasNone n es → IsTakenOff n es es
 nothing-off n es rises none = record {

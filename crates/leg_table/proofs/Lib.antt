@@ -3,11 +3,11 @@ mod CallIndexes
 mod CallsByLsp
 mod Halved
 mod IndexChanges
+mod KeyedPlaces
 pub mod LegOrder
 mod LspIndex
 mod LspOrder
 mod NewPlaces
-mod Orders
 pub mod OwnFibres
 pub mod OwnerFibres
 pub mod Places

@@ -5,36 +5,22 @@ use Rattle.std.specs.List.{list_any, position_or_len}
 use Rattle.std.proofs.lemmas.List.Folds.{list_any_at}
 use Rattle.std.proofs.lemmas.List.Sums.{fails_before_first}
 use Rattle.std.proofs.lemmas.Map.Views.{any-filter_same}
+use Rattle.ason_base.proofs.KeyedLists.{all-then, pairs-head, pairs-tail}
 use Rattle.ason_base.specs.declared.ids.CallNo.{CallNo}
 use Rattle.ason_base.specs.declared.ids.Lsp.{Lsp}
 use Rattle.leg_table.specs.declared.lsp_index.LspOfCall.{LspOfCall}
-use Rattle.leg_table.specs.LspIndexes.{IndexRises, IsFirstCall, call_there, has_entry, is_before, is_earlier, is_entry, is_from, is_same, without_entry}
-use Rattle.share_check.proofs.Inserted.{rises-insert}
-use Rattle.leg_table.proofs.LegOrder.{head, tail}
-use Rattle.leg_table.proofs.LspOrder.{before-or, earlier-earlier, earlier-total, entry-eq, from-not, in_order, never-earlier, same-eq, same-sym}
-use Rattle.leg_table.proofs.NewPlaces.{from_place}
-use Rattle.mesh_nodes.proofs.LegList.{all-then}
+use Rattle.leg_table.specs.LspIndexes.{IndexRises, IsFirstCall, call_there, entry_order, has_entry, is_before, is_earlier, is_entry, is_from, is_same, without_entry}
+use Rattle.leg_table.proofs.Halved.{negated_false}
+use Rattle.leg_table.proofs.KeyedPlaces.{new-inserted, none-found, put_rises}
+use Rattle.leg_table.proofs.LspOrder.{entry-eq, from-not, option_order, same-sym}
 
 -- An entry more
 
-negated : (b : Bool) → not b ≡ false → b ≡ true
-negated true h = refl
-negated false h = absurd (cc h)
-
-none-at : {X : Type 0} (p : X → Bool) (xs : List X) (k : ℕ) (d : X) (b : Bool) → list_any p xs ≡ false →
-    suc k ≤ length xs → p (get_or xs k d) ≡ b → b ≡ false
-none-at p xs k d true none below e = absurd (cc (list_any_at p xs k d (omega (arith, below)) e, none))
-none-at p xs k d false none below e = refl
-
 pub entry-rises : (e : LspOfCall) (es : List LspOfCall) (n : ℕ) → IndexRises es → n ≡ position_or_len (is_from e) es →
-    n ≤ length es → has_entry e es ≡ false → IndexRises (insert es n e)
-entry-rises e es n rises place within new =
-    rises-insert (λ a b. IsTrue (is_before a b)) es n e within rises
-    (λ k d less. negated (is_before (get_or es k d) e)
-    (fails_before_first (is_from e) es k d (omega (arith, less, place))))
-    (λ k d le below.
-    before-or e (get_or es k d) (none-at (is_entry e) es k d _ new (omega (arith, below)) refl)
-    (from-not e (get_or es k d) (from_place (is_entry e) (is_from e) es n k d (in_order e es rises) place le below)))
+    has_entry e es ≡ false → IndexRises (insert es n e)
+entry-rises e es n rises place new =
+    subst IndexRises (sym (new-inserted entry_order (λ x. x) e es n place (none-found (is_entry e) es new)))
+    (put_rises entry_order (λ x. x) e es rises)
 
 -- An entry less
 
@@ -57,13 +43,13 @@ or-neither false b h = (refl, h)
 after-all : (l : Lsp) (x : LspOfCall) → is_from (least l) x ≡ true → is_same x.lsp (Some l) ≡ false →
     is_earlier (Some l) x.lsp ≡ true
 after-all l x from other =
-    earlier-total x.lsp (Some l) (same-sym (Some l) x.lsp ∙ other)
+    option_order.total x.lsp (Some l) (same-sym (Some l) x.lsp ∙ other)
     (or-neither (is_earlier x.lsp (Some l)) _ (from-not (least l) x from)).0
 
 -- what is before the least of an LSP doesn't have it
 before-other : (l : Lsp) (x : LspOfCall) → is_from (least l) x ≡ false → is_same x.lsp (Some l) ≡ false
 before-other l x h =
-    go (is_earlier x.lsp (Some l)) (is_same x.lsp (Some l)) refl refl (negated (is_before x (least l)) h)
+    go (is_earlier x.lsp (Some l)) (is_same x.lsp (Some l)) refl refl (negated_false (is_before x (least l)) h)
   where
     never : (n : ℕ) → nat_lt n 0 ≡ false
     never n = grind arith
@@ -72,7 +58,8 @@ before-other l x h =
         (p || (s && nat_lt x.call.0 0)) ≡ true → s ≡ false
     go p false e f less = refl
     go true true e f less =
-        absurd (cc (subst (λ m. is_earlier m (Some l) ≡ true) (same-eq x.lsp (Some l) f) e, never-earlier (Some l)))
+        absurd (cc (subst (λ m. is_earlier m (Some l) ≡ true) (option_order.one x.lsp (Some l) f) e,
+        option_order.never (Some l)))
     go false true e f less = absurd (cc (less, never x.call.0))
 
 number-after : (l : Lsp) (x y : LspOfCall) → is_same x.lsp (Some l) ≡ true → is_before x y ≡ true →
@@ -81,12 +68,12 @@ number-after l x y same less same' =
     go (is_earlier x.lsp y.lsp) (is_same x.lsp y.lsp) refl less
   where
     is : y.lsp ≡ x.lsp
-    is = same-eq y.lsp (Some l) same' ∙ sym (same-eq x.lsp (Some l) same)
+    is = option_order.one y.lsp (Some l) same' ∙ sym (option_order.one x.lsp (Some l) same)
 
     go : (p s : Bool) → is_earlier x.lsp y.lsp ≡ p → (p || (s && nat_lt x.call.0 y.call.0)) ≡ true →
         x.call.0 ≤ y.call.0
     go true s e h =
-        absurd (cc (subst (λ m. is_earlier x.lsp m ≡ true) is e, never-earlier x.lsp))
+        absurd (cc (subst (λ m. is_earlier x.lsp m ≡ true) is e, option_order.never x.lsp))
     go false true e h = grind arith
     go false false e h = absurd (cc h)
 
@@ -97,14 +84,14 @@ other-after l x y later less = go (is_same y.lsp (Some l)) refl
     no : is_same y.lsp (Some l) ≡ true → (p s : Bool) → is_earlier x.lsp y.lsp ≡ p → is_same x.lsp y.lsp ≡ s →
         (p || (s && nat_lt x.call.0 y.call.0)) ≡ true → ⊥
     no f true s e g h =
-        let is = same-eq y.lsp (Some l) f in
+        let is = option_order.one y.lsp (Some l) f in
         cc (
-          earlier-earlier (Some l) x.lsp (Some l) later (subst (λ m. is_earlier x.lsp m ≡ true) is e),
-          never-earlier (Some l),
+          option_order.through (Some l) x.lsp (Some l) later (subst (λ m. is_earlier x.lsp m ≡ true) is e),
+          option_order.never (Some l),
         )
     no f false true e g h =
-        let is = same-eq x.lsp y.lsp g ∙ same-eq y.lsp (Some l) f in
-        cc (subst (λ m. is_earlier (Some l) m ≡ true) is later, never-earlier (Some l))
+        let is = option_order.one x.lsp y.lsp g ∙ option_order.one y.lsp (Some l) f in
+        cc (subst (λ m. is_earlier (Some l) m ≡ true) is later, option_order.never (Some l))
     no f false false e g h = cc h
 
     go : (b : Bool) → is_same y.lsp (Some l) ≡ b → b ≡ false
@@ -124,13 +111,13 @@ at-front l x xs rises from true e = (
   rw (e, same-call x.call.0) refl,
   (
     λ h. omega arith,
-    all-then _ _ xs (λ y less h. number-after l x y e less h) (head (λ a b. IsTrue (is_before a b)) x xs rises),
+    all-then _ _ xs (λ y less h. number-after l x y e less h) (pairs-head (λ a b. IsTrue (is_before a b)) x xs rises),
   ),
 )
 at-front l x xs rises from false e = (
   e,
   all-then _ _ xs (λ y less. other-after l x y (after-all l x from e) less)
-      (head (λ a b. IsTrue (is_before a b)) x xs rises),
+      (pairs-head (λ a b. IsTrue (is_before a b)) x xs rises),
 )
 
 -- one that doesn't have the LSP changes nothing
@@ -143,7 +130,7 @@ pub first-at : (l : Lsp) (es : List LspOfCall) → IndexRises es →
     IsFirstCall l es (call_there (slice_get es (position_or_len (is_from (least l)) es)) l)
 first-at l [] rises = tt
 first-at l (x ∷ xs) rises =
-    go (is_from (least l) x) refl (first-at l xs (tail (λ a b. IsTrue (is_before a b)) x xs rises))
+    go (is_from (least l) x) refl (first-at l xs (pairs-tail (λ a b. IsTrue (is_before a b)) x xs rises))
   where
     n : ℕ
     n = position_or_len (is_from (least l)) xs

@@ -1,39 +1,14 @@
 -- The claims of one fibre changed, all others as they were.
-use Rattle.std.proofs.Common.{◌≡◌, ℕ, Bool, true, false, cond, nat_eq, List, [], ◌∷◌, refl, sym, ap, subst, arith}
+use Rattle.std.proofs.Common.{◌≡◌, ℕ, Bool, true, false, cond, List, [], ◌∷◌, refl, sym, ap, subst}
 use Rattle.std.specs.Prelude.{◌||◌}
 use Rattle.std.specs.List.{list_any}
 use Rattle.ason_base.specs.declared.ids.Fibre.{Fibre}
 use Rattle.ason_base.specs.declared.ids.Lsp.{Lsp}
-use Rattle.ason_base.specs.Lsps.{same_bool, same_fibre}
+use Rattle.ason_base.specs.Lsps.{same_fibre}
+pub use Rattle.ason_base.proofs.LspOrder.{same_fibre-eq, same_fibre-refl}
 use Rattle.link_owner.specs.Claims.{FibreClaims, is_of_lsp}
 use Rattle.link_owner.specs.Owners.{claims_of, comes_in, has_label, labels_of, with_claims}
 use Rattle.link_owner.specs.declared.claims.Claim.{Claim}
-use Rattle.mesh_nodes.proofs.Cases.{both_left, both_right}
-
-numbers : (a b : ℕ) → nat_eq a b ≡ true → a ≡ b
-numbers a b e = grind arith
-
-bools : (a b : Bool) → same_bool a b ≡ true → a ≡ b
-bools true true e = refl
-bools true false e = absurd (cc e)
-bools false true e = absurd (cc e)
-bools false false e = refl
-
-pub same_fibre-eq : (f g : Fibre) → same_fibre f g ≡ true → f ≡ g
-same_fibre-eq f g e =
-    let a : f.link.0 ≡ g.link.0 = numbers f.link.0 g.link.0 (both_left (nat_eq f.link.0 g.link.0) _ e) in
-    let b : f.forward ≡ g.forward = bools f.forward g.forward (both_right (nat_eq f.link.0 g.link.0) _ e) in
-    λ i. record { link = record { 0 = a i }; forward = b i }
-
-same_number : (n : ℕ) → nat_eq n n ≡ true
-same_number n = grind arith
-
-pub same_fibre-refl : (f : Fibre) → same_fibre f f ≡ true
-same_fibre-refl f = rw (same_number f.link.0) (go f.forward)
-  where
-    go : (b : Bool) → same_bool b b ≡ true
-    go true = refl
-    go false = refl
 
 pub claims-there : (f : Fibre) (claims : List Claim) (o : List FibreClaims) → comes_in o f ≡ true →
     claims_of f (with_claims f claims o) ≡ claims

@@ -1,38 +1,44 @@
 -- The calls of an ingress by their LSPs: what LSP each call has, in order of LSP and then of call number.
-use Rattle.std.specs.Prelude.{◌≡◌, ◌≤◌, ◌==◌, ◌&&◌, ◌||◌, nat_lt, not, Bool, true, false, List, filter, Option, Some, None, IsTrue, if◌then◌else◌}
-use Rattle.std.specs.List.{AllByRecursion, AllPairs, list_any}
+use Rattle.std.specs.Prelude.{◌≡◌, ◌≤◌, ◌==◌, ◌&&◌, ◌||◌, nat_lt, not, Bool, true, false, List, filter, Option, Some, None, IsTrue, refl, if◌then◌else◌}
+use Rattle.std.specs.List.{AllByRecursion, list_any}
 use Rattle.ason_base.specs.declared.ids.CallNo.{CallNo}
 use Rattle.ason_base.specs.declared.ids.Lsp.{Lsp}
 use Rattle.ason_base.specs.declared.tables.CallRec.{CallRec}
+use Rattle.ason_base.specs.InOrder.{IsKeyOrder, RisesBy, option_before, same_option}
 use Rattle.ason_base.specs.Lsps.{lsp_before, same_lsp}
+use Rattle.ason_base.proofs.KeyOrder.{by_key, by_option, by_parts, number_order}
+use Rattle.ason_base.proofs.LspOrder.{lsp_order}
 use Rattle.mesh_rules.specs.Calls.{find_call}
 use Rattle.leg_table.specs.declared.lsp_index.LspOfCall.{LspOfCall}
 
 -- The order
 
 abbrev pub is_same : Option Lsp → Option Lsp → Bool
-is_same None None = true
-is_same None (Some l) = false
-is_same (Some k) None = false
-is_same (Some k) (Some l) = same_lsp k l
+is_same = same_option same_lsp
 
 -- a call without an LSP comes before those with one
 abbrev pub is_earlier : Option Lsp → Option Lsp → Bool
-is_earlier None None = false
-is_earlier None (Some l) = true
-is_earlier (Some k) None = false
-is_earlier (Some k) (Some l) = lsp_before k l
+is_earlier = option_before lsp_before
 
 abbrev pub is_before : LspOfCall → LspOfCall → Bool
 is_before a b = is_earlier a.lsp b.lsp || (is_same a.lsp b.lsp && nat_lt a.call.0 b.call.0)
 
+abbrev pub is_same_entry : LspOfCall → LspOfCall → Bool
+is_same_entry a b = is_same a.lsp b.lsp && a.call.0 == b.call.0
+
+-- by LSP, and those of one LSP by call
+pub entry_order : IsKeyOrder is_same_entry is_before
+entry_order =
+    by_key (λ (e : LspOfCall). (e.lsp, e.call.0)) (λ k. record { lsp = k.0; call = record { 0 = k.1 } }) (λ e. refl)
+    (by_parts (by_option lsp_order) number_order)
+
 abbrev pub IndexRises : List LspOfCall → Type 0
-IndexRises es = AllPairs (λ a b. IsTrue (is_before a b)) es
+IndexRises es = RisesBy is_before es
 
 -- Entries
 
 abbrev pub is_entry : LspOfCall → LspOfCall → Bool
-is_entry e x = is_same x.lsp e.lsp && x.call.0 == e.call.0
+is_entry e x = is_same_entry x e
 
 abbrev pub has_entry : LspOfCall → List LspOfCall → Bool
 has_entry e es = list_any (is_entry e) es
@@ -47,10 +53,6 @@ IsMore e es after = (x : LspOfCall) → has_entry x after ≡ (is_entry x e || h
 -- this one, or one after it
 abbrev pub is_from : LspOfCall → LspOfCall → Bool
 is_from e x = not (is_before x e)
-
-abbrev pub is_there : Option LspOfCall → LspOfCall → Bool
-is_there None e = false
-is_there (Some x) e = is_entry e x
 
 -- What an index is
 

@@ -1,6 +1,5 @@
 -- What a node keeps in its tables.
-use Rattle.std.specs.Prelude.{ℕ, ◌≡◌, ◌<◌, length, ◌==◌, ◌++◌, nat_lt, Bool, true, false, List, [], ◌∷◌, find, filter, map, Option, Some, None, IsTrue, if◌then◌else◌}
-use Rattle.std.specs.List.{AllPairs}
+use Rattle.std.specs.Prelude.{ℕ, ◌≡◌, ◌<◌, length, ◌==◌, ◌++◌, nat_lt, Bool, true, false, List, [], ◌∷◌, find, filter, map, Option, Some, None, if◌then◌else◌}
 use Rattle.ason_base.specs.declared.ids.CallNo.{CallNo}
 use Rattle.ason_base.specs.declared.ids.Fibre.{Fibre}
 use Rattle.ason_base.specs.declared.ids.LinkId.{LinkId}
@@ -15,6 +14,7 @@ use Rattle.ason_base.specs.declared.network.NodeSpec.{NodeSpec}
 use Rattle.ason_base.specs.declared.network.TeRow.{TeRow}
 use Rattle.ason_base.specs.declared.tables.CallRec.{CallRec}
 use Rattle.ason_base.specs.declared.tables.Leg.{Leg}
+use Rattle.ason_base.specs.InOrder.{RisesBy}
 use Rattle.ason_base.specs.Network.{Network, find_node, row_of, touches}
 use Rattle.leg_table.specs.declared.tables.PutFault.{PutFault}
 use Rattle.leg_table.specs.declared.tables.PutFault.TheVariants.{Full, OutOfMemory}
@@ -45,7 +45,7 @@ first_changed same change (x ∷ xs) = if same x then change x ∷ xs else x ∷
 -- Legs
 
 abbrev pub LegsRise : List Leg → Type 0
-LegsRise legs = AllPairs (λ g h. IsTrue (lsp_before g.lsp h.lsp)) legs
+LegsRise legs = RisesBy (λ g h. lsp_before g.lsp h.lsp) legs
 
 abbrev pub is_of_lsp : Lsp → Leg → Bool
 is_of_lsp l g = same_lsp g.lsp l
@@ -100,7 +100,7 @@ learnt r rows = if has_row rows r.link then rows else rows ++ r ∷ []
 -- Calls
 
 abbrev pub CallsRise : List CallRec → Type 0
-CallsRise calls = AllPairs (λ c d. IsTrue (nat_lt c.call.0 d.call.0)) calls
+CallsRise calls = RisesBy (λ c d. nat_lt c.call.0 d.call.0) calls
 
 abbrev pub is_of_number : CallNo → CallRec → Bool
 is_of_number n c = c.call.0 == n.0

@@ -1,30 +1,38 @@
 //! Calls in order of number, found by halving.
 
 ghost use Rattle.std.specs.Prelude.{◌≡◌, ◌≤◌, ◌<◌, ◌+◌, [], IfOk, None, OnErr, OnOk, Some, length, position, slice_get, true, vec_capacity, vec_len};
-ghost use Rattle.std.specs.List.{position_or_len};
 ghost use Rattle.std.specs.Option.{option_copied};
-ghost use Rattle.mesh_rules.specs.Calls.{find_call, has_number, is_call_at_or_after, with_call, without_call};
-ghost use Rattle.leg_table.specs.Tables.{CallsRise, call_changed, in_state, is_kept, is_of_number, reported, reports_left, unreported, with_lsps};
+ghost use Rattle.mesh_rules.specs.Calls.{earlier_call, find_call, same_call, with_call, without_call};
+ghost use Rattle.mesh_nodes.proofs.CallList.{call_order};
+ghost use Rattle.leg_table.specs.Tables.{CallsRise, call_changed, in_state, is_kept, reported, reports_left, unreported, with_lsps};
 
-use crate::edits::{insert_here, replace_here};
+use crate::keyed::{Keyed, find_item, find_place, put_item, take_item};
 use crate::tables::add_fibre;
 use ason_base::{CallNo, CallRec, CallState, Cause, Fibre, Fibres, Lsp, OutOfMemory, Role};
 use std::alloc::Global;
 
-fn is_at_or_after(call: &CallRec, number: CallNo) -> bool
-    ensures { result ≡ is_call_at_or_after number call.now }
-{
-    number <= call.call
-}
+impl Keyed for CallRec {
+    type Key = CallNo;
 
-fn is_call_at(calls: &[CallRec], place: usize, number: CallNo) -> bool
-    ensures there { result ≡ has_number (slice_get calls.now place) number }
-    ensures within { result ≡ true → place < length calls.now }
-{
-    match calls.get(place) {
-        None => false,
-        Some(call) => call.call == number,
+    ghost key_of = { λ c. c.call };
+
+    ghost same = { same_call };
+
+    ghost before = { earlier_call };
+
+    fn key(&self) -> CallNo {
+        self.call
     }
+
+    fn is_same(a: CallNo, b: CallNo) -> bool {
+        a == b
+    }
+
+    fn is_before(a: CallNo, b: CallNo) -> bool {
+        a < b
+    }
+
+    ghost order = { call_order };
 }
 
 fn number_of(call: &CallRec) -> u16
@@ -47,42 +55,11 @@ pub(crate) fn count(calls: &[CallRec]) -> usize
     count
 }
 
-// The place of the first call of this number or a greater one.
-fn place_of(calls: &[CallRec], number: CallNo) -> usize
-    requires { CallsRise calls.now }
-    ensures place { result ≡ position_or_len (is_call_at_or_after number) calls.now }
-    ensures within { result ≤ length calls.now }
-{
-    calls.partition_point(|call| !is_at_or_after(call, number))
-}
-
-// The place of the call of this number.
-fn find_place(calls: &[CallRec], number: CallNo) -> Option<usize>
-    requires { CallsRise calls.now }
-    ensures { result ≡ position (is_of_number number) calls.now }
-{
-    let place = place_of(calls, number);
-    if is_call_at(calls, place, number) {
-        Some(place)
-    } else {
-        None
-    }
-}
-
-fn call_at(calls: &[CallRec], place: usize) -> Option<&CallRec>
-    ensures { option_copied result ≡ slice_get calls.now place }
-{
-    calls.get(place)
-}
-
 pub(crate) fn find_call(calls: &[CallRec], number: CallNo) -> Option<&CallRec>
     requires { CallsRise calls.now }
     ensures { option_copied result ≡ find_call number calls.now }
 {
-    match find_place(calls, number) {
-        None => None,
-        Some(place) => call_at(calls, place),
-    }
+    find_item(calls, number)
 }
 
 /// Puts the call in the place of the one of its number, or before the greater ones. There is room for it.
@@ -94,12 +71,7 @@ pub(crate) fn set_call(calls: &mut Vec<CallRec>, call: CallRec)
     ensures len { vec_len calls.new ≤ vec_len calls.old + 1 }
     ensures capacity { vec_capacity calls.new ≡ vec_capacity calls.old }
 {
-    let place = place_of(calls, call.call);
-    if is_call_at(calls, place, call.call) {
-        replace_here(calls, place, call);
-    } else {
-        insert_here(calls, place, call);
-    }
+    put_item(calls, call);
 }
 
 pub(crate) fn take_call(calls: &mut Vec<CallRec>, number: CallNo) -> Option<CallRec>
@@ -110,10 +82,7 @@ pub(crate) fn take_call(calls: &mut Vec<CallRec>, number: CallNo) -> Option<Call
     ensures len { vec_len calls.new ≤ vec_len calls.old }
     ensures capacity { vec_capacity calls.new ≡ vec_capacity calls.old }
 {
-    match find_place(calls, number) {
-        None => None,
-        Some(place) => Some(calls.remove(place)),
-    }
+    take_item(calls, number)
 }
 
 pub(crate) fn set_state(

@@ -1,53 +1,39 @@
 //! Legs in order of LSP, found by halving.
 
 ghost use Rattle.std.specs.Prelude.{◌≡◌, ◌≤◌, ◌<◌, ◌+◌, IfOk, None, OnErr, OnOk, Some, insert, length, position, slice_get, true, vec_capacity, vec_len};
-ghost use Rattle.std.specs.List.{position_or_len};
 ghost use Rattle.std.specs.Option.{option_copied};
-ghost use Rattle.mesh_rules.specs.Legs.{find_leg, has_lsp, is_at_or_after, with_leg, with_phase, without_leg};
-ghost use Rattle.leg_table.specs.Tables.{LegsRise, is_of_lsp, leg_changed, with_back_labels, with_labels};
+ghost use Rattle.ason_base.specs.Lsps.{lsp_before, same_lsp};
+ghost use Rattle.ason_base.proofs.LspOrder.{lsp_order};
+ghost use Rattle.mesh_rules.specs.Legs.{find_leg, with_leg, with_phase, without_leg};
+ghost use Rattle.leg_table.specs.Tables.{LegsRise, leg_changed, with_back_labels, with_labels};
 
 use crate::boxes::BoxedLeg;
-use crate::edits::{insert_here, replace_here};
+use crate::keyed::{Keyed, find_item, find_place, place_of, put_item, take_item};
 use ason_base::{Label, Leg, Lsp, OutOfMemory, Phase};
 use std::alloc::Global;
 
-fn is_at_or_after(boxed: &BoxedLeg, lsp: Lsp) -> bool
-    ensures { result ≡ is_at_or_after lsp boxed.now }
-{
-    let leg = boxed.leg();
-    leg.lsp == lsp || lsp < leg.lsp
-}
+impl Keyed for BoxedLeg {
+    type Key = Lsp;
 
-fn is_leg_at(legs: &[BoxedLeg], place: usize, lsp: Lsp) -> bool
-    ensures there { result ≡ has_lsp (slice_get legs.now place) lsp }
-    ensures within { result ≡ true → place < length legs.now }
-{
-    match legs.get(place) {
-        None => false,
-        Some(boxed) => boxed.leg().lsp == lsp,
+    ghost key_of = { λ g. g.lsp };
+
+    ghost same = { same_lsp };
+
+    ghost before = { lsp_before };
+
+    fn key(&self) -> Lsp {
+        self.leg().lsp
     }
-}
 
-/// The place of the first leg of this LSP or a later one.
-pub(crate) fn place_of(legs: &[BoxedLeg], lsp: Lsp) -> usize
-    requires { LegsRise legs.now }
-    ensures place { result ≡ position_or_len (is_at_or_after lsp) legs.now }
-    ensures within { result ≤ length legs.now }
-{
-    legs.partition_point(|leg| !is_at_or_after(leg, lsp))
-}
-
-/// The place of the leg of this LSP.
-pub(crate) fn find_place(legs: &[BoxedLeg], lsp: Lsp) -> Option<usize>
-    requires { LegsRise legs.now }
-    ensures { result ≡ position (is_of_lsp lsp) legs.now }
-{
-    let place = place_of(legs, lsp);
-    if is_leg_at(legs, place, lsp) {
-        Some(place)
-    } else {
-        None
+    fn is_same(a: Lsp, b: Lsp) -> bool {
+        a == b
     }
+
+    fn is_before(a: Lsp, b: Lsp) -> bool {
+        a < b
+    }
+
+    ghost order = { lsp_order };
 }
 
 /// The leg at this place.
@@ -65,9 +51,9 @@ pub fn find_leg(legs: &[BoxedLeg], lsp: Lsp) -> Option<&Leg>
     requires { LegsRise legs.now }
     ensures { option_copied result ≡ find_leg lsp legs.now }
 {
-    match find_place(legs, lsp) {
+    match find_item(legs, lsp) {
         None => None,
-        Some(place) => leg_at(legs, place),
+        Some(boxed) => Some(boxed.leg()),
     }
 }
 
@@ -108,13 +94,7 @@ pub fn set_leg(legs: &mut Vec<BoxedLeg>, leg: BoxedLeg)
     ensures len { vec_len legs.new ≤ vec_len legs.old + 1 }
     ensures capacity { vec_capacity legs.new ≡ vec_capacity legs.old }
 {
-    let lsp = leg.leg().lsp;
-    let place = place_of(legs, lsp);
-    if is_leg_at(legs, place, lsp) {
-        replace_here(legs, place, leg);
-    } else {
-        insert_here(legs, place, leg);
-    }
+    put_item(legs, leg);
 }
 
 /// Takes the leg of this LSP off.
@@ -126,9 +106,9 @@ pub fn take_leg(legs: &mut Vec<BoxedLeg>, lsp: Lsp) -> Option<Leg>
     ensures len { length legs.new.items ≤ length legs.old.items }
     ensures capacity { vec_capacity legs.new ≡ vec_capacity legs.old }
 {
-    match find_place(legs, lsp) {
+    match take_item(legs, lsp) {
         None => None,
-        Some(place) => Some(legs.remove(place).into_leg()),
+        Some(boxed) => Some(boxed.into_leg()),
     }
 }
 

@@ -9,6 +9,7 @@ mod calls;
 pub mod changes;
 mod edits;
 pub mod handling;
+mod keyed;
 pub mod labels;
 pub mod laws;
 pub mod legs;

@@ -1,10 +1,10 @@
 //! The calls of an ingress by their LSPs: what LSP each call has, in order of LSP and then of call number, found by halving.
 
-ghost use Rattle.std.specs.Prelude.{◌≡◌, ◌≤◌, ◌<◌, ◌+◌, None, false, length, slice_get, true, vec_capacity, vec_len};
-ghost use Rattle.std.specs.List.{position, position_or_len};
-ghost use Rattle.leg_table.specs.LspIndexes.{HasJust, HasNone, IndexRises, IsFirstCall, IsMore, IsSet, IsTakenOff, call_there, has_entry, is_before, is_earlier, is_entry, is_from, is_same, is_there, without_entry};
+ghost use Rattle.std.specs.Prelude.{◌≡◌, ◌≤◌, ◌<◌, ◌+◌, false, slice_get, true, vec_capacity, vec_len};
+ghost use Rattle.leg_table.specs.LspIndexes.{HasJust, HasNone, IndexRises, IsFirstCall, IsMore, IsSet, IsTakenOff, call_there, entry_order, has_entry, is_before, is_earlier, is_same, is_same_entry, without_entry};
 
 use crate::edits::insert_here;
+use crate::keyed::{Keyed, place_of, take_item};
 use ason_base::{CallNo, Lsp};
 
 /// The LSP of a call, if it has one.
@@ -40,41 +40,28 @@ fn is_before(a: LspOfCall, b: LspOfCall) -> bool
     is_earlier(a.lsp, b.lsp) || (is_same(a.lsp, b.lsp) && a.call < b.call)
 }
 
-fn is_from(entry: &LspOfCall, sought: LspOfCall) -> bool
-    ensures { result ≡ is_from sought entry.now }
-{
-    !is_before(*entry, sought)
-}
+impl Keyed for LspOfCall {
+    type Key = LspOfCall;
 
-// The place of the first entry that isn't before this one.
-fn place_of(entries: &[LspOfCall], sought: LspOfCall) -> usize
-    requires { IndexRises entries.now }
-    ensures place { result ≡ position_or_len (is_from sought) entries.now }
-    ensures within { result ≤ length entries.now }
-{
-    entries.partition_point(|entry| !is_from(entry, sought))
-}
+    ghost key_of = { λ e. e };
 
-fn is_there(entries: &[LspOfCall], place: usize, sought: LspOfCall) -> bool
-    ensures there { result ≡ is_there (slice_get entries.now place) sought }
-    ensures within { result ≡ true → place < length entries.now }
-{
-    match entries.get(place) {
-        None => false,
-        Some(entry) => is_same(entry.lsp, sought.lsp) && entry.call == sought.call,
+    ghost same = { is_same_entry };
+
+    ghost before = { is_before };
+
+    fn key(&self) -> LspOfCall {
+        *self
     }
-}
 
-fn find_place(entries: &[LspOfCall], sought: LspOfCall) -> Option<usize>
-    requires { IndexRises entries.now }
-    ensures { result ≡ position (is_entry sought) entries.now }
-{
-    let place = place_of(entries, sought);
-    if is_there(entries, place, sought) {
-        Some(place)
-    } else {
-        None
+    fn is_same(a: LspOfCall, b: LspOfCall) -> bool {
+        is_same(a.lsp, b.lsp) && a.call == b.call
     }
+
+    fn is_before(a: LspOfCall, b: LspOfCall) -> bool {
+        is_before(a, b)
+    }
+
+    ghost order = { entry_order };
 }
 
 // Adds an entry that isn't there. There is room for it.
@@ -101,11 +88,9 @@ fn take(entries: &mut Vec<LspOfCall>, entry: LspOfCall)
     ensures room { vec_len entries.new < vec_capacity entries.new }
     ensures capacity { vec_capacity entries.new ≡ vec_capacity entries.old }
 {
-    match find_place(entries, entry) {
+    match take_item(entries, entry) {
         None => unreachable!(),
-        Some(place) => {
-            let _entry = entries.remove(place);
-        }
+        Some(_) => {}
     }
 }
 

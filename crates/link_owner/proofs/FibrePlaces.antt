@@ -1,5 +1,5 @@
 -- Where a fibre stands among those that come in.
-use Rattle.std.proofs.Common.{◌≡◌, ◌+◌, ◌<◌, ℕ, suc, Bool, true, false, cond, not, nat_lt, List, [], ◌∷◌, length, get_or, set, refl, ap, subst, ◌∙◌, arith}
+use Rattle.std.proofs.Common.{◌≡◌, ◌+◌, ◌<◌, ℕ, suc, Bool, true, false, cond, not, nat_lt, List, [], ◌∷◌, length, get_or, set, refl, sym, ap, subst, ◌∙◌, arith}
 use Rattle.std.specs.Prelude.{◌||◌, Some, None, position}
 use Rattle.std.specs.List.{list_any, position_or_len}
 use Rattle.ason_base.specs.declared.ids.Fibre.{Fibre}
@@ -55,31 +55,20 @@ set-first f claims (r ∷ o) d = go (is_fibre f r) (set-first f claims o d)
     go true rest = refl
     go false rest = rw (one_more n) (ap (λ xs. r ∷ xs) rest)
 
-claims-first : (f : Fibre) (o : List FibreClaims) (d : FibreClaims) → comes_in o f ≡ true →
-    (get_or o (position_or_len (is_fibre f) o) d).claims ≡ claims_of f o
-claims-first f [] d h = absurd (cc h)
-claims-first f (r ∷ o) d h = go (is_fibre f r) h (claims-first f o d)
+-- what is told of a fibre is what the first that passes tells
+first-tells : {Y : Type 0} (f : Fibre) (tells : FibreClaims → Y) (of : List FibreClaims → Y) →
+    ((r : FibreClaims) (o : List FibreClaims) → of (r ∷ o) ≡ cond (is_fibre f r) (tells r) (of o)) →
+    (o : List FibreClaims) (d : FibreClaims) → comes_in o f ≡ true →
+    tells (get_or o (position_or_len (is_fibre f) o) d) ≡ of o
+first-tells f tells of each [] d h = absurd (cc h)
+first-tells {Y} f tells of each (r ∷ o) d h =
+    go (is_fibre f r) h (first-tells f tells of each o d) ∙ sym (each r o)
   where
     n : ℕ
     n = position_or_len (is_fibre f) o
 
-    go : (b : Bool) → (b || list_any (is_fibre f) o) ≡ true →
-        (comes_in o f ≡ true → (get_or o n d).claims ≡ claims_of f o) →
-        (get_or (r ∷ o) (cond (not b) (1 + n) 0) d).claims ≡ cond b r.claims (claims_of f o)
-    go true h later = refl
-    go false h later = rw (one_more n) (later h)
-
-labels-first : (f : Fibre) (o : List FibreClaims) (d : FibreClaims) → comes_in o f ≡ true →
-    (get_or o (position_or_len (is_fibre f) o) d).labels ≡ labels_of f o
-labels-first f [] d h = absurd (cc h)
-labels-first f (r ∷ o) d h = go (is_fibre f r) h (labels-first f o d)
-  where
-    n : ℕ
-    n = position_or_len (is_fibre f) o
-
-    go : (b : Bool) → (b || list_any (is_fibre f) o) ≡ true →
-        (comes_in o f ≡ true → (get_or o n d).labels ≡ labels_of f o) →
-        (get_or (r ∷ o) (cond (not b) (1 + n) 0) d).labels ≡ cond b r.labels (labels_of f o)
+    go : (b : Bool) → (b || list_any (is_fibre f) o) ≡ true → (comes_in o f ≡ true → tells (get_or o n d) ≡ of o) →
+        tells (get_or (r ∷ o) (cond (not b) (1 + n) 0) d) ≡ cond b (tells r) (of o)
     go true h later = refl
     go false h later = rw (one_more n) (later h)
 
@@ -90,6 +79,11 @@ pub record IsRead (f : Fibre) (o : OwnerState) (items : List FibreClaims) (marks
   pub first : position (is_fibre f) o.claims ≡ Some i
   pub read : r ≡ get_or items i r
   pub view : record { claims = items; marks = marks } ≡ o
+
+pub is-read : (f : Fibre) (o : OwnerState) (r : FibreClaims) {items : List FibreClaims} {marks : List FibreMarks}
+    {i : ℕ} → comes_in o.claims f ≡ true → position (is_fibre f) o.claims ≡ Some i → r ≡ get_or items i r →
+    record { claims = items; marks = marks } ≡ o → IsRead f o items marks i r
+is-read f o r there first read view = record { there = there; first = first; read = read; view = view }
 
 module _ {f : Fibre} {o : OwnerState} {items : List FibreClaims} {marks : List FibreMarks} {i : ℕ} {r : FibreClaims}
     (h : IsRead f o items marks i r) where
@@ -105,12 +99,14 @@ module _ {f : Fibre} {o : OwnerState} {items : List FibreClaims} {marks : List F
   pub read-claims : r.claims ≡ claims_of f o.claims
   read-claims =
       ap (λ s. s.claims) read-here
-      ∙ subst (λ j. (get_or o.claims j r).claims ≡ claims_of f o.claims) place (claims-first f o.claims r h.there)
+      ∙ subst (λ j. (get_or o.claims j r).claims ≡ claims_of f o.claims) place
+      (first-tells f (λ s. s.claims) (claims_of f) (λ s t. refl) o.claims r h.there)
 
   pub read-labels : r.labels ≡ labels_of f o.claims
   read-labels =
       ap (λ s. s.labels) read-here
-      ∙ subst (λ j. (get_or o.claims j r).labels ≡ labels_of f o.claims) place (labels-first f o.claims r h.there)
+      ∙ subst (λ j. (get_or o.claims j r).labels ≡ labels_of f o.claims) place
+      (first-tells f (λ s. s.labels) (labels_of f) (λ s t. refl) o.claims r h.there)
 
   put-claims : (s : FibreClaims) (change : List Claim → List Claim) → s ≡ record r { claims = change r.claims } →
       set items i s ≡ with_claims f (change (claims_of f o.claims)) o.claims

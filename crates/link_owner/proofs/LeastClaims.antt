@@ -7,7 +7,7 @@ use Rattle.ason_base.specs.declared.ids.Lsp.{Lsp}
 use Rattle.ason_base.specs.Lsps.{lsp_before, same_lsp}
 use Rattle.link_owner.specs.declared.claims.Claim.{Claim}
 use Rattle.link_owner.specs.Claims.{IsLeast, NoClaim, is_lesser}
-use Rattle.link_owner.proofs.LspOrder.{before-before, before-self, same_lsp-refl}
+use Rattle.ason_base.proofs.LspOrder.{before-before, before-self, same_lsp-refl}
 
 -- what was found among some claims
 abbrev pub LeastOf : (Claim → Bool) → List Claim → Option Lsp → Type 0

@@ -6,4 +6,3 @@ pub mod FibresOf
 pub mod LabelTests
 mod LeastClaims
 pub mod LitFibres
-mod LspOrder

@@ -5,31 +5,12 @@ use Rattle.std.specs.List.{list_any, position_or_len}
 use Rattle.std.proofs.lemmas.List.Quantifiers.{position-Some}
 use Rattle.ason_base.specs.declared.ids.Fibre.{Fibre}
 use Rattle.ason_base.specs.declared.ids.Lsp.{Lsp}
-use Rattle.ason_base.specs.Lsps.{is_lsp, same_bool, same_fibre}
+use Rattle.ason_base.specs.Lsps.{is_lsp, same_fibre}
+use Rattle.ason_base.proofs.LspOrder.{same_fibre-eq}
 use Rattle.link_owner.specs.Claims.{FibreClaims}
 use Rattle.link_owner.specs.Marks.{DarkensLabel, FibreMarks, LightsLabel, has_fibre, is_lit, is_marked_fibre, lit, lit_on}
 use Rattle.link_owner.specs.Owners.{DarkensJust, LightsJust, OwnerState}
 use Rattle.link_owner.proofs.FibrePlaces.{one_more, place-found, place_is}
-
-numbers : (a b : ℕ) → nat_eq a b ≡ true → a ≡ b
-numbers a b e = grind arith
-
-bools : (a b : Bool) → same_bool a b ≡ true → a ≡ b
-bools true true e = refl
-bools true false e = absurd (cc e)
-bools false true e = absurd (cc e)
-bools false false e = refl
-
-both : (a b : Bool) → (a && b) ≡ true → (a ≡ true) × (b ≡ true)
-both true b h = (refl, h)
-both false b h = absurd (cc h)
-
-same-fibre : (f g : Fibre) → same_fibre f g ≡ true → f ≡ g
-same-fibre f g e =
-    let h = both (nat_eq f.link.0 g.link.0) (same_bool f.forward g.forward) e in
-    let a : f.link.0 ≡ g.link.0 = numbers f.link.0 g.link.0 h.0 in
-    let b : f.forward ≡ g.forward = bools f.forward g.forward h.1 in
-    λ i. record { link = record { 0 = a i }; forward = b i }
 
 -- where one passes, some one does
 any-at : {X : Type 0} (p : X → Bool) (xs : List X) (i : ℕ) (d : X) → i < length xs → p (get_or xs i d) ≡ true →
@@ -105,8 +86,8 @@ put-lit (m ∷ marks) f g y s h is = go (is_marked_fibre f m) refl h (put-lit ma
         cond a (lit_on y m) (cond b (lit_on y s) (lit marks g y))
         ≡ cond b (lit_on y s) (cond a (lit_on y m) (lit marks g y))
     later-put apart true true e k =
-        let there : m.fibre ≡ f = same-fibre m.fibre g e ∙ sym (same-fibre f g k) in
-        let both_there : same_fibre f g ≡ same_fibre m.fibre f = ap (same_fibre f) (sym (same-fibre f g k))
+        let there : m.fibre ≡ f = same_fibre-eq m.fibre g e ∙ sym (same_fibre-eq f g k) in
+        let both_there : same_fibre f g ≡ same_fibre m.fibre f = ap (same_fibre f) (sym (same_fibre-eq f g k))
         ∙ ap (λ h. same_fibre h f) (sym there) in
         absurd (cc (k, both_there, apart))
     later-put apart true false e k = refl
@@ -119,7 +100,7 @@ put-lit (m ∷ marks) f g y s h is = go (is_marked_fibre f m) refl h (put-lit ma
         lit (set (m ∷ marks) (cond (not b) (1 + n) 0) s) g y
         ≡ cond (same_fibre f g) (lit_on y s) (cond (same_fibre m.fibre g) (lit_on y m) (lit marks g y))
     go true first h later =
-        rw (is, same-fibre m.fibre f first) (here (same_fibre f g))
+        rw (is, same_fibre-eq m.fibre f first) (here (same_fibre f g))
     go false apart h later =
         rw (one_more n, later h is)
         (later-put apart (same_fibre m.fibre g) (same_fibre f g) refl refl)
@@ -135,7 +116,7 @@ put-fibre (m ∷ marks) f g s h is = go (is_marked_fibre f m) refl h (put-fibre 
     go : (b : Bool) → is_marked_fibre f m ≡ b → (b || has_fibre marks f) ≡ true →
         (has_fibre marks f ≡ true → s.fibre ≡ f → has_fibre (set marks n s) g ≡ has_fibre marks g) →
         has_fibre (set (m ∷ marks) (cond (not b) (1 + n) 0) s) g ≡ (same_fibre m.fibre g || has_fibre marks g)
-    go true first h later = ap (λ k. same_fibre k g || has_fibre marks g) (is ∙ sym (same-fibre m.fibre f first))
+    go true first h later = ap (λ k. same_fibre k g || has_fibre marks g) (is ∙ sym (same_fibre-eq m.fibre f first))
     go false apart h later = rw (one_more n) (ap (λ b. same_fibre m.fibre g || b) (later h is))
 
 -- a fibre that was found, as it was read at its place; the owner has these claims and items
@@ -144,6 +125,11 @@ pub record IsLitAt (f : Fibre) (o : OwnerState) (claims : List FibreClaims) (ite
   pub first : position (is_marked_fibre f) o.marks ≡ Some i
   pub read : r ≡ get_or items i r
   pub view : record { claims = claims; marks = items } ≡ o
+
+pub is-lit-at : (f : Fibre) (o : OwnerState) (r : FibreMarks) {claims : List FibreClaims} {items : List FibreMarks}
+    {i : ℕ} → position (is_marked_fibre f) o.marks ≡ Some i → r ≡ get_or items i r →
+    record { claims = claims; marks = items } ≡ o → IsLitAt f o claims items i r
+is-lit-at f o r first read view = record { first = first; read = read; view = view }
 
 module _ {f : Fibre} {o : OwnerState} {claims : List FibreClaims} {items : List FibreMarks} {i : ℕ} {r : FibreMarks}
     (h : IsLitAt f o claims items i r) where
@@ -163,7 +149,7 @@ module _ {f : Fibre} {o : OwnerState} {claims : List FibreClaims} {items : List 
   there = any-at (is_marked_fibre f) o.marks i r found.0 found.1
 
   its-fibre : r.fibre ≡ f
-  its-fibre = same-fibre r.fibre f (ap (is_marked_fibre f) here ∙ found.1)
+  its-fibre = same_fibre-eq r.fibre f (ap (is_marked_fibre f) here ∙ found.1)
 
   pub read-lit : (x : ℕ) → lit_on x r ≡ lit o.marks f x
   read-lit x =
@@ -192,7 +178,7 @@ module _ {f : Fibre} {o : OwnerState} {claims : List FibreClaims} {items : List 
       go : (b : Bool) → same_fibre f g ≡ b →
           cond b (lit_on y s) (lit o.marks g y) ≡ cond (b && test y) k (lit o.marks g y)
       go true e =
-          each y ∙ ap (λ m. cond (test y) k m) (read-lit y ∙ ap (λ j. lit o.marks j y) (same-fibre f g e))
+          each y ∙ ap (λ m. cond (test y) k m) (read-lit y ∙ ap (λ j. lit o.marks j y) (same_fibre-eq f g e))
       go false e = refl
 
   -- a mark that is set, and put back

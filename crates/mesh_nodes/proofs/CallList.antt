@@ -6,139 +6,66 @@ use Rattle.std.specs.List.{AllByRecursion, count_by}
 use Rattle.ason_base.specs.declared.ids.CallNo.{CallNo}
 use Rattle.ason_base.specs.declared.ids.Lsp.{Lsp}
 use Rattle.ason_base.specs.declared.tables.CallRec.{CallRec}
-use Rattle.mesh_rules.specs.Calls.{call_with, find_call, names, with_call, without_call}
+use Rattle.ason_base.specs.InOrder.{IsKeyOrder}
+use Rattle.ason_base.proofs.KeyOrder.{by_key, number_order, same_number-refl}
+use Rattle.ason_base.proofs.KeyedLists as keyed
+use Rattle.mesh_rules.specs.Calls.{call_with, earlier_call, find_call, names, same_call, with_call, without_call}
 use Rattle.mesh_nodes.specs.Order.{CallsRise}
-use Rattle.mesh_nodes.proofs.LegList.{all-then, all-filter}
 
 -- Numbers
 
-same : (a : ℕ) → nat_eq a a ≡ true
-same a = grind arith
+pub call_order : IsKeyOrder same_call earlier_call
+call_order = by_key (λ (n : CallNo). n.0) (λ n. record { 0 = n }) (λ n. refl) number_order
 
-number-eq : (a b : CallNo) → nat_eq a.0 b.0 ≡ true → a ≡ b
-number-eq a b e = let p : a.0 ≡ b.0 = grind arith in λ i. record { 0 = p i }
+below-test : (c d : CallRec) → c.call.0 < d.call.0 → nat_lt c.call.0 d.call.0 ≡ true
+below-test c d h = grind arith
 
-number-by : (a b m : ℕ) → nat_eq a b ≡ true → nat_eq a m ≡ nat_eq b m
-number-by a b m e = let p : a ≡ b = grind arith in ap (λ x. nat_eq x m) p
+test-below : (c d : CallRec) → nat_lt c.call.0 d.call.0 ≡ true → c.call.0 < d.call.0
+test-below c d h = grind arith
 
 -- Finding
 
 pub found-number : (k : CallNo) (calls : List CallRec) (c : CallRec) → find_call k calls ≡ Some c → c.call ≡ k
-found-number k [] c found = cc
-found-number k (d ∷ calls) c found =
-    elim (nat_eq d.call.0 k.0) as (λ b. nat_eq d.call.0 k.0 ≡ b → cond b (Some d) (find_call k calls) ≡ Some c →
-    c.call ≡ k) [
-      | true ↦ λ e f. let is : d ≡ c = cc in sym (ap (λ x. x.call) is) ∙ number-eq d.call k e
-      | false ↦ λ e f. found-number k calls c f
-    ] refl found
+found-number k calls c found = keyed.found-key call_order (λ (d : CallRec). d.call) k calls c found
 
 pub found-call-all : (P : CallRec → Type 0) (k : CallNo) (calls : List CallRec) (c : CallRec) →
     find_call k calls ≡ Some c → AllByRecursion P calls → P c
-found-call-all P k [] c found all = cc
-found-call-all P k (d ∷ calls) c found all =
-    elim (nat_eq d.call.0 k.0) as (λ b. cond b (Some d) (find_call k calls) ≡ Some c → P c) [
-      | true ↦ λ f. let is : d ≡ c = cc in subst P is all.0
-      | false ↦ λ f. found-call-all P k calls c f all.1
-    ] found
+found-call-all P k calls c found all = keyed.found-of-all P (λ d. same_call d.call k) calls c found all
 
 pub find-with_call : (c : CallRec) (calls : List CallRec) (m : CallNo) →
     find_call m (with_call c calls) ≡ cond (nat_eq c.call.0 m.0) (Some c) (find_call m calls)
-find-with_call c [] m = refl
-find-with_call c (d ∷ calls) m =
-    go (find-with_call c calls m) (nat_eq d.call.0 c.call.0) (nat_lt c.call.0 d.call.0) refl
-  where
-    twice : (b : Bool) → cond b (Some c) (find_call m calls) ≡ cond b (Some c) (cond b (Some d) (find_call m calls))
-    twice true = refl
-    twice false = refl
-
-    swap : (a b : Bool) → nat_eq d.call.0 m.0 ≡ a → nat_eq c.call.0 m.0 ≡ b → nat_eq d.call.0 c.call.0 ≡ false →
-        cond a (Some d) (cond b (Some c) (find_call m calls)) ≡ cond b (Some c) (cond a (Some d) (find_call m calls))
-    swap true true e f apart = let one : nat_eq d.call.0 c.call.0 ≡ true = grind arith in absurd (cc (one, apart))
-    swap true false e f apart = refl
-    swap false b e f apart = refl
-
-    go : find_call m (with_call c calls) ≡ cond (nat_eq c.call.0 m.0) (Some c) (find_call m calls) → (a b : Bool) →
-        nat_eq d.call.0 c.call.0 ≡ a →
-        find_call m (cond a (c ∷ calls) (cond b (c ∷ d ∷ calls) (d ∷ with_call c calls))) ≡ cond
-        (nat_eq c.call.0 m.0) (Some c) (cond (nat_eq d.call.0 m.0) (Some d) (find_call m calls))
-    go below true b e = rw (number-by d.call.0 c.call.0 m.0 e) (twice (nat_eq c.call.0 m.0))
-    go below false true e = refl
-    go below false false e = rw below (swap (nat_eq d.call.0 m.0) (nat_eq c.call.0 m.0) refl refl e)
+find-with_call c calls m = keyed.find-put call_order (λ (d : CallRec). d.call) c calls m
 
 pub find-without_call : (k : CallNo) (calls : List CallRec) (m : CallNo) →
     find_call m (without_call k calls) ≡ cond (nat_eq k.0 m.0) None (find_call m calls)
-find-without_call k [] m =
-    elim (nat_eq k.0 m.0) as (λ b. find_call m [] ≡ cond b None (find_call m [])) [ true ↦ refl | false ↦ refl ]
-find-without_call k (d ∷ calls) m = go (find-without_call k calls m) (nat_eq d.call.0 k.0) (nat_eq k.0 m.0) refl refl
-  where
-    go : find_call m (without_call k calls) ≡ cond (nat_eq k.0 m.0) None (find_call m calls) → (a b : Bool) →
-        nat_eq d.call.0 k.0 ≡ a → nat_eq k.0 m.0 ≡ b →
-        find_call m (cond (not a) (d ∷ without_call k calls) (without_call k calls)) ≡ cond b None
-        (cond (nat_eq d.call.0 m.0) (Some d) (find_call m calls))
-    go below true true e f = rw (below, f) refl
-    go below true false e f = rw (below, number-by d.call.0 k.0 m.0 e, f) refl
-    go below false true e f = let apart : nat_eq d.call.0 m.0 ≡ false = grind arith in rw (below, f, apart) refl
-    go below false false e f = rw (below, f) refl
+find-without_call k calls m = keyed.find-without call_order (λ (d : CallRec). d.call) k calls m
 
 -- Order
 
 pub all-with_call : (P : CallRec → Type 0) (c : CallRec) (calls : List CallRec) → P c → AllByRecursion P calls →
     AllByRecursion P (with_call c calls)
-all-with_call P c [] here all = (here, tt)
-all-with_call P c (d ∷ calls) here all =
-    elim (nat_eq d.call.0 c.call.0) as (λ a. AllByRecursion P
-    (cond a (c ∷ calls) (cond (nat_lt c.call.0 d.call.0) (c ∷ d ∷ calls) (d ∷ with_call c calls)))) [
-      | true ↦ (here, all.1)
-      | false ↦ elim (nat_lt c.call.0 d.call.0) as
-          (λ b. AllByRecursion P (cond b (c ∷ d ∷ calls) (d ∷ with_call c calls))) [
-            | true ↦ (here, all)
-            | false ↦ (all.0, all-with_call P c calls here all.1)
-          ]
-    ]
+all-with_call P c calls here all = keyed.all-put call_order (λ (d : CallRec). d.call) P c calls here all
 
 pub rise-with_call : (c : CallRec) (calls : List CallRec) → CallsRise calls → CallsRise (with_call c calls)
-rise-with_call c [] rise = (tt, tt)
-rise-with_call c (d ∷ calls) rise =
-    go (rise-with_call c calls rise.1) (nat_eq d.call.0 c.call.0) (nat_lt c.call.0 d.call.0) refl refl
-  where
-    go : CallsRise (with_call c calls) → (a b : Bool) → nat_eq d.call.0 c.call.0 ≡ a → nat_lt c.call.0 d.call.0 ≡ b →
-        CallsRise (cond a (c ∷ calls) (cond b (c ∷ d ∷ calls) (d ∷ with_call c calls)))
-    go below true b e f =
-        let is : d.call.0 ≡ c.call.0 = grind arith in (all-then _ _ calls (λ x h. omega arith) rise.0, rise.1)
-    go below false true e f =
-        let less : c.call.0 < d.call.0 = grind arith in ((less, all-then _ _ calls (λ x h. omega arith) rise.0), rise)
-    go below false false e f =
-        let less : d.call.0 < c.call.0 = grind arith in
-        (all-with_call (λ x. d.call.0 < x.call.0) c calls less rise.0, below)
+rise-with_call c calls rise =
+    keyed.rise-put call_order (λ (d : CallRec). d.call) (λ c d. c.call.0 < d.call.0) below-test test-below c calls rise
 
 pub rise-without_call : (k : CallNo) (calls : List CallRec) → CallsRise calls → CallsRise (without_call k calls)
-rise-without_call k [] rise = tt
-rise-without_call k (d ∷ calls) rise =
-    elim (not (nat_eq d.call.0 k.0)) as (λ b. CallsRise (cond b (d ∷ without_call k calls) (without_call k calls))) [
-      | true ↦ (
-        all-filter (λ x. d.call.0 < x.call.0) (λ x. not (nat_eq x.call.0 k.0)) calls rise.0,
-        rise-without_call k calls rise.1,
-      )
-      | false ↦ rise-without_call k calls rise.1
-    ]
+rise-without_call k calls rise =
+    keyed.rise-filter (λ c d. c.call.0 < d.call.0) (λ c. not (same_call c.call k)) calls rise
 
 found-below : (d : CallRec) (calls : List CallRec) (k : CallNo) (c : CallRec) →
     AllByRecursion (λ x. d.call.0 < x.call.0) calls → find_call k calls ≡ Some c → find_call k (d ∷ calls) ≡ Some c
 found-below d calls k c above found =
-    let is = found-number k calls c found in
-    let less : d.call.0 < c.call.0 = found-call-all (λ x. d.call.0 < x.call.0) k calls c found above in
-    let number : c.call.0 ≡ k.0 = ap (λ x. x.0) is in
-    let apart : nat_eq d.call.0 k.0 ≡ false = grind arith in
-    rw apart found
+    keyed.found-below call_order (λ (d : CallRec). d.call) (λ c d. c.call.0 < d.call.0) below-test test-below d calls k
+    c above found
 
 -- what holds of each call that is found holds of all
 pub all-calls_found : (P : CallRec → Type 0) (calls : List CallRec) → CallsRise calls →
     ((k : CallNo) (c : CallRec) → find_call k calls ≡ Some c → P c) → AllByRecursion P calls
-all-calls_found P [] rise each = tt
-all-calls_found P (d ∷ calls) rise each = (
-  each d.call d (rw (same d.call.0) refl),
-  all-calls_found P calls rise.1 (λ k c found. each k c (found-below d calls k c rise.0 found)),
-)
+all-calls_found P calls rise each =
+    keyed.all-found call_order (λ (d : CallRec). d.call) (λ c d. c.call.0 < d.call.0) below-test test-below P calls
+    rise each
 
 -- The call of an LSP
 
@@ -150,7 +77,7 @@ called-found l (d ∷ calls) c rise called =
     elim (names l d) as (λ b. cond b (Some d) (call_with l calls) ≡ Some c →
     find_call c.call (d ∷ calls) ≡ Some c) [
       | true ↦ λ e. let is : d ≡ c = cc in subst (λ x. find_call x.call (d ∷ calls) ≡ Some x) is
-          (rw (same d.call.0) refl)
+          (rw (same_number-refl d.call.0) refl)
       | false ↦ λ e. found-below d calls c.call c rise.0 (called-found l calls c rise.1 e)
     ] called
 
@@ -195,7 +122,7 @@ one-filtered p (d ∷ calls) k c rise found passes one =
     go : (find_call k calls ≡ Some c → length (filter p calls) ≡ 1) → (b : Bool) → p d ≡ b →
         length (filter p (d ∷ calls)) ≡ 1
     go later true e =
-        let first : d.call ≡ k = one d.call d (rw (same d.call.0) refl) e in
+        let first : d.call ≡ k = one d.call d (rw (same_number-refl d.call.0) refl) e in
         let others : AllByRecursion (λ x. p x ≡ false) calls =
         all-calls_found (λ x. p x ≡ false) calls rise.1 (λ m x f. other first m x f (p x) refl) in
         rw (e, none-filtered p calls others) refl

@@ -1,38 +1,13 @@
 -- Labels at their fibres, and the labels that a leg takes.
-use Rattle.std.proofs.Common.{◌≡◌, ℕ, Bool, true, false, nat_eq, refl, ap, arith, inl, inr}
+use Rattle.std.proofs.Common.{◌≡◌, ℕ, Bool, true, false, nat_eq, refl, ap, inl, inr}
 use Rattle.std.specs.Prelude.{◌⊎◌, ◌&&◌, ◌||◌, Option, Some, None}
 use Rattle.ason_base.specs.declared.ids.Fibre.{Fibre}
 use Rattle.ason_base.specs.declared.tables.Leg.{Leg}
-use Rattle.ason_base.specs.Lsps.{same_bool, same_fibre}
+use Rattle.ason_base.specs.Lsps.{same_fibre}
+use Rattle.ason_base.proofs.KeyOrder.{same_number-eq, same_number-refl}
+pub use Rattle.ason_base.proofs.LspOrder.{same_fibre-eq, same_fibre-refl}
 use Rattle.mesh_rules.specs.Legs.{is_at, is_on, reverse_of, takes}
 use Rattle.mesh_nodes.proofs.Cases.{both_left, both_right}
-
--- Fibres
-
-same_number : (a b : ℕ) → nat_eq a b ≡ true → a ≡ b
-same_number a b e = grind arith
-
-number-same : (a : ℕ) → nat_eq a a ≡ true
-number-same a = grind arith
-
-same_way : (a b : Bool) → same_bool a b ≡ true → a ≡ b
-same_way true true e = refl
-same_way true false e = absurd (cc e)
-same_way false true e = absurd (cc e)
-same_way false false e = refl
-
-way-same : (a : Bool) → same_bool a a ≡ true
-way-same true = refl
-way-same false = refl
-
-pub same_fibre-eq : (f g : Fibre) → same_fibre f g ≡ true → f ≡ g
-same_fibre-eq f g e =
-    let link = same_number f.link.0 g.link.0 (both_left (nat_eq f.link.0 g.link.0) _ e) in
-    let way = same_way f.forward g.forward (both_right (nat_eq f.link.0 g.link.0) _ e) in
-    λ i. record { link = record { 0 = link i }; forward = way i }
-
-pub same_fibre-refl : (f : Fibre) → same_fibre f f ≡ true
-same_fibre-refl f = rw (number-same f.link.0) (way-same f.forward)
 
 -- One of two
 
@@ -57,12 +32,12 @@ at-is None label f x e = absurd (cc e)
 at-is (Some g) None f x e = absurd (let none : false ≡ true = both_right (same_fibre g f) false e in cc none)
 at-is (Some g) (Some y) f x e = (
   ap Some (same_fibre-eq g f (both_left (same_fibre g f) (nat_eq y x) e)),
-  ap Some (same_number y x (both_right (same_fibre g f) (nat_eq y x) e)),
+  ap Some (same_number-eq y x (both_right (same_fibre g f) (nat_eq y x) e)),
 )
 
 pub is-at : (o : Option Fibre) (label : Option ℕ) (f : Fibre) (x : ℕ) → o ≡ Some f → label ≡ Some x →
     is_at o label f x ≡ true
-is-at o label f x fibre is = rw (fibre, is, same_fibre-refl f) (number-same x)
+is-at o label f x fibre is = rw (fibre, is, same_fibre-refl f) (same_number-refl x)
 
 pub none-at : (o : Option Fibre) (f : Fibre) (x : ℕ) → is_at o None f x ≡ false
 none-at o f x = go (is_on o f)

@@ -1,5 +1,5 @@
 -- The calls of one ingress, in order of number.
-use Rattle.std.specs.Prelude.{◌==◌, ◌||◌, nat_lt, nat_le, Bool, true, false, not, List, [], ◌∷◌, find, filter, Option, Some, None, if◌then◌else◌}
+use Rattle.std.specs.Prelude.{◌==◌, ◌||◌, nat_lt, Bool, true, false, not, List, [], ◌∷◌, find, filter, Option, Some, None}
 use Rattle.ason_base.specs.declared.ids.CallNo.{CallNo}
 use Rattle.ason_base.specs.declared.ids.Lsp.{Lsp}
 use Rattle.ason_base.specs.declared.calls.CallState.{CallState}
@@ -7,9 +7,16 @@ use Rattle.ason_base.specs.declared.calls.CallState.TheVariants.{Asking, Bare, B
 use Rattle.ason_base.specs.declared.calls.Cause.{Cause}
 use Rattle.ason_base.specs.declared.calls.Cause.TheVariants.{Unset}
 use Rattle.ason_base.specs.declared.tables.CallRec.{CallRec}
+use Rattle.ason_base.specs.InOrder.{put_by}
 use Rattle.ason_base.specs.Lsps.{is_lsp}
 use Rattle.mesh_rules.specs.declared.changes.CallChange.{CallChange}
 use Rattle.mesh_rules.specs.declared.changes.CallChange.TheVariants.{Goes, Put}
+
+abbrev pub same_call : CallNo → CallNo → Bool
+same_call n m = n.0 == m.0
+
+abbrev pub earlier_call : CallNo → CallNo → Bool
+earlier_call n m = nat_lt n.0 m.0
 
 abbrev pub find_call : CallNo → List CallRec → Option CallRec
 find_call n calls = find (λ c. c.call.0 == n.0) calls
@@ -25,20 +32,9 @@ call_with l calls = find (names l) calls
 abbrev pub without_call : CallNo → List CallRec → List CallRec
 without_call n calls = filter (λ c. not (c.call.0 == n.0)) calls
 
--- a call of this number, or of a greater one
-abbrev pub is_call_at_or_after : CallNo → CallRec → Bool
-is_call_at_or_after n d = nat_le n.0 d.call.0
-
-abbrev pub has_number : Option CallRec → CallNo → Bool
-has_number None n = false
-has_number (Some c) n = c.call.0 == n.0
-
 -- with this call, in place of the one of its number or before the greater ones
 abbrev pub with_call : CallRec → List CallRec → List CallRec
-with_call c [] = c ∷ []
-with_call c (d ∷ calls) =
-    if d.call.0 == c.call.0 then c ∷ calls else (if nat_lt c.call.0 d.call.0 then c ∷ d ∷ calls
-    else d ∷ with_call c calls)
+with_call c calls = put_by same_call earlier_call (λ d. d.call) c calls
 
 abbrev pub call_changed : CallChange → List CallRec → List CallRec
 call_changed (Goes n) calls = without_call n calls

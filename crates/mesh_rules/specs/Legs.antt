@@ -11,6 +11,7 @@ use Rattle.ason_base.specs.declared.calls.Role.{Role}
 use Rattle.ason_base.specs.declared.calls.Role.TheVariants.{Work, Back}
 use Rattle.ason_base.specs.declared.risks.Risk.{Risk}
 use Rattle.ason_base.specs.declared.tables.Leg.{Leg}
+use Rattle.ason_base.specs.InOrder.{put_by}
 use Rattle.ason_base.specs.Labels.{has, least, up_to}
 use Rattle.ason_base.specs.Lsps.{same_lsp, lsp_before, same_fibre}
 use Rattle.ason_base.specs.Risks.{have_common}
@@ -28,10 +29,6 @@ find_leg l legs = find (λ g. same_lsp g.lsp l) legs
 abbrev pub without_leg : Lsp → List Leg → List Leg
 without_leg l legs = filter (λ g. not (same_lsp g.lsp l)) legs
 
--- a leg of this LSP, or of a later one
-abbrev pub is_at_or_after : Lsp → Leg → Bool
-is_at_or_after l h = same_lsp h.lsp l || lsp_before l h.lsp
-
 -- the leg of an LSP that a call names
 abbrev pub leg_of : Option Lsp → List Leg → Option Leg
 leg_of None legs = None
@@ -43,9 +40,7 @@ has_lsp (Some g) l = same_lsp g.lsp l
 
 -- with this leg, in place of the one of its LSP or before the later ones
 abbrev pub with_leg : Leg → List Leg → List Leg
-with_leg g [] = g ∷ []
-with_leg g (h ∷ legs) =
-    if same_lsp h.lsp g.lsp then g ∷ legs else (if lsp_before g.lsp h.lsp then g ∷ h ∷ legs else h ∷ with_leg g legs)
+with_leg g legs = put_by same_lsp lsp_before (λ h. h.lsp) g legs
 
 abbrev pub leg_changed : LegChange → List Leg → List Leg
 leg_changed (Goes l) legs = without_leg l legs

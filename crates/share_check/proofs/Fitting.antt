@@ -12,12 +12,12 @@ use Rattle.ason_base.specs.Lsps.{same_fibre, same_lsp}
 use Rattle.ason_base.specs.Risks.{has_risk, same_risk}
 use Rattle.ason_base.proofs.MaskMembers.{filter-agree, filter-filter}
 use Rattle.ason_base.proofs.Ordered.{any-there, there-any}
-use Rattle.ason_base.proofs.RiskOrder.{contains-has_risk, has_risk-contains}
+use Rattle.ason_base.proofs.KeyedLists.{filter-true}
+use Rattle.ason_base.proofs.LspOrder.{same_lsp-refl}
+use Rattle.ason_base.proofs.RiskOrder.{contains-has_risk, has_risk-contains, same_risk-eq, same_risk-refl}
 use Rattle.share_check.specs.declared.guarded.GuardedRisk.{GuardedRisk}
 use Rattle.share_check.specs.declared.guarded.Meets.{Meets}
 use Rattle.share_check.specs.Guards.{Guard, IsFirstMet, LabelTally, NoneMet, fits, fitting, guard_on, guards_of, guards_on, has_on, is_guard, is_guarded, is_met, is_on, meets}
-use Rattle.share_check.proofs.GuardOrder.{same_risk-eq, same_risk-refl}
-use Rattle.share_check.proofs.LspOrder.{same_lsp-refl}
 use Rattle.share_check.proofs.Places.{both_left, both_right, or_none}
 
 -- Label by label
@@ -27,13 +27,9 @@ pub take_item : {X : Type 0} (xs : List X) (i : ℕ) (x : X) → i < length xs �
     take (i + 1) xs ≡ take i xs ++ x ∷ []
 take_item xs i x below is = take_more xs i x below ∙ ap (λ y. take i xs ++ y ∷ []) (sym is)
 
-all-left : (xs : List ℕ) → filter (λ x. true) xs ≡ xs
-all-left [] = refl
-all-left (x ∷ xs) = ap (λ ys. x ∷ ys) (all-left xs)
-
 -- where nothing is guarded each label fits
 pub fitting-none : (f : Fibre) (r : List Risk) → fitting [] f r ≡ up_to 80
-fitting-none f r = all-left (up_to 80)
+fitting-none f r = filter-true (up_to 80)
 
 module _ (f : Fibre) (r : List Risk) (s : List Guard) (t : LabelTally) where
   -- a test of the guards of one label

@@ -1,7 +1,5 @@
 pub mod Fitting
 mod GuardOrder
-pub mod Inserted
-mod LspOrder
 pub mod Places
 mod Tallies
 mod TallyChanges

@@ -5,7 +5,8 @@ use Rattle.ason_base.specs.declared.ids.Fibre.{Fibre}
 use Rattle.ason_base.specs.declared.ids.Lsp.{Lsp}
 use Rattle.ason_base.specs.Lsps.{same_fibre, same_lsp}
 use Rattle.share_check.specs.Guards.{Guard, GuardsJust, GuardsNone, is_guarded, is_there}
-use Rattle.share_check.proofs.LspOrder.{same_fibre-eq, same_lsp-eq, same_number-eq}
+use Rattle.ason_base.proofs.KeyOrder.{same_number-eq}
+use Rattle.ason_base.proofs.LspOrder.{same_fibre-eq, same_lsp-eq}
 
 -- Tests
 

@@ -3,6 +3,7 @@ use Rattle.std.proofs.Common.{◌≡◌, ◌+◌, ◌<◌, ℕ, suc, Bool, true,
 use Rattle.std.specs.Prelude.{◌&&◌, ◌||◌, Some, None, map, position}
 use Rattle.std.specs.List.{AllByRecursion, list_any, position_or_len}
 use Rattle.std.proofs.lemmas.List.Folds.{list_any-append}
+use Rattle.std.proofs.lemmas.List.Quantifiers.{position-Some}
 use Rattle.ason_base.specs.declared.ids.Fibre.{Fibre}
 use Rattle.ason_base.specs.declared.ids.Lsp.{Lsp}
 use Rattle.ason_base.specs.declared.risks.Risk.{Risk}
@@ -10,7 +11,8 @@ use Rattle.ason_base.specs.Lsps.{same_fibre, same_lsp}
 use Rattle.ason_base.specs.Risks.{has_risk}
 use Rattle.share_check.specs.declared.guarded.GuardedRisk.{GuardedRisk}
 use Rattle.share_check.specs.Guards.{AreApart, Guard, GuardsJust, LabelTally, guard_on, guarded_at, guards_of, guards_on, has_guard, has_on, is_at, is_guarded, with_guarded}
-use Rattle.share_check.proofs.LspOrder.{same_fibre-eq, same_number-eq}
+use Rattle.ason_base.proofs.KeyOrder.{same_number-eq}
+use Rattle.ason_base.proofs.LspOrder.{same_fibre-eq}
 use Rattle.share_check.proofs.Places.{both_left, both_right, or_none}
 
 one_more : (n : ℕ) → 1 + n ≡ suc n
@@ -112,6 +114,15 @@ pub record IsRead (f : Fibre) (x : ℕ) (ts : List LabelTally) (i : ℕ) (t : La
   pub place : position_or_len (is_at f x) ts ≡ i
   pub within : i < length ts
   pub read : t ≡ get_or ts i t
+
+-- read at the place where it was found
+pub is-read : (f : Fibre) (x : ℕ) (ts : List LabelTally) (n : ℕ) (t : LabelTally) →
+    position (is_at f x) ts ≡ Some n → t ≡ get_or ts n t → IsRead f x ts n t
+is-read f x ts n t found read = record {
+  place = place-is f x ts n found;
+  within = (position-Some (is_at f x) ts n t found).0;
+  read = read;
+}
 
 -- its risks are those of the label
 pub read-guarded : (f : Fibre) (x : ℕ) (ts : List LabelTally) (i : ℕ) (t : LabelTally) → IsRead f x ts i t →

@@ -11,7 +11,8 @@ use Rattle.ason_base.specs.Risks.{has_risk, same_risk}
 use Rattle.share_check.specs.declared.guarded.GuardedRisk.{GuardedRisk}
 use Rattle.share_check.specs.declared.guarded.Meets.{Meets}
 use Rattle.share_check.specs.Guards.{AreApart, GuardsNone, IsFirstMet, IsLeastMet, LabelTally, NoneMet, guarded_at, guards_of, guards_on, has_guard, is_at, is_guard, unguarded}
-use Rattle.share_check.proofs.LspOrder.{same_fibre-eq, same_fibre-refl, same_lsp-eq, same_lsp-refl, same_number-eq, same_number-refl}
+use Rattle.ason_base.proofs.KeyOrder.{same_number-eq, same_number-refl}
+use Rattle.ason_base.proofs.LspOrder.{same_fibre-eq, same_fibre-refl, same_lsp-eq, same_lsp-refl}
 use Rattle.share_check.proofs.Places.{both_left, both_right}
 use Rattle.share_check.proofs.Tallies.{guarded-is}
 use Rattle.share_check.proofs.Fitting.{NoneGuards}

@@ -9,11 +9,13 @@ use Rattle.ason_base.specs.declared.risks.Risk.TheVariants.{Srlg}
 use Rattle.ason_base.specs.Lsps.{lsp_before, same_lsp}
 use Rattle.ason_base.specs.Risks.{AreRising, is_below, same_risk}
 use Rattle.ason_base.proofs.Ordered.{any-there, there-any}
-use Rattle.ason_base.proofs.RiskOrder.{Apart, below-trans, not-below-itself}
+use Rattle.ason_base.proofs.Inserted.{same_or_before}
+use Rattle.ason_base.proofs.KeyOrder.{not-back}
+use Rattle.ason_base.proofs.LspOrder.{before-apart, same_lsp-eq, same_lsp-refl}
+use Rattle.ason_base.proofs.RiskOrder.{Apart, below-trans, not-below-itself, risk_key_order, same_risk-eq, same_risk-refl}
 use Rattle.share_check.specs.declared.guarded.GuardedRisk.{GuardedRisk}
 use Rattle.share_check.specs.Guards.{AreInOrder, IsFirstMet, NoneMet, has_guard, is_before, is_guard}
-use Rattle.share_check.proofs.GuardOrder.{by-lsp, never-below, same_risk-eq, same_risk-refl}
-use Rattle.share_check.proofs.LspOrder.{before-apart, same_lsp-eq, same_lsp-refl}
+use Rattle.share_check.proofs.GuardOrder.{by-lsp}
 use Rattle.share_check.proofs.Places.{both_left, both_right}
 
 abbrev pub risks_in : List GuardedRisk → List Risk
@@ -28,27 +30,18 @@ abbrev pub NoneFalls : List Risk → Type 0
 NoneFalls risks =
     (i k : ℕ) (d : Risk) → i ≤ k → k < length risks → is_below (get_or risks k d) (get_or risks i d) ≡ false
 
-same_or_before : (i k : ℕ) → i ≤ k → (i < k) ⊎ (i ≡ k)
-same_or_before i k le = grind arith
-
 before_or_same : (k i : ℕ) → k < i + 1 → (k < i) ⊎ (k ≡ i)
 before_or_same k i h = grind arith
 
 before_or_from : (m j : ℕ) → (m < j) ⊎ (j ≤ m)
 before_or_from m j = grind arith
 
-itself : (r : Risk) → is_below r r ≡ false
-itself r = go (is_below r r) refl
-  where
-    go : (b : Bool) → is_below r r ≡ b → b ≡ false
-    go true e = absurd (not-below-itself r e)
-    go false e = refl
-
 -- in a rising list no later risk is below an earlier one
 pub rising-falls : (risks : List Risk) → AreRising risks → NoneFalls risks
 rising-falls risks rising i k d le within = elim (same_or_before i k le) [
-  | inl less ↦ never-below (get_or risks i d) (get_or risks k d) (rising i k d less within)
-  | inr same ↦ subst (λ n. is_below (get_or risks n d) (get_or risks i d) ≡ false) same (itself (get_or risks i d))
+  | inl less ↦ not-back risk_key_order (get_or risks i d) (get_or risks k d) (rising i k d less within)
+  | inr same ↦ subst (λ n. is_below (get_or risks n d) (get_or risks i d) ≡ false) same
+      (risk_key_order.never (get_or risks i d))
 ]
 
 -- each has one risk
@@ -79,7 +72,7 @@ ordered-falls guarded ordered i k d le within = elim (same_or_before i k le) [
       (subst (λ r. is_below (get_or guarded k some).risk r ≡ false) (sym (risk-at guarded i some))
       (first-test _ _ (ordered i k some less (subst (λ n. k < n) (length-risks guarded) within)))))
   | inr same ↦ subst (λ n. is_below (get_or (risks_in guarded) n d) (get_or (risks_in guarded) i d) ≡ false) same
-      (itself (get_or (risks_in guarded) i d))
+      (risk_key_order.never (get_or (risks_in guarded) i d))
 ]
   where
     nobody : Lsp

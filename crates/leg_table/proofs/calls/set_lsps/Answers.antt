@@ -1,18 +1,13 @@
-use Rattle.std.proofs.Common.{sym, ◌∙◌, ap, set}
-use Rattle.std.specs.Prelude.{position}
-use Rattle.leg_table.specs.Tables.{with_lsps, is_of_number}
-use Rattle.leg_table.proofs.Halved.{changed-at, changed-nowhere}
+use Rattle.leg_table.specs.Tables.{is_of_number, with_lsps}
+use Rattle.leg_table.proofs.Halved.{changed-found, changed-none}
 use Rattle.leg_table.proofs.calls.set_lsps.Goals as goal
 
 pub returns-in-Some-clause-changed : goal.returns-in-Some-clause-changed
 returns-in-Some-clause-changed c =
-    let place = sym (c.in-Some.ensures ∙ ap (position (is_of_number c.args.number)) c.deref.ensures.value) in
-    let items = c.args.calls.now.items in
-    ap (set items c.in-Some.place) c.name_lsps.ensures
-    ∙ changed-at (is_of_number c.args.number) (with_lsps c.args.work c.args.back) items c.in-Some.place
-    c.index_mut.result.now place c.index_mut.ensures.value
+    changed-found (is_of_number c.args.number) (with_lsps c.args.work c.args.back) c.in-Some.ensures
+    c.deref.ensures.value c.index_mut.ensures.value c.name_lsps.ensures
 
 pub returns-in_default-clause-changed : goal.returns-in_default-clause-changed
 returns-in_default-clause-changed c =
-    let none = sym (c.in_default.ensures ∙ ap (position (is_of_number c.args.number)) c.deref.ensures.value) in
-    sym (changed-nowhere (is_of_number c.args.number) (with_lsps c.args.work c.args.back) c.args.calls.now.items none)
+    changed-none (is_of_number c.args.number) (with_lsps c.args.work c.args.back) c.in_default.ensures
+    c.deref.ensures.value

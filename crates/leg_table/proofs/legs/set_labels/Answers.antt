@@ -1,20 +1,13 @@
-use Rattle.std.proofs.Common.{sym, ◌∙◌, ap, set}
-use Rattle.std.specs.Prelude.{position}
-use Rattle.leg_table.specs.Tables.{with_labels, is_of_lsp}
-use Rattle.leg_table.proofs.Halved.{changed-at, changed-nowhere}
+use Rattle.leg_table.specs.Tables.{is_of_lsp, with_labels}
+use Rattle.leg_table.proofs.Halved.{changed-found, changed-none}
 use Rattle.leg_table.proofs.legs.set_labels.Goals as goal
 
 pub returns-in-Some-clause-changed : goal.returns-in-Some-clause-changed
 returns-in-Some-clause-changed c =
-    let place = sym (c.in-Some.ensures ∙ ap (position (is_of_lsp c.args.lsp)) c.deref.ensures.value) in
-    let items = c.args.legs.now.items in
-    ap (set items c.in-Some.place) c.set_labels.ensures
-    ∙ changed-at (is_of_lsp c.args.lsp) (with_labels c.args.in_label c.args.out_label) items c.in-Some.place
-    c.index_mut.result.now place
-    c.index_mut.ensures.value
+    changed-found (is_of_lsp c.args.lsp) (with_labels c.args.in_label c.args.out_label) c.in-Some.ensures
+    c.deref.ensures.value c.index_mut.ensures.value c.set_labels.ensures
 
 pub returns-in_default-clause-changed : goal.returns-in_default-clause-changed
 returns-in_default-clause-changed c =
-    let none = sym (c.in_default.ensures ∙ ap (position (is_of_lsp c.args.lsp)) c.deref.ensures.value) in
-    sym (changed-nowhere (is_of_lsp c.args.lsp) (with_labels c.args.in_label c.args.out_label) c.args.legs.now.items
-    none)
+    changed-none (is_of_lsp c.args.lsp) (with_labels c.args.in_label c.args.out_label) c.in_default.ensures
+    c.deref.ensures.value

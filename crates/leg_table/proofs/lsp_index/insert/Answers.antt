@@ -1,18 +1,16 @@
-use Rattle.std.proofs.Common.{◌≤◌, length, sym, subst, ◌∙◌, ap}
+use Rattle.std.proofs.Common.{sym, subst, ◌∙◌, ap}
 use Rattle.std.specs.List.{position_or_len}
 use Rattle.leg_table.specs.LspIndexes.{IndexRises, has_entry, is_entry, is_from}
-use Rattle.share_check.proofs.Inserted.{any-insert}
+use Rattle.ason_base.proofs.Inserted.{any-insert}
 use Rattle.leg_table.proofs.LspIndex.{entry-rises}
 use Rattle.leg_table.proofs.lsp_index.insert.Goals as goal
 
 pub returns-clause-rising : goal.returns-clause-rising
 returns-clause-rising c =
     let e = c.args.entry in
-    let n = c.place_of-place.result in
     let place = c.place_of-place.ensures.place ∙ ap (position_or_len (is_from e)) c.deref.ensures.value in
-    let within = subst (λ xs. n ≤ length xs) c.deref.ensures.value c.place_of-place.ensures.within in
     subst IndexRises (sym c.insert_here.ensures.items)
-    (entry-rises e c.args.entries.now.items n c.requires.rising place within c.requires.new)
+    (entry-rises e c.args.entries.now.items c.place_of-place.result c.requires.rising place c.requires.new)
 
 pub returns-clause-has : goal.returns-clause-has
 returns-clause-has c = λ e.

@@ -1,7 +1,7 @@
 use Rattle.std.proofs.Common.{◌≡◌, ◌<◌, ◌≤◌, ◌∙◌, ap, false, get_or, length, subst, sym, true}
 use Rattle.share_check.specs.Guards.{AreInOrder, has_guard, is_before, is_guard}
 use Rattle.share_check.proofs.GuardOrder.{put-in-order}
-use Rattle.share_check.proofs.Inserted.{any-insert}
+use Rattle.ason_base.proofs.Inserted.{any-insert}
 use Rattle.share_check.proofs.guarded.insert.Goals as goal
 
 pub returns-clause-ordered : goal.returns-clause-ordered

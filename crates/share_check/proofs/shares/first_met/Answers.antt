@@ -1,8 +1,7 @@
 use Rattle.std.proofs.Common.{◌∙◌, ap, subst, sym}
-use Rattle.std.proofs.lemmas.List.Quantifiers.{position-Some}
 use Rattle.std.specs.Prelude.{IfNone, IfSome}
 use Rattle.share_check.specs.Guards.{IsFirstMet, NoneMet, has_guard, is_at}
-use Rattle.share_check.proofs.Tallies.{IsRead, place-is, read-guarded}
+use Rattle.share_check.proofs.Tallies.{is-read, read-guarded}
 use Rattle.share_check.proofs.TallyChanges.{no-risks, none-found}
 use Rattle.share_check.proofs.shares.first_met.Goals as goal
 
@@ -19,11 +18,7 @@ returns-in-Some-clause-none c =
     let n = c.in-Some.place in
     let t = c.index-labels-place.result in
     let found = sym c.place_of.ensures ∙ c.in-Some.is in
-    let read : IsRead f x ts n t = record {
-      place = place-is f x ts n found;
-      within = (position-Some (is_at f x) ts n t found).0;
-      read = c.index-labels-place.is;
-    } in
+    let read = is-read f x ts n t found c.index-labels-place.is in
     subst (λ guarded. IfNone c.first_met.result (NoneMet guarded c.args.r.now)) (read-guarded f x ts n t read)
     c.first_met.ensures.none
 
@@ -35,10 +30,6 @@ returns-in-Some-clause-first c =
     let n = c.in-Some.place in
     let t = c.index-labels-place.result in
     let found = sym c.place_of.ensures ∙ c.in-Some.is in
-    let read : IsRead f x ts n t = record {
-      place = place-is f x ts n found;
-      within = (position-Some (is_at f x) ts n t found).0;
-      read = c.index-labels-place.is;
-    } in
+    let read = is-read f x ts n t found c.index-labels-place.is in
     subst (λ guarded. IfSome c.first_met.result (IsFirstMet guarded c.args.r.now)) (read-guarded f x ts n t read)
     c.first_met.ensures.first

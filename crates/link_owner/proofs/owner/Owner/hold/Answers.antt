@@ -2,47 +2,29 @@ use Rattle.std.proofs.Common.{subst}
 use Rattle.std.proofs.lemmas.Result.{on_ok_weaker}
 use Rattle.std.specs.Prelude.{IfErr, IfOk, ◌++◌, ◌∷◌, []}
 use Rattle.link_owner.specs.Claims.{NoClaim, RefusedFor, backup_claim, works_on}
-use Rattle.link_owner.proofs.FibrePlaces.{IsRead, put-back, read-claims}
+use Rattle.link_owner.proofs.FibrePlaces.{is-read, put-back, read-claims}
 use Rattle.link_owner.proofs.owner.Owner.hold.Goals as goal
 
 pub returns-clause-ok : goal.returns-clause-ok
 returns-clause-ok c =
-    let o = c.args.self.now in
-    let r = c.index_mut.result.now in
-    let read : IsRead c.args.f o c.self.inside.fibres.items c.self.inside.lit.items c.place-place.result r =
-    record {
-      there = c.requires.comes_in;
-      first = c.place-place.ensures.first;
-      read = c.index_mut.ensures.value;
-      view = c.self.view_is;
-    } in
+    let read =
+    is-read c.args.f c.args.self.now c.index_mut.result.now c.requires.comes_in c.place-place.ensures.first
+    c.index_mut.ensures.value c.self.view_is in
     on_ok_weaker c.hold.result
     (λ e. put-back read c.hold.new.self (λ claims. claims ++ backup_claim c.args.l c.args.lsp ∷ []) e) c.hold.ensures.ok
 
 pub returns-clause-shareable : goal.returns-clause-shareable
 returns-clause-shareable c =
-    let o = c.args.self.now in
-    let r = c.index_mut.result.now in
-    let read : IsRead c.args.f o c.self.inside.fibres.items c.self.inside.lit.items c.place-place.result r =
-    record {
-      there = c.requires.comes_in;
-      first = c.place-place.ensures.first;
-      read = c.index_mut.ensures.value;
-      view = c.self.view_is;
-    } in
+    let read =
+    is-read c.args.f c.args.self.now c.index_mut.result.now c.requires.comes_in c.place-place.ensures.first
+    c.index_mut.ensures.value c.self.view_is in
     subst (λ claims. IfOk c.hold.result (λ _. NoClaim (works_on c.args.l) claims))
     (read-claims read) c.hold.ensures.fitting
 
 pub returns-clause-fault : goal.returns-clause-fault
 returns-clause-fault c =
-    let o = c.args.self.now in
-    let r = c.index_mut.result.now in
-    let read : IsRead c.args.f o c.self.inside.fibres.items c.self.inside.lit.items c.place-place.result r =
-    record {
-      there = c.requires.comes_in;
-      first = c.place-place.ensures.first;
-      read = c.index_mut.ensures.value;
-      view = c.self.view_is;
-    } in
+    let read =
+    is-read c.args.f c.args.self.now c.index_mut.result.now c.requires.comes_in c.place-place.ensures.first
+    c.index_mut.ensures.value c.self.view_is in
     subst (λ claims. IfErr c.hold.result (RefusedFor (works_on c.args.l) claims))
     (read-claims read) c.hold.ensures.fault

@@ -1,9 +1,8 @@
 use Rattle.std.proofs.Common.{◌≡◌, ◌∙◌, ◌<◌, [], ap, false, length, set, subst, sym}
-use Rattle.std.proofs.lemmas.List.Quantifiers.{position-Some}
 use Rattle.std.specs.List.{position}
 use Rattle.share_check.specs.Guards.{AreApart, GuardsJust, LabelTally, guarded_at, guards_of, has_guard, is_at, is_guarded, unguarded}
 use Rattle.share_check.proofs.Places.{guards-same}
-use Rattle.share_check.proofs.Tallies.{IsRead, apart-with, guarded-is, just-there, place-is, put-back, read-guarded}
+use Rattle.share_check.proofs.Tallies.{apart-with, guarded-is, is-read, just-there, put-back, read-guarded}
 use Rattle.share_check.proofs.TallyChanges.{lsp-guards-none, no-risks, none-found}
 use Rattle.share_check.proofs.shares.Shares.unguard.Goals as goal
 
@@ -16,11 +15,7 @@ invariant_of-self c =
     let t = c.index_mut.result.now in
     let u = c.unguard.new.self in
     let found = sym (c.in-Some.ensures ∙ ap (position (is_at f x)) c.deref.ensures.value) in
-    let read : IsRead f x ts n t = record {
-      place = place-is f x ts n found;
-      within = (position-Some (is_at f x) ts n t found).0;
-      read = c.index_mut.ensures.value;
-    } in
+    let read = is-read f x ts n t found c.index_mut.ensures.value in
     let same : u ≡ record t { guarded = u.guarded } =
     c.unguard.ensures
     ∙ ap (λ gs. record t { guarded = gs }) (sym (ap (λ (s : LabelTally). s.guarded) c.unguard.ensures)) in
@@ -36,11 +31,7 @@ returns-in-Some c =
     let t = c.index_mut.result.now in
     let u = c.unguard.new.self in
     let found = sym (c.in-Some.ensures ∙ ap (position (is_at f x)) c.deref.ensures.value) in
-    let read : IsRead f x ts n t = record {
-      place = place-is f x ts n found;
-      within = (position-Some (is_at f x) ts n t found).0;
-      read = c.index_mut.ensures.value;
-    } in
+    let read = is-read f x ts n t found c.index_mut.ensures.value in
     let left : u.guarded ≡ unguarded l t.guarded = ap (λ (s : LabelTally). s.guarded) c.unguard.ensures in
     let same : u ≡ record t { guarded = u.guarded } =
     c.unguard.ensures ∙ ap (λ gs. record t { guarded = gs }) (sym left) in
