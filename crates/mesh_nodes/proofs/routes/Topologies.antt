@@ -1,4 +1,4 @@
--- A node of a topology that learnt nothing can be asked for routes.
+-- Routes can be asked of the rows of a topology's links, of all and of those of one node.
 use Rattle.std.proofs.Common.{◌≡◌, ◌≢◌, ◌<◌, ◌≤◌, ℕ, suc, Bool, true, false, cond, nat_eq, List, [], ◌∷◌, filter, length, map, refl, sym, ap, subst, arith, Contains, append-nil}
 use Rattle.std.specs.Prelude.{◌&&◌, nat_le}
 use Rattle.std.specs.List.{AllByRecursion}
@@ -12,6 +12,7 @@ use Rattle.ason_base.specs.declared.network.LinkSpec.{LinkSpec}
 use Rattle.ason_base.specs.declared.network.NodeSpec.{NodeSpec}
 use Rattle.ason_base.specs.declared.network.TeRow.{TeRow}
 use Rattle.ason_base.proofs.Bridges.{same_node}
+use Rattle.ason_base.proofs.KeyedLists.{filter-true}
 use Rattle.ason_base.proofs.Ordered.{any-there}
 use Rattle.mesh_rules.specs.Commands.{has_metric}
 use Rattle.mesh_rules.proofs.Topologies.{Rises, each-link, link-metric, links-rise}
@@ -19,16 +20,16 @@ use Rattle.mesh_nodes.specs.Routes.{AreSearchable, IsElsewhere, NewRowsFit}
 use Rattle.mesh_nodes.proofs.Cases.{both_left, both_right}
 use Rattle.mesh_nodes.proofs.routes.Lists.{contains-map}
 
--- what holds of each row of a topology's links holds of those of one node
-of-some : (P : TeRow → Type 0) (nodes : List NodeSpec) (n : NodeId) →
+-- what holds of the row of each link of a topology holds of those of some links
+of-some : (P : TeRow → Type 0) (nodes : List NodeSpec) (p : LinkSpec → Bool) →
     ((l : LinkSpec) → is_link nodes l ≡ true → P (row_of l)) →
     (links : List LinkSpec) → AllByRecursion (λ l. is_link nodes l ≡ true) links →
-    AllByRecursion P (map row_of (filter (touches n) links))
-of-some P nodes n holds [] all = tt
-of-some P nodes n holds (l ∷ links) all = go (touches n l) (of-some P nodes n holds links all.1)
+    AllByRecursion P (map row_of (filter p links))
+of-some P nodes p holds [] all = tt
+of-some P nodes p holds (l ∷ links) all = go (p l) (of-some P nodes p holds links all.1)
   where
-    go : (b : Bool) → AllByRecursion P (map row_of (filter (touches n) links)) →
-        AllByRecursion P (map row_of (cond b (l ∷ filter (touches n) links) (filter (touches n) links)))
+    go : (b : Bool) → AllByRecursion P (map row_of (filter p links)) →
+        AllByRecursion P (map row_of (cond b (l ∷ filter p links) (filter p links)))
     go true others = (holds l all.0, others)
     go false others = others
 
@@ -103,23 +104,28 @@ distinct n p (l ∷ links) rise = go (p l) (distinct l.id.0 p links rise.1)
 
 -- The rows
 
-own-searchable : (t : Network) (n : NodeId) → IsTopology t → AreSearchable (map row_of (filter (touches n) t.links))
-own-searchable t n valid = record {
+-- those of the links that pass
+some-searchable : (t : Network) (p : LinkSpec → Bool) → IsTopology t → AreSearchable (map row_of (filter p t.links))
+some-searchable t p valid = record {
   ends = (
     map (λ m. m.id) t.nodes,
     few-nodes t valid,
     All-from_recursion (λ row. Contains (map (λ m. m.id) t.nodes) row.low × Contains (map (λ m. m.id) t.nodes) row.high)
-        (map row_of (filter (touches n) t.links)) (of-some _ t.nodes n (both-ends t.nodes) t.links (each-link t valid)),
+        (map row_of (filter p t.links)) (of-some _ t.nodes p (both-ends t.nodes) t.links (each-link t valid)),
   );
-  metrics = All-from_recursion (λ row. (1 ≤ row.metric) × (row.metric ≤ 65535))
-      (map row_of (filter (touches n) t.links))
-      (of-some _ t.nodes n (λ l e. metric-is l (link-metric t.nodes l e)) t.links (each-link t valid));
-  links = distinct 0 (touches n) t.links (links-rise t valid);
+  metrics = All-from_recursion (λ row. (1 ≤ row.metric) × (row.metric ≤ 65535)) (map row_of (filter p t.links))
+      (of-some _ t.nodes p (λ l e. metric-is l (link-metric t.nodes l e)) t.links (each-link t valid));
+  links = distinct 0 p t.links (links-rise t valid);
 }
 
+pub rows-searchable : (t : Network) → IsTopology t → AreSearchable (map row_of t.links)
+rows-searchable t valid =
+    subst (λ links. AreSearchable (map row_of links)) (filter-true t.links) (some-searchable t (λ l. true) valid)
+
+-- a node that learnt nothing can be asked for routes
 pub new-rows : NewRowsFit
 new-rows t n valid = record {
   searchable = subst AreSearchable (sym (append-nil (map row_of (filter (touches n) t.links))))
-      (own-searchable t n valid);
+      (some-searchable t (touches n) valid);
   others = All-nil (IsElsewhere n);
 }
