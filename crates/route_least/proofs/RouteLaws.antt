@@ -231,6 +231,12 @@ err_map (Err b) P Q f h = f b h
 
 -- Bans that are told by lists
 
+-- rows that are closed for some links are closed for the same links, read again
+pub rows-are : {rows : List TeRow} {found links : List LinkId} {marks closed : List Bool} → closed ≡ marks →
+    found ≡ links → AreRowsOf rows found marks → AreRowsOf rows links closed
+rows-are {rows} {found} {links} {marks} kept same are =
+    subst (AreRowsOf rows links) (sym kept) (subst (λ ls. AreRowsOf rows ls marks) same are)
+
 module _ (rows : List TeRow) (links : List LinkId) (closed : List Bool) (banned nodes : List NodeId)
     (are : AreRowsOf rows links closed) (same : banned ≡ nodes) (from to : NodeId) where
   node_iff : (n : NodeId) → Contains banned n ↔ Contains nodes n

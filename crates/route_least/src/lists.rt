@@ -2,91 +2,16 @@
 
 ghost use Rattle.std.specs.Prelude.{◌≡◌, ◌<◌, [], ◌∷◌, ◌++◌, All, IfOk, OnErr, OnOk};
 
+use ason_base::Items;
 use ason_base::ids::{LinkId, NodeId, OutOfMemory};
 use std::alloc::Global;
 use std::marker::Model;
 
 /// A list of links.
-#[derive(Drop)]
-pub struct LinkIds {
-    links: Vec<LinkId>,
-}
-
-impl Model for LinkIds {
-    ghost use Rattle.std.specs.Prelude.{List};
-    ghost use Rattle.ason_base.specs.declared.ids.LinkId.{LinkId};
-
-    ghost Value = { List LinkId };
-
-    ghost view = { λ s. s.links.items };
-}
-
-impl LinkIds {
-    /// No link.
-    pub fn new(alloc: Global) -> LinkIds
-        ensures { result ≡ [] }
-    {
-        LinkIds {
-            links: Vec::new(alloc),
-        }
-    }
-
-    /// Adds a link at the end.
-    pub fn push(&mut self, item: LinkId) -> Result<(), OutOfMemory>
-        ensures ok { OnOk result (self.new ≡ self.old ++ item ∷ []) }
-        ensures err { OnErr result (self.new ≡ self.old) }
-    {
-        self.links.push(item)?;
-        Ok(())
-    }
-
-    pub fn items(&self) -> &[LinkId]
-        ensures { result.now ≡ self.now }
-    {
-        &self.links
-    }
-}
+pub type LinkIds = Items<LinkId>;
 
 /// A list of nodes.
-#[derive(Drop)]
-pub struct NodeIds {
-    nodes: Vec<NodeId>,
-}
-
-impl Model for NodeIds {
-    ghost use Rattle.std.specs.Prelude.{List};
-    ghost use Rattle.ason_base.specs.declared.ids.NodeId.{NodeId};
-
-    ghost Value = { List NodeId };
-
-    ghost view = { λ s. s.nodes.items };
-}
-
-impl NodeIds {
-    /// No node.
-    pub fn new(alloc: Global) -> NodeIds
-        ensures { result ≡ [] }
-    {
-        NodeIds {
-            nodes: Vec::new(alloc),
-        }
-    }
-
-    /// Adds a node at the end.
-    pub fn push(&mut self, item: NodeId) -> Result<(), OutOfMemory>
-        ensures ok { OnOk result (self.new ≡ self.old ++ item ∷ []) }
-        ensures err { OnErr result (self.new ≡ self.old) }
-    {
-        self.nodes.push(item)?;
-        Ok(())
-    }
-
-    pub fn items(&self) -> &[NodeId]
-        ensures { result.now ≡ self.now }
-    {
-        &self.nodes
-    }
-}
+pub type NodeIds = Items<NodeId>;
 
 /// Nodes with the least cost of a walk that leads there from the start, rising by node. Nodes to which no walk leads aren't there.
 #[derive(Drop)]

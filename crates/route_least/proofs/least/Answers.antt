@@ -4,9 +4,8 @@ use Rattle.ason_base.specs.declared.ids.LinkId.{LinkId}
 use Rattle.ason_base.specs.declared.ids.NodeId.{NodeId}
 use Rattle.ason_base.specs.declared.network.TeRow.{TeRow}
 use Rattle.route_least.specs.Answers.{IsLeastFound, IsRefusal}
-use Rattle.route_least.specs.Bans.{AreRowsOf}
 use Rattle.route_least.specs.Network.{IsClosed, IsPrepared}
-use Rattle.route_least.proofs.RouteLaws.{err_map, least_certificate, least_potential, least_route, least_refusal, ok_map}
+use Rattle.route_least.proofs.RouteLaws.{err_map, least_certificate, least_potential, least_route, least_refusal, ok_map, rows-are}
 use Rattle.route_least.proofs.least.Goals as goal
 
 pub least-requires : goal.least-requires
@@ -19,9 +18,7 @@ least-requires c = (
 pub returns-clause-route : goal.returns-clause-route
 returns-clause-route c =
     let rows = c.args.rows.now in
-    let are : AreRowsOf rows c.args.banned.now.links c.deref.result.now =
-    subst (AreRowsOf rows c.args.banned.now.links) (sym c.deref.ensures.value)
-    (subst (λ ls. AreRowsOf rows ls c.in_ok-closed.closed.items) c.items.ensures c.in_ok-closed.ensures) in
+    let are = rows-are c.deref.ensures.value c.items.ensures c.in_ok-closed.ensures in
     ok_map c.least.result (IsLeastFound rows c.deref.result.now c.items-2.result.now c.args.from c.args.to) _
     (least_route rows c.args.banned.now.links c.deref.result.now c.items-2.result.now c.args.banned.now.nodes are
     c.items-2.ensures c.args.from c.args.to)
@@ -30,9 +27,7 @@ returns-clause-route c =
 pub returns-clause-potential : goal.returns-clause-potential
 returns-clause-potential c =
     let rows = c.args.rows.now in
-    let are : AreRowsOf rows c.args.banned.now.links c.deref.result.now =
-    subst (AreRowsOf rows c.args.banned.now.links) (sym c.deref.ensures.value)
-    (subst (λ ls. AreRowsOf rows ls c.in_ok-closed.closed.items) c.items.ensures c.in_ok-closed.ensures) in
+    let are = rows-are c.deref.ensures.value c.items.ensures c.in_ok-closed.ensures in
     ok_map c.least.result (IsLeastFound rows c.deref.result.now c.items-2.result.now c.args.from c.args.to) _
     (least_potential rows c.args.banned.now.links c.deref.result.now c.items-2.result.now c.args.banned.now.nodes are
     c.items-2.ensures c.args.from c.args.to)
@@ -41,9 +36,7 @@ returns-clause-potential c =
 pub returns-clause-certificate : goal.returns-clause-certificate
 returns-clause-certificate c =
     let rows = c.args.rows.now in
-    let are : AreRowsOf rows c.args.banned.now.links c.deref.result.now =
-    subst (AreRowsOf rows c.args.banned.now.links) (sym c.deref.ensures.value)
-    (subst (λ ls. AreRowsOf rows ls c.in_ok-closed.closed.items) c.items.ensures c.in_ok-closed.ensures) in
+    let are = rows-are c.deref.ensures.value c.items.ensures c.in_ok-closed.ensures in
     ok_map c.least.result (IsLeastFound rows c.deref.result.now c.items-2.result.now c.args.from c.args.to) _
     (least_certificate rows c.args.banned.now.links c.deref.result.now c.items-2.result.now c.args.banned.now.nodes
     are c.items-2.ensures c.args.from c.args.to)
@@ -52,9 +45,7 @@ returns-clause-certificate c =
 pub returns-clause-none : goal.returns-clause-none
 returns-clause-none c =
     let rows = c.args.rows.now in
-    let are : AreRowsOf rows c.args.banned.now.links c.deref.result.now =
-    subst (AreRowsOf rows c.args.banned.now.links) (sym c.deref.ensures.value)
-    (subst (λ ls. AreRowsOf rows ls c.in_ok-closed.closed.items) c.items.ensures c.in_ok-closed.ensures) in
+    let are = rows-are c.deref.ensures.value c.items.ensures c.in_ok-closed.ensures in
     err_map c.least.result (IsRefusal rows (IsClosed rows c.deref.result.now)
     (Contains c.items-2.result.now) c.args.from c.args.to) _
     (least_refusal rows c.args.banned.now.links c.deref.result.now c.items-2.result.now c.args.banned.now.nodes are
