@@ -11,6 +11,7 @@ use Rattle.ason_base.specs.declared.ids.NodeId.{NodeId}
 use Rattle.ason_base.specs.declared.network.TeRow.{TeRow}
 use Rattle.ason_base.proofs.Ordered.{any-there, contains-cases, contains-head, contains-none, contains-tail, there-any}
 use Rattle.mesh_nodes.proofs.routes.Lists.{contains-map, contains-unmap}
+use Rattle.mesh_nodes.proofs.routes.Shorter.{apart, length-numbers}
 use Rattle.pair_search.specs.Answers.{IsSmall}
 use Rattle.pair_search.specs.Searches.{ends_of, with_end, with_ends}
 use Rattle.pair_search.proofs.Tests.{same-node}
@@ -108,31 +109,6 @@ ends-once (row ∷ rows) ends once =
     ends-once rows (with_ends ends row) (with-once (with_end ends row.low) row.high (with-once ends row.low once))
 
 -- No list of nodes that has each of them is shorter
-
-apart : (xs : List ℕ) → is_distinct xs ≡ true → IsDistinct nat_eq xs
-unfolding IsDistinct
-apart [] e = tt
-apart (x ∷ xs) e = go (list_any (λ y. nat_eq y x) xs) refl e (apart xs)
-  where
-    none : (ys : List ℕ) → list_any (λ y. nat_eq y x) ys ≡ false → AllByRecursion (λ y. nat_eq x y ≡ false) ys
-    none [] f = tt
-    none (y ∷ ys) f = at (nat_eq y x) refl f (none ys)
-      where
-        at : (c : Bool) → nat_eq y x ≡ c → (c || list_any (λ z. nat_eq z x) ys) ≡ false →
-            (list_any (λ z. nat_eq z x) ys ≡ false → AllByRecursion (λ z. nat_eq x z ≡ false) ys) →
-            (nat_eq x y ≡ false) × AllByRecursion (λ z. nat_eq x z ≡ false) ys
-        at true g k later = absurd (cc k)
-        at false g k later = (grind arith, later k)
-
-    go : (b : Bool) → list_any (λ y. nat_eq y x) xs ≡ b → (not b && is_distinct xs) ≡ true →
-        (is_distinct xs ≡ true → IsDistinct nat_eq xs) → AllByRecursion (λ y. nat_eq x y ≡ false) xs ×
-        IsDistinct nat_eq xs
-    go true f g rest = absurd (cc g)
-    go false f g rest = (none xs f, rest g)
-
-length-numbers : (nodes : List NodeId) → length (numbers nodes) ≡ length nodes
-length-numbers [] = refl
-length-numbers (n ∷ nodes) = ap suc (length-numbers nodes)
 
 no-fewer : (rows : List TeRow) (among : List NodeId) →
     ((row : TeRow) → Contains rows row → Contains among row.low × Contains among row.high) →

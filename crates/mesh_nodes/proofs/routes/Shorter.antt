@@ -185,7 +185,7 @@ both_ends rows ends row known a b joins =
       | inr down ↦ (subst (Contains ends.0) down.0 both.1, subst (Contains ends.0) down.1 both.0)
     ]
 
-abbrev numbers : List NodeId → List ℕ
+abbrev pub numbers : List NodeId → List ℕ
 numbers nodes = map (λ n. n.0) nodes
 
 visits_ends : (rows : List TeRow) (ends : HaveFewEnds rows) (b : NodeId) (steps : List Step) (a : NodeId) (cost : ℕ) →
@@ -204,7 +204,8 @@ visits_ends rows ends b (s ∷ steps) a cost walk known q h = elim (contains-cas
       (both_ends rows ends walk.0 walk.3.known a walk.1 walk.3.joins).1 q later
 ]
 
-apart : (xs : List ℕ) → is_distinct xs ≡ true → IsDistinct nat_eq xs
+-- numbers that are each there once are apart
+pub apart : (xs : List ℕ) → is_distinct xs ≡ true → IsDistinct nat_eq xs
 unfolding IsDistinct
 apart [] e = tt
 apart (x ∷ xs) e = go (list_any (λ y. nat_eq y x) xs) refl e (apart xs)
@@ -225,7 +226,7 @@ apart (x ∷ xs) e = go (list_any (λ y. nat_eq y x) xs) refl e (apart xs)
     go true f g rest = absurd (cc g)
     go false f g rest = (none xs f, rest g)
 
-length-numbers : (nodes : List NodeId) → length (numbers nodes) ≡ length nodes
+pub length-numbers : (nodes : List NodeId) → length (numbers nodes) ≡ length nodes
 length-numbers [] = refl
 length-numbers (n ∷ nodes) = ap suc (length-numbers nodes)
 
