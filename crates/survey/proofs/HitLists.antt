@@ -24,7 +24,7 @@ use Rattle.mesh_laws.specs.Survey.{hit_of, hits, hits_of, groups_of, is_guarded_
 use Rattle.mesh_laws.proofs.alone.Risks.{found-passes, link-found}
 use Rattle.survey.specs.declared.views.CallView.{CallView}
 use Rattle.survey.specs.Groups.{hit_in, hit_numbers, hit_with, is_hit, is_hit_so, is_over, links_of, with_links}
-use Rattle.survey.specs.Views.{is_guarded, is_live_leg, is_on_label, live_legs, rows_of, takes, view_of}
+use Rattle.survey.specs.Views.{is_guarded, is_live_leg, is_on_label, live_legs, rows_of_lsp, takes, view_of}
 use Rattle.survey.proofs.Joins.{any-agree, any-filter, filter-both, filter-map, flat-agree, flat-map}
 
 -- Tests
@@ -73,7 +73,7 @@ any-live : (q : LegRow → Bool) (work : Option Lsp) (legs : List LegRow) →
     list_any q (live_legs legs work)
     ≡ list_any (λ r. is_lsp work r.lsp && (is_live_leg r && q r)) legs
 any-live q work legs =
-    any-filter is_live_leg q (rows_of legs work)
+    any-filter is_live_leg q (rows_of_lsp legs work)
     ∙ any-filter (λ r. is_lsp work r.lsp) (λ r. is_live_leg r && q r) legs
 
 pub hit-is : (t : Network) (legs : List LegRow) (g : Group) →

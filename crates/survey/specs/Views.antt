@@ -16,14 +16,14 @@ abbrev pub is_live_leg : LegRow → Bool
 is_live_leg r = is_work r.role && is_live r.phase
 
 -- the rows of the LSP
-abbrev pub rows_of : List LegRow → Option Lsp → List LegRow
-rows_of legs wanted = filter (λ r. is_lsp wanted r.lsp) legs
+abbrev pub rows_of_lsp : List LegRow → Option Lsp → List LegRow
+rows_of_lsp legs wanted = filter (λ r. is_lsp wanted r.lsp) legs
 
 abbrev pub live_legs : List LegRow → Option Lsp → List LegRow
-live_legs legs work = filter is_live_leg (rows_of legs work)
+live_legs legs work = filter is_live_leg (rows_of_lsp legs work)
 
 abbrev pub view_of : List LegRow → CallRow → CallView
-view_of legs c = record { call = c; live = live_legs legs c.work; backup = rows_of legs c.back }
+view_of legs c = record { call = c; live = live_legs legs c.work; backup = rows_of_lsp legs c.back }
 
 -- its ingress has its backup's leg, Held, Armed or Live
 abbrev pub is_guarded : CallView → Bool

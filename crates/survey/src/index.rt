@@ -51,7 +51,7 @@ pub(crate) fn index_of(alloc: Global, legs: &[LegRow]) -> Result<LegIndex, OutOf
 }
 
 /// The rows of the LSP, where one is wanted.
-pub(crate) fn rows_of(index: &LegIndex, wanted: Option<Lsp>) -> &[LegRow]
+pub(crate) fn rows_of_lsp(index: &LegIndex, wanted: Option<Lsp>) -> &[LegRow]
     ensures { (legs : List LegRow) → IsIndexOf legs index.now
         → result.now ≡ filter (λ r. is_lsp wanted r.lsp) legs }
 {

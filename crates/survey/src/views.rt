@@ -9,7 +9,7 @@ ghost use Rattle.survey.specs.Index.{IsIndexOf};
 ghost use Rattle.survey.specs.Views.{is_guarded, is_live_leg, is_on_label, is_on_link, passes};
 ghost use Rattle.survey.specs.Views.{takes, view_of};
 
-use crate::index::{LegIndex, index_of, rows_of};
+use crate::index::{LegIndex, index_of, rows_of_lsp};
 use ason_base::{
     CallRow, Copied, Items, Label, LegRow, LegRows, LinkId, NodeId, OutOfMemory, Phase, Role,
     TableRows,
@@ -67,8 +67,8 @@ fn view_of(alloc: Global, index: &LegIndex, call: &CallRow) -> Result<CallView, 
     ensures { (legs : List LegRow) → IsIndexOf legs index.now
         → IfOk result (λ view. view ≡ view_of legs call.now) }
 {
-    let live = live_legs(alloc, rows_of(index, call.work))?;
-    let backup = Vec::from_slice(alloc, rows_of(index, call.back))?;
+    let live = live_legs(alloc, rows_of_lsp(index, call.work))?;
+    let backup = Vec::from_slice(alloc, rows_of_lsp(index, call.back))?;
     Ok(CallView {
         call: *call,
         live,

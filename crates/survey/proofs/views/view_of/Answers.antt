@@ -5,6 +5,6 @@ use Rattle.survey.proofs.views.view_of.Goals as goal
 
 pub returns : goal.returns
 returns c legs are =
-    let live = c.in_ok-live.ensures ∙ ap (filter is_live_leg) (c.rows_of.ensures legs are) in
-    let backup = c.from_vec.ensures ∙ c.in_ok-backup.ensures.items ∙ c.rows_of-2.ensures legs are in
+    let live = c.in_ok-live.ensures ∙ ap (filter is_live_leg) (c.rows_of_lsp.ensures legs are) in
+    let backup = c.from_vec.ensures ∙ c.in_ok-backup.ensures.items ∙ c.rows_of_lsp-2.ensures legs are in
     λ i. record { call = c.args.call.now; live = live i; backup = backup i }

@@ -4,7 +4,7 @@ use Rattle.ason_base.specs.Lsps.{is_lsp}
 use Rattle.ason_base.specs.declared.calls.LegRow.{LegRow}
 use Rattle.ason_base.specs.declared.ids.Lsp.{Lsp}
 use Rattle.survey.proofs.Joins.{filter-none}
-use Rattle.survey.proofs.index.rows_of.Goals as goal
+use Rattle.survey.proofs.index.rows_of_lsp.Goals as goal
 
 pub returns-in-None : goal.returns-in-None
 returns-in-None c legs are =
