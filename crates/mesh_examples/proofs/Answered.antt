@@ -12,7 +12,7 @@ use Rattle.mesh_rules.specs.Events.{after}
 use Rattle.mesh_rules.specs.Machine.{start}
 use Rattle.mesh_laws.specs.HopLaw.{HasShape}
 use Rattle.mesh_laws.specs.HopShapes as row
-use Rattle.mesh_examples.proofs.Scene.{all_enabled, called, desk, joins, leg, lsp, node, over, Seen, seen, sets_up, spec, takes}
+use Rattle.mesh_examples.proofs.Scene.{all_enabled, alone, called, desk, joins, leg, lsp, node, over, Seen, seen, sets_up, spec, takes}
 
 abbrev pub network : Network
 network = record {
@@ -39,14 +39,7 @@ as_reached = record {
       ∷ (leg 4 1 Live (Some 1) None 1 0 0 ∷ [])
       ∷ []
       ∷ [];
-  calls =
-      []
-      ∷ []
-      ∷ []
-      ∷ (called 1 Asking Unset ∷ [])
-      ∷ []
-      ∷ []
-      ∷ [];
+  calls = alone 6 4 (called 1 Asking Unset ∷ []);
   known = 3 ∷ 2 ∷ 4 ∷ 2 ∷ 3 ∷ 0 ∷ [];
   down = 0 ∷ 0 ∷ 0 ∷ 0 ∷ 0 ∷ 0 ∷ [];
   mail = (0, 0) ∷ (0, 0) ∷ (0, 0) ∷ (0, 0) ∷ (0, 0) ∷ (0, 0) ∷ (0, 1) ∷ [];

@@ -13,7 +13,7 @@ use Rattle.mesh_rules.specs.Machine.{start}
 use Rattle.mesh_laws.specs.HopLaw.{HasShape}
 use Rattle.mesh_laws.specs.HopShapes as row
 use Rattle.mesh_examples.proofs.Answered as answered
-use Rattle.mesh_examples.proofs.Scene.{all_enabled, called, leg, lsp, node, Seen, seen, takes}
+use Rattle.mesh_examples.proofs.Scene.{all_enabled, alone, called, leg, lsp, node, Seen, seen, takes}
 
 abbrev network : Network
 network = answered.network
@@ -31,14 +31,7 @@ as_reached = record answered.as_reached {
       ∷ (leg 4 1 Live (Some 1) None 1 0 0 ∷ [])
       ∷ []
       ∷ [];
-  calls =
-      []
-      ∷ []
-      ∷ []
-      ∷ (called 1 Pairing Unset ∷ [])
-      ∷ []
-      ∷ []
-      ∷ [];
+  calls = alone 6 4 (called 1 Pairing Unset ∷ []);
   mail = (0, 0) ∷ (0, 0) ∷ (0, 0) ∷ (0, 0) ∷ (0, 1) ∷ (0, 0) ∷ (0, 0) ∷ [];
 }
 

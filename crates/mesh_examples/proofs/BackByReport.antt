@@ -9,7 +9,7 @@ use Rattle.mesh_rules.specs.declared.events.MeshEvent.{MeshEvent}
 use Rattle.mesh_rules.specs.Events.{after}
 use Rattle.mesh_rules.specs.Machine.{start}
 use Rattle.mesh_examples.proofs.Deactivating as deactivating
-use Rattle.mesh_examples.proofs.Scene.{all_enabled, called, desk, fails_link, learns, over, repairs_link, reported, reverts, seen, Seen, sets_up, takes, ticks}
+use Rattle.mesh_examples.proofs.Scene.{all_enabled, alone, called, desk, fails_link, learns, over, repairs_link, reported, reverts, Seen, seen, sets_up, takes, ticks}
 
 abbrev network : Network
 network = deactivating.network
@@ -57,14 +57,7 @@ events =
 
 abbrev as_reached : Seen
 as_reached = record deactivating.as_reached {
-  calls =
-      (reported 1 Guarded Unset 0 1 ∷ called 2 Blocked (Code set_code) ∷ [])
-      ∷ []
-      ∷ []
-      ∷ []
-      ∷ []
-      ∷ []
-      ∷ [];
+  calls = alone 6 1 (reported 1 Guarded Unset 0 1 ∷ called 2 Blocked (Code set_code) ∷ []);
   known = 7 ∷ 7 ∷ 7 ∷ 7 ∷ 7 ∷ 7 ∷ [];
   down = 1 ∷ 0 ∷ 0 ∷ 0 ∷ 0 ∷ 1 ∷ [];
 }

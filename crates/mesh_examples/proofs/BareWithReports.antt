@@ -10,7 +10,7 @@ use Rattle.ason_base.specs.declared.calls.Phase.TheVariants.{Armed, Held, Live}
 use Rattle.mesh_rules.specs.declared.events.MeshEvent.{MeshEvent}
 use Rattle.mesh_rules.specs.Events.{after}
 use Rattle.mesh_rules.specs.Machine.{start}
-use Rattle.mesh_examples.proofs.Scene.{all_enabled, called, desk, fails_link, joins, learns, leg, over, reported, seen, Seen, sets_up, spec, takes}
+use Rattle.mesh_examples.proofs.Scene.{all_enabled, alone, called, desk, fails_link, joins, learns, leg, over, reported, Seen, seen, sets_up, spec, takes}
 
 abbrev network : Network
 network = record {
@@ -71,14 +71,7 @@ as_reached = record {
       ∷ (leg 1 3 Held (Some 1) (Some 1) 1 1 0 ∷ [])
       ∷ []
       ∷ [];
-  calls =
-      (reported 1 Turning Unset 1 0 ∷ called 2 Bare (Code set_code) ∷ [])
-      ∷ []
-      ∷ []
-      ∷ []
-      ∷ []
-      ∷ []
-      ∷ [];
+  calls = alone 6 1 (reported 1 Turning Unset 1 0 ∷ called 2 Bare (Code set_code) ∷ []);
   known = 7 ∷ 7 ∷ 7 ∷ 7 ∷ 7 ∷ 7 ∷ [];
   down = 2 ∷ 0 ∷ 1 ∷ 0 ∷ 1 ∷ 0 ∷ [];
   mail = (0, 0) ∷ (0, 0) ∷ (1, 0) ∷ (0, 0) ∷ (0, 0) ∷ (0, 0) ∷ (0, 0) ∷ [];

@@ -12,7 +12,7 @@ use Rattle.mesh_rules.specs.Events.{after}
 use Rattle.mesh_rules.specs.Machine.{start}
 use Rattle.mesh_laws.specs.HopLaw.{HasShape}
 use Rattle.mesh_laws.specs.HopShapes as row
-use Rattle.mesh_examples.proofs.Scene.{all_enabled, desk, fails_link, joins, learns, leg, lsp, node, over, repairs_link, reported, Seen, seen, sets_up, spec, takes}
+use Rattle.mesh_examples.proofs.Scene.{all_enabled, alone, desk, fails_link, joins, learns, leg, lsp, node, over, repairs_link, reported, Seen, seen, sets_up, spec, takes}
 
 abbrev pub network : Network
 network = record {
@@ -58,14 +58,7 @@ as_reached = record {
       ∷ []
       ∷ (leg 1 1 Live (Some 1) None 1 0 0 ∷ leg 1 2 Live (Some 1) None 1 0 0 ∷ [])
       ∷ [];
-  calls =
-      (reported 1 Guarded Unset 0 1 ∷ [])
-      ∷ []
-      ∷ []
-      ∷ []
-      ∷ []
-      ∷ []
-      ∷ [];
+  calls = alone 6 1 (reported 1 Guarded Unset 0 1 ∷ []);
   known = 5 ∷ 1 ∷ 2 ∷ 2 ∷ 2 ∷ 4 ∷ [];
   down = 0 ∷ 0 ∷ 0 ∷ 0 ∷ 0 ∷ 1 ∷ [];
   mail = (0, 0) ∷ (0, 0) ∷ (0, 0) ∷ (1, 0) ∷ (0, 0) ∷ (0, 0) ∷ (0, 0) ∷ [];

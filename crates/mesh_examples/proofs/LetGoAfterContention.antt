@@ -12,7 +12,7 @@ use Rattle.mesh_rules.specs.Events.{after}
 use Rattle.mesh_rules.specs.Machine.{start}
 use Rattle.mesh_laws.specs.HopLaw.{HasShape}
 use Rattle.mesh_laws.specs.HopShapes as row
-use Rattle.mesh_examples.proofs.Scene.{all_enabled, leg, lsp, node, reported, Seen, seen, takes}
+use Rattle.mesh_examples.proofs.Scene.{all_enabled, alone, leg, lsp, node, reported, Seen, seen, takes}
 use Rattle.mesh_examples.proofs.SharedLabel.{network}
 use Rattle.mesh_examples.proofs.TornContended as torn
 
@@ -31,14 +31,7 @@ as_reached = record {
       ∷ (leg 1 2 Armed (Some 1) (Some 1) 2 1 1 ∷ [])
       ∷ (leg 1 2 Armed (Some 1) (Some 1) 1 1 0 ∷ leg 3 2 Closing None (Some 1) 1 1 0 ∷ [])
       ∷ [];
-  calls =
-      (reported 1 Turning Unset 1 0 ∷ [])
-      ∷ []
-      ∷ []
-      ∷ []
-      ∷ []
-      ∷ []
-      ∷ [];
+  calls = alone 6 1 (reported 1 Turning Unset 1 0 ∷ []);
   known = 2 ∷ 2 ∷ 2 ∷ 2 ∷ 5 ∷ 5 ∷ [];
   down = 0 ∷ 1 ∷ 1 ∷ 1 ∷ 0 ∷ 0 ∷ [];
   mail = (0, 0) ∷ (1, 0) ∷ (0, 0) ∷ (0, 1) ∷ (0, 0) ∷ (0, 2) ∷ (0, 1) ∷ [];

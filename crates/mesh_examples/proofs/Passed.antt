@@ -13,7 +13,7 @@ use Rattle.mesh_rules.specs.Machine.{start}
 use Rattle.mesh_laws.specs.HopLaw.{HasShape}
 use Rattle.mesh_laws.specs.HopShapes as row
 use Rattle.mesh_examples.proofs.Answered as answered
-use Rattle.mesh_examples.proofs.Scene.{all_enabled, called, desk, learns, leg, lsp, node, over, Seen, seen, sets_up, takes}
+use Rattle.mesh_examples.proofs.Scene.{all_enabled, alone, called, desk, learns, leg, lsp, node, over, Seen, seen, sets_up, takes}
 
 abbrev network : Network
 network = answered.network
@@ -38,14 +38,7 @@ as_reached = record {
       ∷ (leg 4 1 Live (Some 1) None 1 0 0 ∷ [])
       ∷ []
       ∷ [];
-  calls =
-      []
-      ∷ []
-      ∷ []
-      ∷ (called 1 Pairing Unset ∷ [])
-      ∷ []
-      ∷ []
-      ∷ [];
+  calls = alone 6 4 (called 1 Pairing Unset ∷ []);
   known = 3 ∷ 2 ∷ 5 ∷ 2 ∷ 3 ∷ 0 ∷ [];
   down = 0 ∷ 0 ∷ 0 ∷ 0 ∷ 0 ∷ 0 ∷ [];
   mail = (0, 0) ∷ (0, 0) ∷ (0, 0) ∷ (0, 1) ∷ (0, 0) ∷ (0, 0) ∷ (0, 0) ∷ [];

@@ -12,7 +12,7 @@ use Rattle.mesh_rules.specs.Events.{after}
 use Rattle.mesh_rules.specs.Machine.{start}
 use Rattle.mesh_laws.specs.HopLaw.{HasShape}
 use Rattle.mesh_laws.specs.HopShapes as row
-use Rattle.mesh_examples.proofs.Scene.{all_enabled, desk, fails_link, joins, learns, leg, lsp, node, over, repairs_link, reported, Seen, seen, sets_up, spec, takes, ticks}
+use Rattle.mesh_examples.proofs.Scene.{all_enabled, alone, desk, fails_link, joins, learns, leg, lsp, node, over, repairs_link, reported, Seen, seen, sets_up, spec, takes, ticks}
 
 abbrev pub network : Network
 network = record {
@@ -74,14 +74,7 @@ as_reached = record {
       ∷ (leg 3 2 Live (Some 1) (Some 1) 2 2 1 ∷ [])
       ∷ (leg 3 2 Live (Some 1) (Some 1) 1 1 0 ∷ [])
       ∷ [];
-  calls =
-      []
-      ∷ []
-      ∷ (reported 1 Turning Unset 1 0 ∷ [])
-      ∷ []
-      ∷ []
-      ∷ []
-      ∷ [];
+  calls = alone 6 3 (reported 1 Turning Unset 1 0 ∷ []);
   known = 4 ∷ 2 ∷ 5 ∷ 3 ∷ 5 ∷ 5 ∷ [];
   down = 1 ∷ 0 ∷ 0 ∷ 0 ∷ 0 ∷ 0 ∷ [];
   mail = (0, 0) ∷ (0, 0) ∷ (0, 0) ∷ (0, 0) ∷ (0, 0) ∷ (0, 0) ∷ (2, 0) ∷ (0, 0) ∷ (0, 0) ∷ [];

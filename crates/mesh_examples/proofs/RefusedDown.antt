@@ -11,7 +11,7 @@ use Rattle.mesh_rules.specs.declared.events.MeshEvent.{MeshEvent}
 use Rattle.mesh_rules.specs.Events.{after}
 use Rattle.mesh_rules.specs.Machine.{start}
 use Rattle.mesh_examples.proofs.SharedLabel as shared_label
-use Rattle.mesh_examples.proofs.Scene.{all_enabled, desk, fails_link, learns, leg, over, protects, releases, reported, reverts, seen, Seen, sets_up, takes, ticks}
+use Rattle.mesh_examples.proofs.Scene.{all_enabled, alone, desk, fails_link, learns, leg, over, protects, releases, reported, reverts, Seen, seen, sets_up, takes, ticks}
 
 abbrev network : Network
 network = shared_label.network
@@ -72,14 +72,7 @@ as_reached = record {
       ∷ (leg 3 2 Closing None (Some 1) 2 1 1 ∷ [])
       ∷ (leg 3 2 Closing None (Some 1) 1 1 0 ∷ [])
       ∷ [];
-  calls =
-      (reported 1 Bare (Code down_code) 1 0 ∷ [])
-      ∷ []
-      ∷ []
-      ∷ []
-      ∷ []
-      ∷ []
-      ∷ [];
+  calls = alone 6 1 (reported 1 Bare (Code down_code) 1 0 ∷ []);
   known = 2 ∷ 2 ∷ 2 ∷ 2 ∷ 5 ∷ 5 ∷ [];
   down = 1 ∷ 1 ∷ 0 ∷ 0 ∷ 1 ∷ 1 ∷ [];
   mail = (0, 0) ∷ (0, 0) ∷ (0, 0) ∷ (0, 0) ∷ (0, 1) ∷ (0, 1) ∷ (0, 1) ∷ [];

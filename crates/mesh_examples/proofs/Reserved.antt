@@ -12,7 +12,7 @@ use Rattle.mesh_rules.specs.Events.{after}
 use Rattle.mesh_rules.specs.Machine.{start}
 use Rattle.mesh_laws.specs.HopLaw.{HasShape}
 use Rattle.mesh_laws.specs.HopShapes as row
-use Rattle.mesh_examples.proofs.Scene.{all_enabled, called, desk, joins, learns, leg, lsp, node, over, Seen, seen, sets_up, spec, takes}
+use Rattle.mesh_examples.proofs.Scene.{all_enabled, alone, called, desk, joins, learns, leg, lsp, node, over, Seen, seen, sets_up, spec, takes}
 
 abbrev pub network : Network
 network = record {
@@ -45,14 +45,7 @@ as_reached = record {
       ∷ []
       ∷ (leg 6 1 Live None (Some 1) 0 1 1 ∷ leg 6 2 Asked None None 0 1 0 ∷ [])
       ∷ [];
-  calls =
-      []
-      ∷ []
-      ∷ []
-      ∷ []
-      ∷ []
-      ∷ (called 1 Pairing Unset ∷ [])
-      ∷ [];
+  calls = alone 6 6 (called 1 Pairing Unset ∷ []);
   known = 2 ∷ 0 ∷ 4 ∷ 3 ∷ 2 ∷ 5 ∷ [];
   down = 0 ∷ 0 ∷ 0 ∷ 0 ∷ 0 ∷ 0 ∷ [];
   mail = (0, 0) ∷ (0, 0) ∷ (0, 0) ∷ (0, 0) ∷ (1, 0) ∷ (0, 0) ∷ (0, 0) ∷ [];

@@ -1,6 +1,6 @@
 -- What is looked at of a mesh of some nodes after a run: the legs and calls of each node, how many links each node
 -- knows, how many fibres it knows to be down, and how many messages are under way.
-use Rattle.std.proofs.Common.{ℕ, Bool, true, false, List, [], ◌∷◌}
+use Rattle.std.proofs.Common.{ℕ, zero, suc, ◌-◌, Bool, true, false, cond, nat_eq, List, [], ◌∷◌}
 use Rattle.std.specs.Prelude.{◌&&◌, length, map, Option, Some, None}
 use Rattle.ason_base.specs.Network.{Network}
 use Rattle.ason_base.specs.declared.calls.CallState.{CallState}
@@ -131,6 +131,11 @@ pub record SeenCall : Type 0 where
   pub work_reports : ℕ
   pub back_reports : ℕ
   pub ticks : ℕ
+
+-- of so many nodes this one alone has any
+abbrev pub alone : {X : Type 0} → ℕ → ℕ → List X → List (List X)
+alone zero n xs = []
+alone (suc count) n xs = cond (nat_eq n 1) xs [] ∷ alone count (n - 1) xs
 
 -- by node the legs, the calls, how many links are known, and how many fibres are known to be down; by link the messages
 -- to its high end, and to its low end

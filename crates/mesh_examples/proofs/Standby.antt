@@ -13,7 +13,7 @@ use Rattle.mesh_rules.specs.Machine.{start}
 use Rattle.mesh_laws.specs.HopLaw.{HasShape}
 use Rattle.mesh_laws.specs.HopShapes as row
 use Rattle.mesh_examples.proofs.Reserved as reserved
-use Rattle.mesh_examples.proofs.Scene.{all_enabled, called, leg, lsp, node, Seen, seen, takes}
+use Rattle.mesh_examples.proofs.Scene.{all_enabled, alone, called, leg, lsp, node, Seen, seen, takes}
 
 abbrev network : Network
 network = reserved.network
@@ -31,14 +31,7 @@ as_reached = record reserved.as_reached {
       ∷ []
       ∷ (leg 6 1 Live None (Some 1) 0 1 1 ∷ leg 6 2 Held None (Some 1) 0 1 0 ∷ [])
       ∷ [];
-  calls =
-      []
-      ∷ []
-      ∷ []
-      ∷ []
-      ∷ []
-      ∷ (called 1 Guarded Unset ∷ [])
-      ∷ [];
+  calls = alone 6 6 (called 1 Guarded Unset ∷ []);
   mail = (0, 0) ∷ (0, 0) ∷ (0, 0) ∷ (0, 0) ∷ (0, 0) ∷ (0, 0) ∷ (0, 0) ∷ [];
 }
 

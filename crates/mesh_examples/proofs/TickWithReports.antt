@@ -9,7 +9,7 @@ use Rattle.ason_base.specs.declared.calls.Phase.TheVariants.{Live}
 use Rattle.mesh_rules.specs.declared.events.MeshEvent.{MeshEvent}
 use Rattle.mesh_rules.specs.Events.{after}
 use Rattle.mesh_rules.specs.Machine.{start}
-use Rattle.mesh_examples.proofs.Scene.{all_enabled, desk, fails_link, joins, learns, leg, over, protects, reported, retries, seen, Seen, sets_up, spec, takes, ticks}
+use Rattle.mesh_examples.proofs.Scene.{all_enabled, alone, desk, fails_link, joins, learns, leg, over, protects, reported, retries, Seen, seen, sets_up, spec, takes, ticks}
 
 abbrev network : Network
 network = record {
@@ -64,14 +64,7 @@ as_reached = record {
       ∷ []
       ∷ (leg 2 1 Live (Some 1) (Some 1) 1 1 0 ∷ [])
       ∷ [];
-  calls =
-      []
-      ∷ (reported 1 Turned Unset 1 0 ∷ [])
-      ∷ []
-      ∷ []
-      ∷ []
-      ∷ []
-      ∷ [];
+  calls = alone 6 2 (reported 1 Turned Unset 1 0 ∷ []);
   known = 9 ∷ 9 ∷ 9 ∷ 9 ∷ 9 ∷ 9 ∷ [];
   down = 1 ∷ 1 ∷ 0 ∷ 0 ∷ 1 ∷ 0 ∷ [];
   mail = (0, 0) ∷ (0, 0) ∷ (0, 0) ∷ (0, 0) ∷ (0, 0) ∷ (0, 0) ∷ (0, 0) ∷ (0, 0) ∷ (0, 0) ∷ [];

@@ -12,7 +12,7 @@ use Rattle.mesh_rules.specs.Events.{after}
 use Rattle.mesh_rules.specs.Machine.{start}
 use Rattle.mesh_laws.specs.HopLaw.{HasShape}
 use Rattle.mesh_laws.specs.HopShapes as row
-use Rattle.mesh_examples.proofs.Scene.{all_enabled, called, desk, joins, learns, leg, lsp, node, over, releases, Seen, seen, sets_up, spec, takes}
+use Rattle.mesh_examples.proofs.Scene.{all_enabled, alone, called, desk, joins, learns, leg, lsp, node, over, releases, Seen, seen, sets_up, spec, takes}
 
 abbrev network : Network
 network = record {
@@ -49,14 +49,7 @@ as_reached = record {
       ∷ []
       ∷ (leg 2 3 Live (Some 1) (Some 1) 2 2 0 ∷ [])
       ∷ [];
-  calls =
-      []
-      ∷ (called 1 Pairing Unset ∷ [])
-      ∷ []
-      ∷ []
-      ∷ []
-      ∷ []
-      ∷ [];
+  calls = alone 6 2 (called 1 Pairing Unset ∷ []);
   known = 2 ∷ 4 ∷ 3 ∷ 4 ∷ 0 ∷ 4 ∷ [];
   down = 0 ∷ 0 ∷ 0 ∷ 0 ∷ 0 ∷ 0 ∷ [];
   mail = (0, 0) ∷ (0, 0) ∷ (3, 0) ∷ (0, 0) ∷ (1, 0) ∷ (0, 0) ∷ (0, 0) ∷ (0, 0) ∷ [];

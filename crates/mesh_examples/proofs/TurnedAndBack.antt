@@ -10,7 +10,7 @@ use Rattle.ason_base.specs.declared.calls.Phase.TheVariants.{Asked, Held, Live}
 use Rattle.mesh_rules.specs.declared.events.MeshEvent.{MeshEvent}
 use Rattle.mesh_rules.specs.Events.{after}
 use Rattle.mesh_rules.specs.Machine.{start}
-use Rattle.mesh_examples.proofs.Scene.{all_enabled, called, desk, fails_link, joins, learns, leg, over, repairs_link, reported, retries, reverts, seen, Seen, sets_up, sets_up_alone, spec, takes, ticks}
+use Rattle.mesh_examples.proofs.Scene.{all_enabled, alone, called, desk, fails_link, joins, learns, leg, over, repairs_link, reported, retries, reverts, Seen, seen, sets_up, sets_up_alone, spec, takes, ticks}
 
 abbrev network : Network
 network = record {
@@ -98,14 +98,7 @@ as_reached = record {
       ∷ leg 5 4 Asked None None 0 1 0 ∷ [])
       ∷ (leg 5 2 Live (Some 1) (Some 1) 2 2 0 ∷ [])
       ∷ [];
-  calls =
-      []
-      ∷ []
-      ∷ []
-      ∷ []
-      ∷ (reported 1 Guarded Unset 0 1 ∷ called 2 Blocked (Code set_code) ∷ called 3 Asking Unset ∷ [])
-      ∷ []
-      ∷ [];
+  calls = alone 6 5 (reported 1 Guarded Unset 0 1 ∷ called 2 Blocked (Code set_code) ∷ called 3 Asking Unset ∷ []);
   known = 7 ∷ 7 ∷ 7 ∷ 7 ∷ 7 ∷ 7 ∷ [];
   down = 0 ∷ 0 ∷ 0 ∷ 0 ∷ 0 ∷ 0 ∷ [];
   mail = (0, 0) ∷ (0, 0) ∷ (0, 1) ∷ (0, 0) ∷ (0, 0) ∷ (0, 1) ∷ (0, 1) ∷ [];

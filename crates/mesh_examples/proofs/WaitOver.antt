@@ -9,7 +9,7 @@ use Rattle.ason_base.specs.declared.calls.Phase.TheVariants.{Asked, Held, Live}
 use Rattle.mesh_rules.specs.declared.events.MeshEvent.{MeshEvent}
 use Rattle.mesh_rules.specs.Events.{after}
 use Rattle.mesh_rules.specs.Machine.{start}
-use Rattle.mesh_examples.proofs.Scene.{all_enabled, called, desk, fails_link, joins, learns, leg, over, repairs_link, seen, Seen, sets_up, sets_up_alone, spec, takes, ticks}
+use Rattle.mesh_examples.proofs.Scene.{all_enabled, alone, called, desk, fails_link, joins, learns, leg, over, repairs_link, Seen, seen, sets_up, sets_up_alone, spec, takes, ticks}
 
 abbrev network : Network
 network = record {
@@ -81,14 +81,7 @@ as_reached = record {
       ∷ (leg 2 1 Live (Some 1) None 2 0 0 ∷ leg 2 2 Live (Some 1) None 2 0 0 ∷ [])
       ∷ (leg 2 2 Live (Some 1) (Some 1) 3 3 0 ∷ [])
       ∷ [];
-  calls =
-      []
-      ∷ (called 1 Guarded Unset ∷ called 2 Bare Unset ∷ called 3 Asking Unset ∷ [])
-      ∷ []
-      ∷ []
-      ∷ []
-      ∷ []
-      ∷ [];
+  calls = alone 6 2 (called 1 Guarded Unset ∷ called 2 Bare Unset ∷ called 3 Asking Unset ∷ []);
   known = 9 ∷ 9 ∷ 9 ∷ 9 ∷ 9 ∷ 9 ∷ [];
   down = 1 ∷ 0 ∷ 1 ∷ 0 ∷ 0 ∷ 0 ∷ [];
   mail = (0, 0) ∷ (0, 0) ∷ (0, 1) ∷ (0, 0) ∷ (1, 0) ∷ (0, 0) ∷ (0, 0) ∷ (0, 0) ∷ (0, 0) ∷ [];
