@@ -1,14 +1,14 @@
 -- Rows added to a list of places, and the places of all rows.
-use Rattle.std.proofs.Common.{◌≡◌, ◌⊎◌, inl, inr, ℕ, ◌+◌, ◌<◌, ◌≤◌, List, [], Some, length, get_or, slice_get, refl, sym, ◌∙◌, subst, arith}
+use Rattle.std.proofs.Common.{◌≡◌, ◌⊎◌, inl, inr, ℕ, ◌+◌, ◌<◌, List, [], Some, length, get_or, slice_get, refl, sym, ◌∙◌, subst, arith}
 use Rattle.std.specs.List.{Contains}
-use Rattle.std.proofs.lemmas.Option.{get_or_from_slice_get, slice_get-get_or, slice_get_within}
+use Rattle.std.proofs.lemmas.Option.{get_or_from_slice_get, slice_get-get_or}
 use Rattle.ason_base.specs.Walks.{Joins}
 use Rattle.ason_base.specs.declared.ids.NodeId.{NodeId}
 use Rattle.ason_base.specs.declared.network.TeRow.{TeRow}
 use Rattle.route_least.specs.declared.places.Arc.{Arc}
 use Rattle.route_least.specs.declared.places.Place.{Place}
-use Rattle.route_least.specs.Network.{ArePlaces, HasAdded, HasArc, HasGained, HasNode, HasRow, HasSeated, IsArc, IsEnd, IsOfRow}
-use Rattle.route_least.proofs.PlaceLists.{none_some, nothing, some_same}
+use Rattle.route_least.specs.Network.{ArePlaces, HasAdded, HasArc, HasGained, HasNode, HasRow, HasSeated, IsArc}
+use Rattle.route_least.proofs.PlaceLists.{none_some, some_same}
 
 -- the arc of the row to the other end's place
 pub record IsFor (of : TeRow) (index to : ℕ) (arc : Arc) : Type 0 where

@@ -8,7 +8,6 @@ use Rattle.route_least.specs.declared.places.Arc.{Arc}
 use Rattle.route_least.specs.declared.places.Place.{Place}
 use Rattle.route_least.specs.Costs.{cost_at, is_marked, AreSmall}
 use Rattle.route_least.specs.Marking.{Crosses}
-use Rattle.route_least.specs.Network.{AreSound, HasArc}
 use Rattle.route_least.specs.Trace.{AreMarked, Follows, IsBest, IsLeading, IsTight, IsTrace, LeadsOn}
 use Rattle.route_least.proofs.PlaceLists.{arc_at, arc_is, nothing, some_same}
 

@@ -9,7 +9,7 @@ use Rattle.ason_base.specs.declared.network.TeRow.{TeRow}
 use Rattle.ason_base.specs.declared.steps.Step.{Step}
 use Rattle.route_least.specs.declared.places.Arc.{Arc}
 use Rattle.route_least.specs.declared.places.Place.{Place}
-use Rattle.route_least.specs.Costs.{cost_at, is_marked, AreLeast, IsSettled, Reach}
+use Rattle.route_least.specs.Costs.{cost_at, is_marked, AreLeast, Reach}
 use Rattle.route_least.specs.Costs.Reach.{Start, Onward}
 use Rattle.route_least.specs.Network.{HasNode, IsArc}
 use Rattle.route_least.specs.Trace.{AreEntries, AreMarked, IsBest, IsTight, IsTrace, LeadsOn}

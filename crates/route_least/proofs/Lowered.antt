@@ -1,11 +1,10 @@
 -- What lowering one cost leaves of a table.
-use Rattle.std.proofs.Common.{◌≡◌, ◌≢◌, ◌⊎◌, inl, inr, ℕ, ◌+◌, ◌*◌, ◌^◌, ◌<◌, ◌≤◌, List, [], ◌∷◌, Option, Some, None, length, Bool, true, false, set, sum_by, refl, sym, ◌∙◌, ap, subst, arith}
-use Rattle.std.specs.List.{Contains}
+use Rattle.std.proofs.Common.{◌≡◌, ◌≢◌, ◌⊎◌, inl, inr, ℕ, ◌+◌, ◌*◌, ◌^◌, ◌<◌, ◌≤◌, List, [], ◌∷◌, Option, Some, None, length, Bool, true, false, set, sum_by, refl, sym, ◌∙◌, subst, arith}
 use Rattle.std.proofs.lemmas.Bool.{cases_eq}
 use Rattle.std.proofs.lemmas.List.Sums.{sum_by-set, sum_by-cons}
 use Rattle.std.proofs.lemmas.List.{get_or-set_same, get_or-set_other}
 use Rattle.route_least.specs.declared.places.Arc.{Arc}
-use Rattle.route_least.specs.Costs.{cost_at, height, is_marked, reached, AreAttained, AreBounded, AreSettled, AreSmall, IsAtMostOver, IsLowered, IsSettled, IsStep, Reach}
+use Rattle.route_least.specs.Costs.{cost_at, height, is_marked, reached, AreAttained, AreBounded, AreSmall, IsAtMostOver, IsLowered, IsSettled, IsStep, Reach}
 use Rattle.route_least.specs.Costs.Reach.{Onward}
 use Rattle.route_least.proofs.PlaceLists.{some_same}
 

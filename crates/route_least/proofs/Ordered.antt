@@ -1,6 +1,6 @@
 -- Places in order of their nodes.
-use Rattle.std.proofs.Common.{◌≡◌, ◌≢◌, ◌⊎◌, ◌↔◌, inl, inr, ℕ, ◌+◌, ◌<◌, ◌≤◌, IsTrue, true, List, [], ◌∷◌, ◌++◌, Some, length, map, get_or, slice_get, Less, Equal, refl, sym, ◌∙◌, ap, subst, arith, length-append}
-use Rattle.std.specs.BTreeSet.{BTreeSet, IsFromIterResult, contains}
+use Rattle.std.proofs.Common.{◌≡◌, ◌≢◌, ◌⊎◌, inl, inr, ℕ, ◌+◌, ◌<◌, ◌≤◌, true, List, [], ◌∷◌, ◌++◌, Some, length, map, get_or, slice_get, Less, Equal, refl, sym, ◌∙◌, ap, subst, arith, length-append}
+use Rattle.std.specs.BTreeSet.{BTreeSet, IsFromIterResult}
 use Rattle.std.specs.List.{AllPairs, Contains}
 use Rattle.std.specs.List.Sorted.{IsStrictlySortedBy}
 use Rattle.std.specs.Bool.{Decides}
@@ -10,7 +10,6 @@ use Rattle.std.proofs.lemmas.List.{get_or-map, length-map}
 use Rattle.std.proofs.lemmas.Map.Keys.{Less-from_sorted}
 use Rattle.std.proofs.lemmas.Map.Made.{IsDistinct-from_AllPairs, length-le_from_is_member}
 use Rattle.std.proofs.lemmas.Map.Views.{Contains-from_any, btree_set_contains_from_list, btree_set_contains_iff, list_any-from_Contains}
-use Rattle.std.proofs.lemmas.Bool.{cases_eq}
 use Rattle.std.proofs.lemmas.List.Elements.{Contains-get_or}
 use Rattle.std.proofs.lemmas.Option.{slice_get-get_or, slice_get_cases}
 use Rattle.ason_base.specs.declared.ids.NodeId.{NodeId}
@@ -21,7 +20,7 @@ use Rattle.route_least.specs.contracts.order.NodePlaceOrd.TheImpl.Laws.{total-la
 use Rattle.route_least.specs.declared.order.NodePlace.{NodePlace}
 use Rattle.route_least.specs.declared.places.Place.{Place}
 use Rattle.route_least.specs.Network.{AreInOrder, AreNumbered, AreOnce, HasNode}
-use Rattle.route_least.proofs.PlaceLists.{get_kept, get_pushed, node_at, node_is, node_within, none_some, one_node, some_same}
+use Rattle.route_least.proofs.PlaceLists.{get_pushed, node_at, node_within, none_some, one_node}
 
 pub same_node : (a b : NodeId) → a.0 ≡ b.0 → a ≡ b
 same_node a b e = λ i. record { 0 = e i }

@@ -9,8 +9,7 @@ use Rattle.std.proofs.lemmas.List.Sums.{sum_by-set}
 use Rattle.route_least.specs.declared.places.Arc.{Arc}
 use Rattle.route_least.specs.Costs.{cost_at, height, is_marked, reached, AreAttained, AreBounded, AreLeast, AreSettled, IsSettled, IsStep, Reach}
 use Rattle.route_least.specs.Costs.Reach.{Start, Onward}
-use Rattle.route_least.proofs.Lowered.{marked_other, marked_same, no_step, then_step, unmarked_before}
-use Rattle.route_least.proofs.PlaceLists.{none_some, some_same}
+use Rattle.route_least.proofs.Lowered.{no_step, then_step, unmarked_before}
 use Rattle.route_least.proofs.Relaxed.{falls_more}
 
 before_or_at : (p k : ℕ) → p < k + 1 → (p < k) ⊎ (p ≡ k)

@@ -1,5 +1,5 @@
 -- Costs lowered along the arcs of one place, arc by arc.
-use Rattle.std.proofs.Common.{◌≡◌, ◌≢◌, ◌⊎◌, inl, inr, ℕ, ◌+◌, ◌<◌, ◌≤◌, List, [], ◌∷◌, ◌++◌, Option, Some, None, length, get_or, set, take, Bool, true, false, sum_by, refl, sym, ◌∙◌, subst, arith}
+use Rattle.std.proofs.Common.{◌≡◌, ◌≢◌, inl, inr, ℕ, ◌+◌, ◌<◌, ◌≤◌, List, [], Option, Some, None, length, get_or, set, take, Bool, true, false, sum_by, refl, sym, ◌∙◌, subst, arith}
 use Rattle.std.specs.List.{Contains}
 use Rattle.std.proofs.lemmas.Bool.{cases_eq}
 use Rattle.std.proofs.lemmas.List.{get_or-set_same, take_more}
@@ -9,7 +9,7 @@ use Rattle.route_least.specs.declared.places.Arc.{Arc}
 use Rattle.route_least.specs.declared.places.Place.{Place}
 use Rattle.route_least.specs.Costs.{cost_at, height, is_marked, AreBounded, AreSettled, IsAtMostOver, IsLowered, IsStep}
 use Rattle.route_least.specs.Network.{Goes, IsFree}
-use Rattle.route_least.proofs.Lowered.{apart, attained_after, bounded_after, falls_after, kept_cost, no_step, over_after, settled_after, unmarked_before, zero_after}
+use Rattle.route_least.proofs.Lowered.{attained_after, bounded_after, falls_after, kept_cost, no_step, over_after, settled_after, unmarked_before, zero_after}
 use Rattle.route_least.proofs.PlaceLists.{arc_is, nothing, some_same}
 
 -- the places but one that aren't marked

@@ -1,5 +1,5 @@
 -- What a search in a prepared network says of the walks over its rows.
-use Rattle.std.proofs.Common.{◌≡◌, ◌≢◌, ◌↔◌, inl, inr, ℕ, ◌+◌, ◌<◌, ◌≤◌, List, [], ◌∷◌, All, Bool, true, Option, Some, Result, Ok, Err, IfOk, IfErr, length, get_or, slice_get, refl, sym, ◌∙◌, ap, subst, arith}
+use Rattle.std.proofs.Common.{◌≡◌, ◌↔◌, inl, inr, ℕ, ◌+◌, ◌≤◌, List, [], ◌∷◌, Bool, Option, Some, Result, Ok, Err, IfOk, IfErr, length, get_or, slice_get, refl, sym, ◌∙◌, ap, subst, arith}
 use Rattle.std.specs.List.{Contains}
 use Rattle.std.proofs.lemmas.List.Elements.{All-contains, Contains-get_or, Contains-push, Contains-push_cases}
 use Rattle.std.proofs.lemmas.Option.{slice_get-get_or}
@@ -17,13 +17,13 @@ use Rattle.route_least.specs.declared.places.Arc.{Arc}
 use Rattle.route_least.specs.declared.places.Place.{Place}
 use Rattle.route_least.specs.Answers.{IsLeastFound, IsRefusal}
 use Rattle.route_least.specs.Bans.{AreRowsOf}
-use Rattle.route_least.specs.Costs.{cost_at, is_marked, AreLeast, Reach}
+use Rattle.route_least.specs.Costs.{cost_at, AreLeast, Reach}
 use Rattle.route_least.specs.Costs.Reach.{Start, Onward}
 use Rattle.route_least.specs.Marking.{Crosses}
-use Rattle.route_least.specs.Network.{AreInOrder, AreOnce, ArePlaces, AreSound, Goes, HasNode, IsClosed, IsNetworkOf}
+use Rattle.route_least.specs.Network.{AreInOrder, ArePlaces, AreSound, Goes, HasNode, IsClosed, IsNetworkOf}
 use Rattle.route_least.specs.Potentials.{AreListed}
-use Rattle.route_least.specs.Searches.{AreCostsFrom, IsFoundAlone, IsFoundFrom, IsMissed, IsMissedAlone, IsMissedFrom, IsReached, IsSearchable}
-use Rattle.route_least.specs.Trace.{AreEntries, AreMarked, IsTight}
+use Rattle.route_least.specs.Searches.{IsFoundAlone, IsFoundFrom, IsMissedAlone, IsMissedFrom, IsReached, IsSearchable}
+use Rattle.route_least.specs.Trace.{AreEntries, IsTight}
 use Rattle.route_least.proofs.Bans.{closed_iff, same_certify, same_none, same_potentials, same_walks}
 use Rattle.route_least.proofs.LeastLaws.{entries_certify, entries_potentials, marked_back, trace_least, walk_least}
 use Rattle.route_least.proofs.Ordered.{few_places}

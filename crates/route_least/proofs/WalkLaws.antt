@@ -1,9 +1,9 @@
 -- Walks over rows, and the arcs of the network that was prepared from them.
-use Rattle.std.proofs.Common.{◌≡◌, ◌≢◌, ◌⊎◌, inl, inr, ℕ, ◌+◌, ◌<◌, ◌≤◌, List, [], ◌∷◌, ◌++◌, Bool, true, false, Option, Some, length, get_or, slice_get, refl, sym, ◌∙◌, ap, subst, arith}
+use Rattle.std.proofs.Common.{◌≡◌, ◌⊎◌, inl, inr, ℕ, ◌+◌, ◌<◌, ◌≤◌, List, [], ◌∷◌, ◌++◌, Bool, true, false, Some, length, get_or, slice_get, refl, sym, ◌∙◌, ap, subst, arith}
 use Rattle.std.specs.List.{Contains}
 use Rattle.std.proofs.lemmas.List.Elements.{All-contains}
 use Rattle.std.proofs.lemmas.Option.{get_or_from_slice_get, slice_get-get_or, slice_get_within}
-use Rattle.ason_base.specs.Walks.{HaveDistinctLinks, HaveMetrics, Hop, IsWalk, Joins}
+use Rattle.ason_base.specs.Walks.{HaveDistinctLinks, Hop, IsWalk, Joins}
 use Rattle.ason_base.specs.declared.ids.LinkId.{LinkId}
 use Rattle.ason_base.specs.declared.ids.NodeId.{NodeId}
 use Rattle.ason_base.specs.declared.network.TeRow.{TeRow}
@@ -13,7 +13,7 @@ use Rattle.route_least.specs.declared.places.Arc.{Arc}
 use Rattle.route_least.specs.declared.places.Place.{Place}
 use Rattle.route_least.specs.Costs.{is_marked, Reach}
 use Rattle.route_least.specs.Costs.Reach.{Start, Onward}
-use Rattle.route_least.specs.Network.{AreOnce, ArePlaces, AreSound, Goes, HasArc, HasNode, HasRow, IsArc, IsBack, IsClosed, IsFree, IsNetworkOf, IsWithin}
+use Rattle.route_least.specs.Network.{AreOnce, AreSound, Goes, HasArc, HasNode, IsArc, IsBack, IsClosed, IsNetworkOf}
 use Rattle.route_least.proofs.PlaceLists.{node_within, one_node}
 
 below_same_above : (i j : ℕ) → (i ≡ j) ⊎ ((i < j) ⊎ (j < i))

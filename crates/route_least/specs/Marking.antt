@@ -5,7 +5,7 @@ use Rattle.route_least.specs.declared.places.Arc.{Arc}
 use Rattle.route_least.specs.declared.places.Place.{Place}
 use Rattle.route_least.specs.Costs.{cost_at, is_marked}
 use Rattle.route_least.specs.Network.{HasArc}
-use Rattle.route_least.specs.Trace.{IsTight, LeadsOn}
+use Rattle.route_least.specs.Trace.{LeadsOn}
 
 -- the arc from the place is of a row that isn't closed
 abbrev pub Crosses : List Place → List Bool → ℕ → Arc → Type 0

@@ -1,5 +1,5 @@
 -- Places for the nodes of a network, and arcs between them that stand for its rows.
-use Rattle.std.specs.Prelude.{◌≡◌, ◌≢◌, ◌⊎◌, ℕ, ◌<◌, ◌≤◌, ◌+◌, List, Bool, true, false, Some, length, slice_get, slice_index_or}
+use Rattle.std.specs.Prelude.{◌≡◌, ◌⊎◌, ℕ, ◌<◌, ◌≤◌, List, Bool, true, false, Some, length, slice_get, slice_index_or}
 use Rattle.std.specs.List.{AllPairs, Contains}
 use Rattle.ason_base.specs.Walks.{HaveDistinctLinks, HaveMetrics, Joins}
 use Rattle.ason_base.specs.declared.ids.LinkId.{LinkId}

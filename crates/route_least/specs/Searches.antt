@@ -1,11 +1,10 @@
 -- What searches in a prepared network give.
-use Rattle.std.specs.Prelude.{◌≡◌, ◌≢◌, ℕ, ◌<◌, ◌≤◌, List, [], ◌∷◌, All, Bool, true, Option, Some, length}
+use Rattle.std.specs.Prelude.{◌≡◌, ◌≢◌, ℕ, ◌<◌, List, [], ◌∷◌, All, Bool, true, Option, Some, length}
 use Rattle.ason_base.specs.declared.ids.NodeId.{NodeId}
 use Rattle.route_least.specs.declared.answers.Found.{Found}
 use Rattle.route_least.specs.declared.answers.RouteFault.{RouteFault}
 use Rattle.route_least.specs.declared.answers.RouteFault.TheVariants.{NoRoute, OutOfMemory}
 use Rattle.route_least.specs.declared.network.RouteNetwork.{RouteNetwork}
-use Rattle.route_least.specs.declared.places.Arc.{Arc}
 use Rattle.route_least.specs.declared.places.Place.{Place}
 use Rattle.route_least.specs.Costs.{cost_at, is_marked, AreLeast}
 use Rattle.route_least.specs.Marking.{Crosses}

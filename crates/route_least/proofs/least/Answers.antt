@@ -1,10 +1,7 @@
-use Rattle.std.proofs.Common.{◌≡◌, ◌∙◌, ◌↔◌, length, sym, subst}
+use Rattle.std.proofs.Common.{◌≡◌, length, sym, subst}
 use Rattle.std.specs.List.{Contains}
-use Rattle.ason_base.specs.declared.ids.LinkId.{LinkId}
-use Rattle.ason_base.specs.declared.ids.NodeId.{NodeId}
-use Rattle.ason_base.specs.declared.network.TeRow.{TeRow}
 use Rattle.route_least.specs.Answers.{IsLeastFound, IsRefusal}
-use Rattle.route_least.specs.Network.{IsClosed, IsPrepared}
+use Rattle.route_least.specs.Network.{IsClosed}
 use Rattle.route_least.proofs.RouteLaws.{err_map, least_certificate, least_potential, least_route, least_refusal, ok_map, rows-are}
 use Rattle.route_least.proofs.least.Goals as goal
 

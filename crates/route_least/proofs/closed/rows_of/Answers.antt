@@ -1,4 +1,4 @@
-use Rattle.std.proofs.Common.{◌≡◌, ◌≤◌, ◌+◌, ◌∙◌, ◌↔◌, true, length, sym, subst, arith}
+use Rattle.std.proofs.Common.{◌≡◌, ◌≤◌, ◌+◌, ◌↔◌, true, length, sym, subst, arith}
 use Rattle.std.specs.List.{Contains}
 use Rattle.route_least.specs.Bans.{AreRowsWith}
 use Rattle.route_least.proofs.Bans.{all_rows, no_rows, row_more, set_has}

@@ -1,4 +1,4 @@
-use Rattle.std.proofs.Common.{◌≡◌, Bool, true, false, not, get_or, sym, ◌∙◌, subst, refl}
+use Rattle.std.proofs.Common.{◌≡◌, Bool, true, false, not, get_or, sym, subst, refl}
 use Rattle.std.specs.List.{Contains}
 use Rattle.route_least.proofs.PlaceLists.{node_at, node_is}
 use Rattle.route_least.proofs.costs.is_free.Goals as goal

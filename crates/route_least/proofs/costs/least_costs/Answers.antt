@@ -1,5 +1,5 @@
-use Rattle.std.proofs.Common.{◌≡◌, ◌∙◌, ◌++◌, ◌≤◌, false, length, sym, subst, set, replicate, take, drop, None, Some, true}
-use Rattle.route_least.specs.Costs.{AreLeast, AreSmall, is_marked}
+use Rattle.std.proofs.Common.{◌≡◌, ◌∙◌, ◌≤◌, false, length, sym, subst, set, replicate, None, Some, true}
+use Rattle.route_least.specs.Costs.{is_marked}
 use Rattle.route_least.specs.Network.{Goes}
 use Rattle.route_least.proofs.Lowered.{small}
 use Rattle.route_least.proofs.Passed.{IsTable, first_table, round_table, settled_least, written_back}

@@ -1,7 +1,5 @@
-use Rattle.std.proofs.Common.{◌≡◌, ◌∙◌, ◌+◌, ◌<◌, ◌≤◌, ℕ, Bool, List, Option, Some, get_or, length, set, sym, subst, take, take_all, true, false, arith}
-use Rattle.route_least.specs.declared.places.Arc.{Arc}
-use Rattle.route_least.specs.Costs.{cost_at}
-use Rattle.route_least.specs.Network.{HasArc, IsWithin}
+use Rattle.std.proofs.Common.{◌≡◌, ◌∙◌, ◌+◌, ◌<◌, ◌≤◌, get_or, length, sym, subst, take, take_all, true}
+use Rattle.route_least.specs.Network.{IsWithin}
 use Rattle.route_least.proofs.Lowered.{small}
 use Rattle.route_least.proofs.PlaceLists.{no_arc, read_arc}
 use Rattle.route_least.proofs.Relaxed.{IsRelaxing, all_relaxed, relaxed, relaxed_none, relaxing}

@@ -1,6 +1,6 @@
-use Rattle.std.proofs.Common.{◌≡◌, ◌∙◌, ◌+◌, ◌<◌, ◌≤◌, get_or, length, ap, set, sym, subst, take, take_all, true, false, not, Bool, arith}
+use Rattle.std.proofs.Common.{◌≡◌, ◌∙◌, ◌+◌, ◌<◌, ◌≤◌, get_or, length, ap, set, sym, subst, take, take_all, true, arith}
 use Rattle.route_least.specs.Network.{IsWithin}
-use Rattle.route_least.proofs.Marked.{IsMarkingBefore, all_before, marked_more, marked_same_more, marking_none, none_before}
+use Rattle.route_least.proofs.Marked.{IsMarkingBefore, all_before, marked_more, marked_same_more, marking_none}
 use Rattle.route_least.proofs.PlaceLists.{no_arc, read_arc}
 use Rattle.route_least.proofs.leading.mark_before.Goals as goal
 use Rattle.route_least.proofs.leading.mark_before.Goals.{then-comes_by+then-not-marks-arc+in_ok-push, else-comes_by, else-comes_by-via-then-comes_by+else-not-marks-arc, else-comes_by-via-else-comes_by}

@@ -1,9 +1,9 @@
-use Rattle.std.proofs.Common.{◌≡◌, ◌∙◌, ℕ, List, Option, Some, sym, subst}
+use Rattle.std.proofs.Common.{◌≡◌, Some, sym, subst}
 use Rattle.route_least.specs.Costs.{cost_at, AreLeast}
 use Rattle.route_least.specs.Marking.{Crosses}
 use Rattle.route_least.specs.Network.{AreOnce, Goes, HasNode}
 use Rattle.route_least.specs.Potentials.{AreListed}
-use Rattle.route_least.specs.Searches.{AreCostsFrom, IsReached}
+use Rattle.route_least.specs.Searches.{IsReached}
 use Rattle.route_least.specs.Trace.{IsTraced}
 use Rattle.route_least.proofs.RouteLaws.{reached}
 use Rattle.route_least.proofs.network.least_from.Goals as goal

@@ -1,4 +1,4 @@
-use Rattle.std.proofs.Common.{◌≡◌, ◌≤◌, ◌+◌, ◌∙◌, ap, length, sym, subst, arith}
+use Rattle.std.proofs.Common.{◌≡◌, ◌≤◌, ◌∙◌, ap, length, subst, arith}
 use Rattle.route_least.specs.Network.{ArePlaces, HasAdded}
 use Rattle.route_least.proofs.Added.{none_yet, places_more}
 use Rattle.route_least.proofs.Passed.{written_back}

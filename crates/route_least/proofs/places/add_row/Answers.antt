@@ -1,4 +1,3 @@
-use Rattle.std.proofs.Common.{◌<◌, length, subst}
 use Rattle.route_least.proofs.Added.{added}
 use Rattle.route_least.proofs.PlaceLists.{node_within}
 use Rattle.route_least.proofs.places.add_row.Goals as goal

@@ -1,6 +1,5 @@
-use Rattle.std.proofs.Common.{◌≡◌, ◌≤◌, ◌<◌, true, length, get_or, sym, ◌∙◌, subst, arith, below_more}
+use Rattle.std.proofs.Common.{◌≡◌, ◌≤◌, ◌<◌, length, get_or, ◌∙◌, arith, below_more}
 use Rattle.ason_base.specs.declared.ids.NodeId.{NodeId}
-use Rattle.route_least.specs.Network.{HasNode}
 use Rattle.route_least.proofs.PlaceLists.{node_at, node_is, node_within}
 use Rattle.route_least.proofs.places.place_of.Goals as goal
 

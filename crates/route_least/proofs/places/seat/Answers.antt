@@ -1,4 +1,4 @@
-use Rattle.std.proofs.Common.{◌≡◌, ◌∙◌, ◌++◌, ◌∷◌, [], ℕ, length, sym, subst, refl, arith}
+use Rattle.std.proofs.Common.{◌≡◌, ◌++◌, ◌∷◌, [], ℕ, length, sym, subst, refl, arith}
 use Rattle.route_least.specs.declared.places.Place.{Place}
 use Rattle.route_least.specs.Network.{HasNode, HasSeated}
 use Rattle.route_least.proofs.PlaceLists.{seated_new, seated_old}

@@ -1,4 +1,4 @@
-use Rattle.std.proofs.Common.{◌+◌, ◌∙◌, ◌≡◌, sym, subst, take, take_all, get_or}
+use Rattle.std.proofs.Common.{◌+◌, ◌∙◌, sym, subst, take, take_all}
 use Rattle.route_least.specs.declared.order.NodePlace.{NodePlace}
 use Rattle.route_least.specs.Potentials.{AreListed}
 use Rattle.route_least.proofs.Listing.{all_below, listed_push, listed_skip, none_listed}

@@ -1,4 +1,4 @@
-use Rattle.std.proofs.Common.{◌≡◌, ◌∙◌, ◌+◌, ◌<◌, ◌≤◌, get_or, length, sym, subst, take, take_all, arith}
+use Rattle.std.proofs.Common.{◌∙◌, ◌+◌, ◌<◌, ◌≤◌, get_or, sym, subst, take, take_all, arith}
 use Rattle.route_least.proofs.BestArc.{IsBestOf, best_of_all, better_at, no_better_at, none_best}
 use Rattle.route_least.proofs.PlaceLists.{no_arc, read_arc}
 use Rattle.route_least.proofs.trace.best_arc.Goals as goal

@@ -1,4 +1,4 @@
-use Rattle.std.proofs.Common.{get_or, length, refl, sym, subst}
+use Rattle.std.proofs.Common.{get_or, refl, sym, subst}
 use Rattle.ason_base.specs.declared.steps.Step.{Step}
 use Rattle.route_least.specs.Marking.{Crosses}
 use Rattle.route_least.specs.Trace.{Follows, IsBest, IsTrace}
