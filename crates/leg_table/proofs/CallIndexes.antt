@@ -1,6 +1,6 @@
 -- The index of calls after a call comes, changes or goes.
 use Rattle.std.proofs.Common.{◌≡◌, Bool, true, false, cond, nat_eq, List, [], ◌∷◌, refl, sym, ap, subst, ◌∙◌, arith}
-use Rattle.std.specs.Prelude.{Option, Some, None, IfSome, IsSome, Result, Ok, Err, OnOk, OnErr}
+use Rattle.std.specs.Prelude.{Option, Some, None, IfSome, IsSome}
 use Rattle.std.specs.Option.{option_map}
 use Rattle.ason_base.specs.declared.calls.Role.{Role}
 use Rattle.ason_base.specs.declared.calls.Role.TheVariants.{Work, Back}
@@ -46,6 +46,20 @@ entry-all of n calls es index = go (find_call n calls) refl
     go None found = tt
     go (Some c) found =
         subst (λ k. HasJust k (of c) es) (sym (found-number n calls c found)) (just-stands of n calls es c index found)
+
+-- the entry that is read of the call that was found
+pub entry-found : (of : CallRec → Option Lsp) (n : CallNo) {calls read : List CallRec} {es : List LspOfCall}
+    {found : Option CallRec} {entry : Option LspOfCall} → IsIndexOf of calls es → found ≡ find_call n read →
+    read ≡ calls → entry ≡ entry_of of found → IsEntryOf n es entry
+entry-found of n {calls} {read} {es} index is first made =
+    subst (IsEntryOf n es) (sym (made ∙ ap (entry_of of) (is ∙ ap (find_call n) first))) (entry-stands of n calls es index)
+
+pub entry-just : (of : CallRec → Option Lsp) (n : CallNo) {calls read : List CallRec} {es : List LspOfCall}
+    {found : Option CallRec} {entry : Option LspOfCall} → IsIndexOf of calls es → found ≡ find_call n read →
+    read ≡ calls → entry ≡ entry_of of found → IfSome entry (λ x. HasJust x.call x.lsp es)
+entry-just of n {calls} {read} {es} index is first made =
+    subst (λ o. IfSome o (λ x. HasJust x.call x.lsp es))
+    (sym (made ∙ ap (entry_of of) (is ∙ ap (find_call n) first))) (entry-all of n calls es index)
 
 -- Calls that come, change or go
 
@@ -230,7 +244,3 @@ unreported-work Back f c = refl
 pub unreported-back : (role : Role) (f : Fibre) (c : CallRec) → (unreported role f c).back ≡ c.back
 unreported-back Work f c = refl
 unreported-back Back f c = refl
-
-pub in-both : {T E : Type 0} {A B P : Type 0} (r : Result T E) → (A → P) → (B → P) → OnOk r A → OnErr r B → P
-in-both (Ok x) f g ok err = f ok
-in-both (Err e) f g ok err = g err

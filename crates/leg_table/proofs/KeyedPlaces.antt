@@ -1,5 +1,5 @@
 -- Where an item stands in a list in order of a key, and what putting one there makes of the list.
-use Rattle.std.proofs.Common.{◌≡◌, ◌+◌, ℕ, zero, suc, Bool, true, false, cond, not, List, [], ◌∷◌, get_or, length, set, refl, sym, ap, subst, ◌∙◌, arith}
+use Rattle.std.proofs.Common.{◌≡◌, ◌+◌, ℕ, zero, suc, Bool, true, false, cond, not, List, [], ◌∷◌, get_or, set, refl, sym, ap, subst, ◌∙◌, arith}
 use Rattle.std.specs.Prelude.{◌||◌, IsTrue, None, Some, filter, find, insert, slice_get}
 use Rattle.std.specs.List.{list_any, position_or_len}
 use Rattle.ason_base.specs.InOrder.{IsKeyOrder, put_by}
@@ -26,6 +26,16 @@ unheld {X} p (x ∷ xs) k e = go (p x) refl e k (λ j f. unheld p xs j f)
     go true is f k later = absurd (cc f)
     go false is f zero later = is
     go false is f (suc k) later = later k f
+
+-- where none is found, none passes
+pub not-found : {X : Type 0} (same : X → Bool) (xs : List X) → find same xs ≡ None → list_any same xs ≡ true → ⊥
+not-found same [] e h = cc h
+not-found same (x ∷ xs) e h = go (same x) e h (not-found same xs)
+  where
+    go : (b : Bool) → cond b (Some x) (find same xs) ≡ None → (b || list_any same xs) ≡ true →
+        (find same xs ≡ None → list_any same xs ≡ true → ⊥) → ⊥
+    go true e h later = cc e
+    go false e h later = later e h
 
 -- where none passes, none is found
 pub none-found : {X : Type 0} (p : X → Bool) (xs : List X) → list_any p xs ≡ false → find p xs ≡ None

@@ -1,5 +1,5 @@
 -- Two ways to say that the legs stand in order of LSP, and the calls in order of number.
-use Rattle.std.proofs.Common.{◌≡◌, ◌≤◌, ◌<◌, ℕ, zero, suc, nat_lt, true, List, [], ◌∷◌, length, get_or, ap, arith}
+use Rattle.std.proofs.Common.{◌≡◌, ◌≤◌, ◌<◌, ℕ, zero, suc, nat_lt, true, List, length, get_or, ap, arith}
 use Rattle.std.specs.Prelude.{IsTrue}
 use Rattle.ason_base.specs.declared.tables.CallRec.{CallRec}
 use Rattle.ason_base.specs.declared.tables.Leg.{Leg}

@@ -7,7 +7,6 @@ mod KeyedPlaces
 pub mod LegOrder
 mod LspIndex
 mod LspOrder
-mod NewPlaces
 pub mod OwnFibres
 pub mod OwnerFibres
 pub mod Places

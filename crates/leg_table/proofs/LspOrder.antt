@@ -1,5 +1,5 @@
 -- The order of LSPs that may be none, and of the entries of an index.
-use Rattle.std.proofs.Common.{◌≡◌, Bool, true, false, not, refl, arith}
+use Rattle.std.proofs.Common.{◌≡◌, true, false, refl, arith}
 use Rattle.std.specs.Prelude.{Option, Some, None}
 use Rattle.ason_base.specs.InOrder.{IsKeyOrder}
 use Rattle.ason_base.specs.declared.ids.Lsp.{Lsp}

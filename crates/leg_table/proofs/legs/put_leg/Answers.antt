@@ -1,14 +1,13 @@
 use Rattle.std.proofs.Common.{◌∙◌, ap, sym, subst}
 use Rattle.std.specs.List.{position_or_len}
 use Rattle.std.proofs.lemmas.Result.{on_ok_weaker}
-use Rattle.std.specs.Prelude.{insert}
 use Rattle.ason_base.specs.Lsps.{lsp_before}
 use Rattle.ason_base.specs.declared.tables.Leg.{Leg}
 use Rattle.ason_base.proofs.LspOrder.{lsp_order}
+use Rattle.ason_base.proofs.Results.{on_both}
 use Rattle.leg_table.specs.Keyed.{is_from}
 use Rattle.leg_table.specs.Tables.{LegsRise}
 use Rattle.leg_table.proofs.KeyedPlaces.{new-inserted, put_rises}
-use Rattle.leg_table.proofs.NewPlaces.{either_way}
 use Rattle.leg_table.proofs.legs.put_leg.Goals as goal
 
 pub returns-clause-ok : goal.returns-clause-ok
@@ -25,7 +24,7 @@ returns-clause-rising c =
     let n = c.place_of-place.result in
     let place = c.place_of-place.ensures.place ∙
     ap (position_or_len (is_from lsp_before (λ (g : Leg). g.lsp) c.args.leg.lsp)) c.deref.ensures.value in
-    either_way LegsRise c.insert_leg.result (insert before n c.args.leg) before c.insert_leg.new.legs.items
-    c.insert_leg.ensures.ok c.insert_leg.ensures.err
-    (subst LegsRise (sym (new-inserted lsp_order (λ (g : Leg). g.lsp) c.args.leg before n place c.requires.new))
-    (put_rises lsp_order (λ (g : Leg). g.lsp) c.args.leg before c.requires.rising)) c.requires.rising
+    on_both c.insert_leg.result _ _ _
+    (λ e. subst LegsRise (sym (e ∙ new-inserted lsp_order (λ (g : Leg). g.lsp) c.args.leg before n place c.requires.new))
+    (put_rises lsp_order (λ (g : Leg). g.lsp) c.args.leg before c.requires.rising))
+    (λ e. subst LegsRise (sym e) c.requires.rising) c.insert_leg.ensures.ok c.insert_leg.ensures.err

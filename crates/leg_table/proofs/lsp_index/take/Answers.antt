@@ -1,6 +1,6 @@
 use Rattle.std.proofs.Common.{sym}
 use Rattle.leg_table.specs.LspIndexes.{is_entry}
-use Rattle.leg_table.proofs.NewPlaces.{not-found}
+use Rattle.leg_table.proofs.KeyedPlaces.{not-found}
 use Rattle.leg_table.proofs.lsp_index.take.Goals as goal
 
 pub unreachable-requires : goal.unreachable-requires

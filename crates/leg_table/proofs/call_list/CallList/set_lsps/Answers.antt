@@ -1,30 +1,20 @@
-use Rattle.std.proofs.Common.{IfSome, refl, subst, sym, ◌∙◌, ap}
+use Rattle.std.proofs.Common.{refl, subst, sym, ◌∙◌, ap}
 use Rattle.mesh_rules.specs.Calls.{find_call}
 use Rattle.leg_table.specs.CallLists.{entry_of}
-use Rattle.leg_table.specs.LspIndexes.{HasJust, IsIndexOf, back_of, work_of}
+use Rattle.leg_table.specs.LspIndexes.{IsIndexOf, back_of, work_of}
 use Rattle.leg_table.specs.Tables.{with_lsps}
-use Rattle.leg_table.proofs.CallIndexes.{entry-all, index-replaced}
+use Rattle.leg_table.proofs.CallIndexes.{entry-just, index-replaced}
 use Rattle.leg_table.proofs.call_list.CallList.set_lsps.Goals as goal
 
 pub change_entry-requires-clause-just : goal.change_entry-requires-clause-just
 change_entry-requires-clause-just c =
-    let n = c.args.number in
-    let calls = c.args.self.now.calls.items in
-    let es = c.args.self.now.works.items in
-    subst (λ o. IfSome o (λ x. HasJust x.call x.lsp es))
-    (sym (c.work_entry-work_before.ensures ∙ ap (entry_of work_of)
-    (c.find_call-before.ensures ∙ ap (find_call n) c.deref.ensures.value)))
-    (entry-all work_of n calls es c.requires.fit.of_works)
+    entry-just work_of c.args.number c.requires.fit.of_works c.find_call-before.ensures c.deref.ensures.value
+    c.work_entry-work_before.ensures
 
 pub change_entry-requires-2-clause-just : goal.change_entry-requires-2-clause-just
 change_entry-requires-2-clause-just c =
-    let n = c.args.number in
-    let calls = c.args.self.now.calls.items in
-    let es = c.args.self.now.backs.items in
-    subst (λ o. IfSome o (λ x. HasJust x.call x.lsp es))
-    (sym (c.back_entry-back_before.ensures ∙ ap (entry_of back_of)
-    (c.find_call-before.ensures ∙ ap (find_call n) c.deref.ensures.value)))
-    (entry-all back_of n calls es c.requires.fit.of_backs)
+    entry-just back_of c.args.number c.requires.fit.of_backs c.find_call-before.ensures c.deref.ensures.value
+    c.back_entry-back_before.ensures
 
 pub returns-clause-fit : goal.returns-clause-fit
 returns-clause-fit c =

@@ -1,27 +1,17 @@
-use Rattle.std.proofs.Common.{sym, ◌∙◌, ap, subst}
-use Rattle.mesh_rules.specs.Calls.{find_call}
-use Rattle.leg_table.specs.CallLists.{IsEntryOf, entry_of}
+use Rattle.std.proofs.Common.{sym, subst}
 use Rattle.leg_table.specs.LspIndexes.{IsIndexOf, back_of, work_of}
-use Rattle.leg_table.proofs.CallIndexes.{entry-stands, index-without}
+use Rattle.leg_table.proofs.CallIndexes.{entry-found, index-without}
 use Rattle.leg_table.proofs.call_list.CallList.take.Goals as goal
 
 pub take_entry-requires-clause-before : goal.take_entry-requires-clause-before
 take_entry-requires-clause-before c =
-    let n = c.args.number in
-    let es = c.args.self.now.works.items in
-    subst (IsEntryOf n es)
-    (sym (c.work_entry-work.ensures ∙ ap (entry_of work_of)
-    (c.find_call-before.ensures ∙ ap (find_call n) c.deref.ensures.value)))
-    (entry-stands work_of n c.args.self.now.calls.items es c.requires.of_works)
+    entry-found work_of c.args.number c.requires.of_works c.find_call-before.ensures c.deref.ensures.value
+    c.work_entry-work.ensures
 
 pub take_entry-requires-2-clause-before : goal.take_entry-requires-2-clause-before
 take_entry-requires-2-clause-before c =
-    let n = c.args.number in
-    let es = c.args.self.now.backs.items in
-    subst (IsEntryOf n es)
-    (sym (c.back_entry-back.ensures ∙ ap (entry_of back_of)
-    (c.find_call-before.ensures ∙ ap (find_call n) c.deref.ensures.value)))
-    (entry-stands back_of n c.args.self.now.calls.items es c.requires.of_backs)
+    entry-found back_of c.args.number c.requires.of_backs c.find_call-before.ensures c.deref.ensures.value
+    c.back_entry-back.ensures
 
 pub returns-clause-fit : goal.returns-clause-fit
 returns-clause-fit c =

@@ -1,6 +1,7 @@
 use Rattle.std.proofs.Common.{refl}
 use Rattle.leg_table.specs.Tables.{reported}
-use Rattle.leg_table.proofs.CallIndexes.{calls-as-before, calls-kept, in-both, reported-back, reported-call, reported-work}
+use Rattle.ason_base.proofs.Results.{on_both}
+use Rattle.leg_table.proofs.CallIndexes.{calls-as-before, calls-kept, reported-back, reported-call, reported-work}
 use Rattle.leg_table.proofs.call_table.Calls.report.Goals as goal
 
 pub invariant_of-self : goal.invariant_of-self
@@ -8,7 +9,7 @@ invariant_of-self c =
     let role = c.args.role in
     let f = c.args.f in
     let t = c.self.inside.list in
-    in-both c.report.result
+    on_both c.report.result _ _ _
     (λ e. calls-kept c.args.call (reported role f) t _ c.self.invariant (reported-call role f) (reported-work role f)
     (reported-back role f) c.report.ensures.rising e refl refl)
     (λ e. calls-as-before t _ c.self.invariant e refl refl) c.report.ensures.ok c.report.ensures.err
