@@ -11,7 +11,7 @@ use Rattle.mesh_rules.specs.Machine.{start}
 use Rattle.mesh_laws.specs.HopLaw.{HasShape}
 use Rattle.mesh_laws.specs.HopShapes as row
 use Rattle.mesh_examples.proofs.BothArmed as both_armed
-use Rattle.mesh_examples.proofs.Scene.{all_enabled, leg, lsp, node, Seen, seen, takes}
+use Rattle.mesh_examples.proofs.Scene.{all_enabled, among, leg, lsp, node, Seen, seen, takes}
 
 abbrev network : Network
 network = both_armed.network
@@ -21,14 +21,12 @@ events = both_armed.events ++ takes 2 5 ∷ []
 
 abbrev as_reached : Seen
 as_reached = record both_armed.as_reached {
-  legs =
-      (leg 1 1 Live None (Some 1) 0 1 1 ∷ leg 1 2 Armed None (Some 1) 0 3 1 ∷ [])
-      ∷ (leg 1 1 Live (Some 1) None 1 0 0 ∷ leg 1 2 Live (Some 1) None 1 0 0 ∷ [])
-      ∷ []
-      ∷ []
-      ∷ (leg 1 2 Armed (Some 1) (Some 1) 3 3 0 ∷ [])
-      ∷ (leg 1 1 Live (Some 1) (Some 1) 1 1 0 ∷ [])
-      ∷ [];
+  legs = among 6 (
+        (1, leg 1 1 Live None (Some 1) 0 1 1 ∷ leg 1 2 Armed None (Some 1) 0 3 1 ∷ [])
+        ∷ (2, leg 1 1 Live (Some 1) None 1 0 0 ∷ leg 1 2 Live (Some 1) None 1 0 0 ∷ [])
+        ∷ (5, leg 1 2 Armed (Some 1) (Some 1) 3 3 0 ∷ [])
+        ∷ (6, leg 1 1 Live (Some 1) (Some 1) 1 1 0 ∷ [])
+        ∷ []);
   mail = (0, 0) ∷ (0, 0) ∷ (0, 0) ∷ (1, 0) ∷ (0, 0) ∷ (0, 0) ∷ (0, 0) ∷ [];
 }
 

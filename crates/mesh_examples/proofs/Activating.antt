@@ -12,7 +12,7 @@ use Rattle.mesh_rules.specs.Events.{after}
 use Rattle.mesh_rules.specs.Machine.{start}
 use Rattle.mesh_laws.specs.HopLaw.{HasShape}
 use Rattle.mesh_laws.specs.HopShapes as row
-use Rattle.mesh_examples.proofs.Scene.{all_enabled, alone, desk, fails_link, joins, learns, leg, lsp, node, over, reported, Seen, seen, sets_up, spec, takes}
+use Rattle.mesh_examples.proofs.Scene.{all_enabled, alone, among, desk, fails_link, joins, learns, leg, lsp, node, over, reported, Seen, seen, sets_up, spec, takes_each}
 
 abbrev pub network : Network
 network = record {
@@ -30,29 +30,19 @@ events =
     ++ learns 5 (3 ∷ 5 ∷ [])
     ++ sets_up 1 1 2 (over 1 3 ∷ over 6 5 ∷ []) (over 1 2 ∷ over 5 4 ∷ [])
     ∷ desk 1
-    ∷ takes 6 1
-    ∷ takes 2 6
-    ∷ takes 6 2
-    ∷ takes 1 6
-    ∷ takes 5 1
-    ∷ takes 2 5
-    ∷ takes 5 2
-    ∷ fails_link 3
+    ∷ takes_each ((6, 1) ∷ (2, 6) ∷ (6, 2) ∷ (1, 6) ∷ (5, 1) ∷ (2, 5) ∷ (5, 2) ∷ [])
+    ++ fails_link 3
     ∷ desk 6
-    ∷ takes 1 6
-    ∷ takes 1 5
-    ∷ []
+    ∷ takes_each ((1, 6) ∷ (1, 5) ∷ [])
 
 abbrev pub as_reached : Seen
 as_reached = record {
-  legs =
-      (leg 1 1 Live None (Some 1) 0 1 1 ∷ leg 1 2 Armed None (Some 1) 0 3 1 ∷ [])
-      ∷ (leg 1 1 Live (Some 1) None 1 0 0 ∷ leg 1 2 Held (Some 1) None 1 0 0 ∷ [])
-      ∷ []
-      ∷ []
-      ∷ (leg 1 2 Held (Some 1) (Some 1) 3 3 0 ∷ [])
-      ∷ (leg 1 1 Live (Some 1) (Some 1) 1 1 0 ∷ [])
-      ∷ [];
+  legs = among 6 (
+        (1, leg 1 1 Live None (Some 1) 0 1 1 ∷ leg 1 2 Armed None (Some 1) 0 3 1 ∷ [])
+        ∷ (2, leg 1 1 Live (Some 1) None 1 0 0 ∷ leg 1 2 Held (Some 1) None 1 0 0 ∷ [])
+        ∷ (5, leg 1 2 Held (Some 1) (Some 1) 3 3 0 ∷ [])
+        ∷ (6, leg 1 1 Live (Some 1) (Some 1) 1 1 0 ∷ [])
+        ∷ []);
   calls = alone 6 1 (reported 1 Turning Unset 1 0 ∷ []);
   known = 4 ∷ 4 ∷ 1 ∷ 0 ∷ 5 ∷ 4 ∷ [];
   down = 0 ∷ 0 ∷ 0 ∷ 0 ∷ 0 ∷ 1 ∷ [];

@@ -12,7 +12,7 @@ use Rattle.mesh_rules.specs.Events.{after}
 use Rattle.mesh_rules.specs.Machine.{start}
 use Rattle.mesh_laws.specs.HopLaw.{HasShape}
 use Rattle.mesh_laws.specs.HopShapes as row
-use Rattle.mesh_examples.proofs.Scene.{all_enabled, alone, called, desk, joins, leg, lsp, node, over, Seen, seen, sets_up, spec, takes}
+use Rattle.mesh_examples.proofs.Scene.{all_enabled, alone, among, called, desk, joins, leg, lsp, node, over, Seen, seen, sets_up, spec, takes}
 
 abbrev pub network : Network
 network = record {
@@ -31,14 +31,10 @@ events =
 
 abbrev pub as_reached : Seen
 as_reached = record {
-  legs =
-      []
-      ∷ []
-      ∷ []
-      ∷ (leg 4 1 Asked None None 0 1 0 ∷ [])
-      ∷ (leg 4 1 Live (Some 1) None 1 0 0 ∷ [])
-      ∷ []
-      ∷ [];
+  legs = among 6 (
+        (4, leg 4 1 Asked None None 0 1 0 ∷ [])
+        ∷ (5, leg 4 1 Live (Some 1) None 1 0 0 ∷ [])
+        ∷ []);
   calls = alone 6 4 (called 1 Asking Unset ∷ []);
   known = 3 ∷ 2 ∷ 4 ∷ 2 ∷ 3 ∷ 0 ∷ [];
   down = 0 ∷ 0 ∷ 0 ∷ 0 ∷ 0 ∷ 0 ∷ [];

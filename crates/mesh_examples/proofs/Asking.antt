@@ -13,7 +13,7 @@ use Rattle.mesh_rules.specs.Machine.{start}
 use Rattle.mesh_laws.specs.HopLaw.{HasShape}
 use Rattle.mesh_laws.specs.HopShapes as row
 use Rattle.mesh_examples.proofs.Answered as answered
-use Rattle.mesh_examples.proofs.Scene.{all_enabled, alone, called, leg, lsp, node, Seen, seen, takes}
+use Rattle.mesh_examples.proofs.Scene.{all_enabled, alone, among, called, leg, lsp, node, Seen, seen, takes}
 
 abbrev network : Network
 network = answered.network
@@ -23,14 +23,10 @@ events = answered.events ++ takes 4 5 ∷ []
 
 abbrev as_reached : Seen
 as_reached = record answered.as_reached {
-  legs =
-      []
-      ∷ []
-      ∷ []
-      ∷ (leg 4 1 Live None (Some 1) 0 1 0 ∷ leg 4 2 Asked None None 0 1 3 ∷ [])
-      ∷ (leg 4 1 Live (Some 1) None 1 0 0 ∷ [])
-      ∷ []
-      ∷ [];
+  legs = among 6 (
+        (4, leg 4 1 Live None (Some 1) 0 1 0 ∷ leg 4 2 Asked None None 0 1 3 ∷ [])
+        ∷ (5, leg 4 1 Live (Some 1) None 1 0 0 ∷ [])
+        ∷ []);
   calls = alone 6 4 (called 1 Pairing Unset ∷ []);
   mail = (0, 0) ∷ (0, 0) ∷ (0, 0) ∷ (0, 0) ∷ (0, 1) ∷ (0, 0) ∷ (0, 0) ∷ [];
 }

@@ -9,7 +9,7 @@ use Rattle.mesh_rules.specs.declared.events.MeshEvent.{MeshEvent}
 use Rattle.mesh_rules.specs.Events.{after}
 use Rattle.mesh_rules.specs.Machine.{start}
 use Rattle.mesh_examples.proofs.Deactivating as deactivating
-use Rattle.mesh_examples.proofs.Scene.{all_enabled, alone, called, desk, fails_link, learns, over, repairs_link, reported, reverts, Seen, seen, sets_up, takes, ticks}
+use Rattle.mesh_examples.proofs.Scene.{all_enabled, alone, called, desk, fails_link, learns, over, repairs_link, reported, reverts, Seen, seen, sets_up, takes, takes_each, ticks}
 
 abbrev network : Network
 network = deactivating.network
@@ -28,10 +28,8 @@ events =
     ∷ ticks 1
     ∷ takes 3 1
     ∷ reverts 1 1
-    ∷ takes 6 3
-    ∷ takes 3 6
-    ∷ takes 1 3
-    ∷ desk 1
+    ∷ takes_each ((6, 3) ∷ (3, 6) ∷ (1, 3) ∷ [])
+    ++ desk 1
     ∷ fails_link 1
     ∷ sets_up 2 1 6 (over 1 1 ∷ over 3 6 ∷ []) (over 1 4 ∷ [])
     ∷ takes 6 1
@@ -40,13 +38,10 @@ events =
     ∷ desk 3
     ∷ takes 1 6
     ∷ desk 1
-    ∷ takes 1 3
-    ∷ takes 6 1
-    ∷ desk 1
-    ∷ takes 1 3
-    ∷ takes 1 6
-    ∷ takes 3 1
-    ∷ desk 1
+    ∷ takes_each ((1, 3) ∷ (6, 1) ∷ [])
+    ++ desk 1
+    ∷ takes_each ((1, 3) ∷ (1, 6) ∷ (3, 1) ∷ [])
+    ++ desk 1
     ∷ takes 1 3
     ∷ fails_link 4
     ∷ sets_up 3 1 6 (over 1 1 ∷ over 3 6 ∷ []) (over 1 4 ∷ [])

@@ -10,7 +10,7 @@ use Rattle.ason_base.specs.declared.calls.Phase.TheVariants.{Held, Live}
 use Rattle.mesh_rules.specs.declared.events.MeshEvent.{MeshEvent}
 use Rattle.mesh_rules.specs.Events.{after}
 use Rattle.mesh_rules.specs.Machine.{start}
-use Rattle.mesh_examples.proofs.Scene.{all_enabled, called, desk, fails_link, joins, learns, leg, over, repairs_link, reported, reverts, seen, Seen, sets_up, sets_up_alone, spec, takes, ticks}
+use Rattle.mesh_examples.proofs.Scene.{all_enabled, among, called, desk, fails_link, joins, learns, leg, over, repairs_link, reported, reverts, Seen, seen, sets_up, sets_up_alone, spec, takes, takes_each, ticks}
 
 abbrev network : Network
 network = record {
@@ -35,14 +35,8 @@ events =
     ++ learns 5 (3 ∷ [])
     ++ sets_up 1 1 5 (over 1 2 ∷ []) (over 1 1 ∷ over 4 6 ∷ over 6 7 ∷ [])
     ∷ desk 1
-    ∷ takes 5 1
-    ∷ takes 1 5
-    ∷ takes 4 1
-    ∷ takes 6 4
-    ∷ takes 5 6
-    ∷ takes 6 5
-    ∷ takes 4 6
-    ∷ fails_link 6
+    ∷ takes_each ((5, 1) ∷ (1, 5) ∷ (4, 1) ∷ (6, 4) ∷ (5, 6) ∷ (6, 5) ∷ (4, 6) ∷ [])
+    ++ fails_link 6
     ∷ takes 1 4
     ∷ sets_up_alone 2 2 5 (over 2 4 ∷ over 6 7 ∷ [])
     ∷ desk 4
@@ -54,17 +48,13 @@ events =
     ∷ desk 1
     ∷ desk 4
     ∷ desk 6
-    ∷ takes 6 5
-    ∷ takes 2 6
-    ∷ takes 4 6
-    ∷ takes 1 4
-    ∷ ticks 1
+    ∷ takes_each ((6, 5) ∷ (2, 6) ∷ (4, 6) ∷ (1, 4) ∷ [])
+    ++ ticks 1
     ∷ desk 6
     ∷ fails_link 1
     ∷ desk 4
-    ∷ takes 1 4
-    ∷ takes 4 6
-    ∷ reverts 1 1
+    ∷ takes_each ((1, 4) ∷ (4, 6) ∷ [])
+    ++ reverts 1 1
     ∷ desk 1
     ∷ sets_up 3 6 1 (over 6 6 ∷ over 4 1 ∷ []) (over 6 7 ∷ over 5 2 ∷ [])
     ∷ ticks 1
@@ -73,22 +63,16 @@ events =
 
 abbrev as_reached : Seen
 as_reached = record {
-  legs =
-      (leg 1 1 Live None (Some 1) 0 2 0 ∷ leg 1 2 Held None (Some 1) 0 3 2 ∷ [])
-      ∷ []
-      ∷ []
-      ∷ (leg 1 2 Held (Some 1) (Some 1) 3 3 1 ∷ [])
-      ∷ (leg 1 1 Live (Some 1) None 2 0 0 ∷ leg 1 2 Held (Some 1) None 1 0 0 ∷ [])
-      ∷ (leg 1 2 Held (Some 1) (Some 1) 1 1 0 ∷ [])
-      ∷ [];
-  calls =
-      (reported 1 Guarded Unset 0 1 ∷ [])
-      ∷ (called 2 Blocked (Code set_code) ∷ [])
-      ∷ []
-      ∷ []
-      ∷ []
-      ∷ []
-      ∷ [];
+  legs = among 6 (
+        (1, leg 1 1 Live None (Some 1) 0 2 0 ∷ leg 1 2 Held None (Some 1) 0 3 2 ∷ [])
+        ∷ (4, leg 1 2 Held (Some 1) (Some 1) 3 3 1 ∷ [])
+        ∷ (5, leg 1 1 Live (Some 1) None 2 0 0 ∷ leg 1 2 Held (Some 1) None 1 0 0 ∷ [])
+        ∷ (6, leg 1 2 Held (Some 1) (Some 1) 1 1 0 ∷ [])
+        ∷ []);
+  calls = among 6 (
+        (1, reported 1 Guarded Unset 0 1 ∷ [])
+        ∷ (2, called 2 Blocked (Code set_code) ∷ [])
+        ∷ []);
   known = 7 ∷ 7 ∷ 7 ∷ 7 ∷ 7 ∷ 7 ∷ [];
   down = 1 ∷ 0 ∷ 0 ∷ 1 ∷ 0 ∷ 0 ∷ [];
   mail = (0, 0) ∷ (0, 0) ∷ (0, 0) ∷ (0, 0) ∷ (0, 0) ∷ (0, 0) ∷ (0, 0) ∷ [];

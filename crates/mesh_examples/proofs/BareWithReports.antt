@@ -10,7 +10,7 @@ use Rattle.ason_base.specs.declared.calls.Phase.TheVariants.{Armed, Held, Live}
 use Rattle.mesh_rules.specs.declared.events.MeshEvent.{MeshEvent}
 use Rattle.mesh_rules.specs.Events.{after}
 use Rattle.mesh_rules.specs.Machine.{start}
-use Rattle.mesh_examples.proofs.Scene.{all_enabled, alone, called, desk, fails_link, joins, learns, leg, over, reported, Seen, seen, sets_up, spec, takes}
+use Rattle.mesh_examples.proofs.Scene.{all_enabled, alone, called, desk, fails_link, joins, learns, leg, over, reported, Seen, seen, sets_up, spec, takes, takes_each}
 
 abbrev network : Network
 network = record {
@@ -36,28 +36,12 @@ events =
     ∷ desk 1
     ∷ sets_up 2 1 4 (over 1 3 ∷ []) (over 1 2 ∷ over 3 5 ∷ over 5 6 ∷ [])
     ∷ desk 1
-    ∷ takes 4 1
-    ∷ takes 3 1
-    ∷ takes 1 3
-    ∷ takes 4 1
-    ∷ takes 1 4
-    ∷ takes 5 4
-    ∷ takes 3 1
-    ∷ fails_link 2
+    ∷ takes_each ((4, 1) ∷ (3, 1) ∷ (1, 3) ∷ (4, 1) ∷ (1, 4) ∷ (5, 4) ∷ (3, 1) ∷ [])
+    ++ fails_link 2
     ∷ takes 5 3
     ∷ desk 3
     ∷ desk 1
-    ∷ takes 4 5
-    ∷ takes 3 5
-    ∷ takes 1 3
-    ∷ takes 5 4
-    ∷ takes 1 3
-    ∷ takes 5 3
-    ∷ takes 4 5
-    ∷ takes 3 5
-    ∷ takes 1 4
-    ∷ takes 1 3
-    ∷ []
+    ∷ takes_each ((4, 5) ∷ (3, 5) ∷ (1, 3) ∷ (5, 4) ∷ (1, 3) ∷ (5, 3) ∷ (4, 5) ∷ (3, 5) ∷ (1, 4) ∷ (1, 3) ∷ [])
 
 abbrev as_reached : Seen
 as_reached = record {

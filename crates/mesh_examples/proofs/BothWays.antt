@@ -15,7 +15,7 @@ use Rattle.mesh_rules.specs.declared.events.MeshEvent.{MeshEvent}
 use Rattle.mesh_rules.specs.Events.{after}
 use Rattle.mesh_rules.specs.Machine.{start}
 use Rattle.mesh_rules.specs.Rows.{all_call_rows, all_leg_rows}
-use Rattle.mesh_examples.proofs.Scene.{all_enabled, desk, fails_link, joins, learns, link, lsp, over, row, sets_up_both, spec, takes}
+use Rattle.mesh_examples.proofs.Scene.{all_enabled, desk, fails_link, joins, learns, link, lsp, over, row, sets_up_both, spec, takes, takes_each}
 
 abbrev network : Network
 network = record {
@@ -31,13 +31,7 @@ set_up =
     ++ learns 2 (3 ∷ [])
     ++ sets_up_both 1 1 3 true (over 1 3 ∷ []) (Some (over 1 1 ∷ over 2 2 ∷ []))
     ∷ desk 1
-    ∷ takes 3 1
-    ∷ takes 1 3
-    ∷ takes 2 1
-    ∷ takes 3 2
-    ∷ takes 2 3
-    ∷ takes 1 2
-    ∷ []
+    ∷ takes_each ((3, 1) ∷ (1, 3) ∷ (2, 1) ∷ (3, 2) ∷ (2, 3) ∷ (1, 2) ∷ [])
 
 -- the working LSP's link fails; the egress tells of its fibre, and the backup is activated
 abbrev turned : List MeshEvent

@@ -2,7 +2,7 @@
 -- working LSPs over links 1 and 2, and share the one label of link 3 for their backups. Link 1 fails, and the first
 -- backup is activated. Node 1 sends the label for it, so when link 2 fails too the second call is stuck without sending
 -- anything.
-use Rattle.std.proofs.Common.{◌≡◌, true, false, List, [], ◌∷◌, refl}
+use Rattle.std.proofs.Common.{◌≡◌, true, false, List, [], ◌∷◌, ◌++◌, refl}
 use Rattle.std.specs.Prelude.{Some, None}
 use Rattle.ason_base.specs.Codes.{busy_code}
 use Rattle.ason_base.specs.Labels as labels
@@ -13,7 +13,7 @@ use Rattle.ason_base.specs.declared.calls.Phase.TheVariants.{Armed, Held, Live}
 use Rattle.mesh_rules.specs.declared.events.MeshEvent.{MeshEvent}
 use Rattle.mesh_rules.specs.Events.{after}
 use Rattle.mesh_rules.specs.Machine.{start}
-use Rattle.mesh_examples.proofs.Scene.{all_enabled, desk, fails_link, joins, leg, over, reported, Seen, seen, sets_up, spec, takes}
+use Rattle.mesh_examples.proofs.Scene.{all_enabled, desk, fails_link, joins, leg, over, reported, Seen, seen, sets_up, spec, takes, takes_each}
 
 abbrev network : Network
 network = record {
@@ -27,17 +27,11 @@ abbrev events : List MeshEvent
 events =
     sets_up 1 1 2 (over 1 1 ∷ []) (over 1 3 ∷ [])
     ∷ desk 1
-    ∷ takes 2 1
-    ∷ takes 1 2
-    ∷ takes 2 1
-    ∷ takes 1 2
-    ∷ sets_up 2 1 2 (over 1 2 ∷ []) (over 1 3 ∷ [])
+    ∷ takes_each ((2, 1) ∷ (1, 2) ∷ (2, 1) ∷ (1, 2) ∷ [])
+    ++ sets_up 2 1 2 (over 1 2 ∷ []) (over 1 3 ∷ [])
     ∷ desk 1
-    ∷ takes 2 1
-    ∷ takes 1 2
-    ∷ takes 2 1
-    ∷ takes 1 2
-    ∷ fails_link 1
+    ∷ takes_each ((2, 1) ∷ (1, 2) ∷ (2, 1) ∷ (1, 2) ∷ [])
+    ++ fails_link 1
     ∷ desk 2
     ∷ takes 1 2
     ∷ fails_link 2

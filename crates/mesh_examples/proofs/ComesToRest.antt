@@ -12,7 +12,7 @@ use Rattle.mesh_rules.specs.declared.events.MeshEvent.{MeshEvent}
 use Rattle.mesh_rules.specs.Events.{after}
 use Rattle.mesh_rules.specs.Machine.{start}
 use Rattle.mesh_laws.specs.RestLaw.{added, handled}
-use Rattle.mesh_examples.proofs.Scene.{all_enabled, called, desk, fails_link, joins, learns, leg, over, repairs_link, reported, reverts, seen, Seen, sets_up, spec, takes}
+use Rattle.mesh_examples.proofs.Scene.{all_enabled, among, called, desk, fails_link, joins, learns, leg, over, repairs_link, reported, reverts, Seen, seen, sets_up, spec, takes, takes_each}
 
 -- the working route goes over link 1, the backup over links 2 and 3
 abbrev network : Network
@@ -27,24 +27,14 @@ set_up =
     learns 3 (1 ∷ [])
     ++ sets_up 1 1 2 (over 1 1 ∷ []) (over 1 2 ∷ over 3 3 ∷ [])
     ∷ desk 1
-    ∷ takes 2 1
-    ∷ takes 1 2
-    ∷ takes 3 1
-    ∷ takes 2 3
-    ∷ takes 3 2
-    ∷ takes 1 3
-    ∷ []
+    ∷ takes_each ((2, 1) ∷ (1, 2) ∷ (3, 1) ∷ (2, 3) ∷ (3, 2) ∷ (1, 3) ∷ [])
 
 abbrev cut : List MeshEvent
 cut =
     fails_link 1
     ∷ desk 2
-    ∷ takes 1 2
-    ∷ takes 3 1
-    ∷ takes 2 3
-    ∷ takes 3 2
-    ∷ takes 1 3
-    ∷ desk 1
+    ∷ takes_each ((1, 2) ∷ (3, 1) ∷ (2, 3) ∷ (3, 2) ∷ (1, 3) ∷ [])
+    ++ desk 1
     ∷ []
 
 abbrev way_back : List MeshEvent
@@ -55,17 +45,15 @@ way_back =
     ∷ reverts 1 1
     ∷ desk 1
     ∷ desk 1
-    ∷ takes 3 1
-    ∷ takes 2 3
-    ∷ []
+    ∷ takes_each ((3, 1) ∷ (2, 3) ∷ [])
 
 abbrev turned : Seen
 turned = record {
-  legs =
-      (leg 1 1 Live None (Some 1) 0 1 0 ∷ leg 1 2 Live None (Some 1) 0 1 1 ∷ [])
-      ∷ (leg 1 1 Live (Some 1) None 1 0 0 ∷ leg 1 2 Live (Some 1) None 1 0 0 ∷ [])
-      ∷ (leg 1 2 Live (Some 1) (Some 1) 1 1 0 ∷ [])
-      ∷ [];
+  legs = among 3 (
+        (1, leg 1 1 Live None (Some 1) 0 1 0 ∷ leg 1 2 Live None (Some 1) 0 1 1 ∷ [])
+        ∷ (2, leg 1 1 Live (Some 1) None 1 0 0 ∷ leg 1 2 Live (Some 1) None 1 0 0 ∷ [])
+        ∷ (3, leg 1 2 Live (Some 1) (Some 1) 1 1 0 ∷ [])
+        ∷ []);
   calls = (reported 1 Turned Unset 1 0 ∷ []) ∷ [] ∷ [] ∷ [];
   known = 2 ∷ 2 ∷ 3 ∷ [];
   down = 1 ∷ 1 ∷ 0 ∷ [];
@@ -74,11 +62,11 @@ turned = record {
 
 abbrev back : Seen
 back = record {
-  legs =
-      (leg 1 1 Live None (Some 1) 0 1 0 ∷ leg 1 2 Held None (Some 1) 0 1 1 ∷ [])
-      ∷ (leg 1 1 Live (Some 1) None 1 0 0 ∷ leg 1 2 Held (Some 1) None 1 0 0 ∷ [])
-      ∷ (leg 1 2 Held (Some 1) (Some 1) 1 1 0 ∷ [])
-      ∷ [];
+  legs = among 3 (
+        (1, leg 1 1 Live None (Some 1) 0 1 0 ∷ leg 1 2 Held None (Some 1) 0 1 1 ∷ [])
+        ∷ (2, leg 1 1 Live (Some 1) None 1 0 0 ∷ leg 1 2 Held (Some 1) None 1 0 0 ∷ [])
+        ∷ (3, leg 1 2 Held (Some 1) (Some 1) 1 1 0 ∷ [])
+        ∷ []);
   calls = (called 1 Guarded Unset ∷ []) ∷ [] ∷ [] ∷ [];
   known = 2 ∷ 2 ∷ 3 ∷ [];
   down = 0 ∷ 0 ∷ 0 ∷ [];

@@ -13,7 +13,7 @@ use Rattle.mesh_rules.specs.Events.{after}
 use Rattle.mesh_rules.specs.Machine.{start}
 use Rattle.mesh_laws.specs.HopLaw.{HasShape}
 use Rattle.mesh_laws.specs.HopShapes as row
-use Rattle.mesh_examples.proofs.Scene.{all_enabled, desk, fails_link, leg, lsp, node, reported, Seen, seen, takes}
+use Rattle.mesh_examples.proofs.Scene.{all_enabled, among, desk, fails_link, leg, lsp, node, reported, Seen, seen, takes_each}
 use Rattle.mesh_examples.proofs.SharedLabel.{network}
 use Rattle.mesh_examples.proofs.SharedLabel as shared
 
@@ -23,33 +23,26 @@ events =
     shared.events
     ++ fails_link 1
     ∷ desk 2
-    ∷ takes 1 2
-    ∷ takes 5 1
-    ∷ fails_link 2
+    ∷ takes_each ((1, 2) ∷ (5, 1) ∷ [])
+    ++ fails_link 2
     ∷ desk 4
-    ∷ takes 3 4
-    ∷ takes 5 3
-    ∷ []
+    ∷ takes_each ((3, 4) ∷ (5, 3) ∷ [])
 
 -- the Path that activates the first backup is on link 5, and the refusal of the second one on link 6
 abbrev as_reached : Seen
 as_reached = record {
-  legs =
-      (leg 1 1 Live None (Some 1) 0 1 0 ∷ leg 1 2 Armed None (Some 1) 0 2 2 ∷ [])
-      ∷ (leg 1 1 Live (Some 1) None 1 0 0 ∷ leg 1 2 Held (Some 1) None 1 0 0 ∷ [])
-      ∷ (leg 3 1 Live None (Some 1) 0 1 0 ∷ leg 3 2 Armed None (Some 1) 0 2 2 ∷ [])
-      ∷ (leg 3 1 Live (Some 1) None 1 0 0 ∷ leg 3 2 Held (Some 1) None 1 0 0 ∷ [])
-      ∷ (leg 1 2 Armed (Some 1) (Some 1) 2 1 1 ∷ leg 3 2 Held (Some 1) (Some 1) 2 1 1 ∷ [])
-      ∷ (leg 1 2 Held (Some 1) (Some 1) 1 1 0 ∷ leg 3 2 Held (Some 1) (Some 1) 1 1 0 ∷ [])
-      ∷ [];
-  calls =
-      (reported 1 Turning Unset 1 0 ∷ [])
-      ∷ []
-      ∷ (reported 2 Turning Unset 1 0 ∷ [])
-      ∷ []
-      ∷ []
-      ∷ []
-      ∷ [];
+  legs = among 6 (
+        (1, leg 1 1 Live None (Some 1) 0 1 0 ∷ leg 1 2 Armed None (Some 1) 0 2 2 ∷ [])
+        ∷ (2, leg 1 1 Live (Some 1) None 1 0 0 ∷ leg 1 2 Held (Some 1) None 1 0 0 ∷ [])
+        ∷ (3, leg 3 1 Live None (Some 1) 0 1 0 ∷ leg 3 2 Armed None (Some 1) 0 2 2 ∷ [])
+        ∷ (4, leg 3 1 Live (Some 1) None 1 0 0 ∷ leg 3 2 Held (Some 1) None 1 0 0 ∷ [])
+        ∷ (5, leg 1 2 Armed (Some 1) (Some 1) 2 1 1 ∷ leg 3 2 Held (Some 1) (Some 1) 2 1 1 ∷ [])
+        ∷ (6, leg 1 2 Held (Some 1) (Some 1) 1 1 0 ∷ leg 3 2 Held (Some 1) (Some 1) 1 1 0 ∷ [])
+        ∷ []);
+  calls = among 6 (
+        (1, reported 1 Turning Unset 1 0 ∷ [])
+        ∷ (3, reported 2 Turning Unset 1 0 ∷ [])
+        ∷ []);
   known = 2 ∷ 2 ∷ 2 ∷ 2 ∷ 5 ∷ 5 ∷ [];
   down = 0 ∷ 1 ∷ 0 ∷ 1 ∷ 0 ∷ 0 ∷ [];
   mail = (0, 0) ∷ (0, 0) ∷ (0, 0) ∷ (0, 0) ∷ (1, 0) ∷ (0, 1) ∷ (0, 0) ∷ [];

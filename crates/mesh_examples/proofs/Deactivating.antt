@@ -12,7 +12,7 @@ use Rattle.mesh_rules.specs.Events.{after}
 use Rattle.mesh_rules.specs.Machine.{start}
 use Rattle.mesh_laws.specs.HopLaw.{HasShape}
 use Rattle.mesh_laws.specs.HopShapes as row
-use Rattle.mesh_examples.proofs.Scene.{all_enabled, alone, desk, fails_link, joins, learns, leg, lsp, node, over, repairs_link, reported, Seen, seen, sets_up, spec, takes}
+use Rattle.mesh_examples.proofs.Scene.{all_enabled, alone, among, desk, fails_link, joins, learns, leg, lsp, node, over, repairs_link, reported, Seen, seen, sets_up, spec, takes, takes_each}
 
 abbrev pub network : Network
 network = record {
@@ -29,35 +29,25 @@ events =
     ++ learns 6 (1 ∷ [])
     ++ sets_up 1 1 6 (over 1 1 ∷ over 3 6 ∷ []) (over 1 4 ∷ [])
     ∷ desk 1
-    ∷ takes 3 1
-    ∷ takes 6 3
-    ∷ takes 3 6
-    ∷ takes 1 3
-    ∷ fails_link 1
+    ∷ takes_each ((3, 1) ∷ (6, 3) ∷ (3, 6) ∷ (1, 3) ∷ [])
+    ++ fails_link 1
     ∷ takes 6 1
     ∷ desk 3
     ∷ repairs_link 1
     ∷ desk 3
-    ∷ takes 1 6
-    ∷ takes 1 3
-    ∷ takes 6 1
-    ∷ takes 1 3
-    ∷ takes 1 6
-    ∷ fails_link 4
+    ∷ takes_each ((1, 6) ∷ (1, 3) ∷ (6, 1) ∷ (1, 3) ∷ (1, 6) ∷ [])
+    ++ fails_link 4
     ∷ desk 6
     ∷ takes 1 6
     ∷ []
 
 abbrev pub as_reached : Seen
 as_reached = record {
-  legs =
-      (leg 1 1 Live None (Some 1) 0 1 1 ∷ leg 1 2 Held None (Some 1) 0 1 0 ∷ [])
-      ∷ []
-      ∷ (leg 1 1 Live (Some 1) (Some 1) 1 1 0 ∷ [])
-      ∷ []
-      ∷ []
-      ∷ (leg 1 1 Live (Some 1) None 1 0 0 ∷ leg 1 2 Live (Some 1) None 1 0 0 ∷ [])
-      ∷ [];
+  legs = among 6 (
+        (1, leg 1 1 Live None (Some 1) 0 1 1 ∷ leg 1 2 Held None (Some 1) 0 1 0 ∷ [])
+        ∷ (3, leg 1 1 Live (Some 1) (Some 1) 1 1 0 ∷ [])
+        ∷ (6, leg 1 1 Live (Some 1) None 1 0 0 ∷ leg 1 2 Live (Some 1) None 1 0 0 ∷ [])
+        ∷ []);
   calls = alone 6 1 (reported 1 Guarded Unset 0 1 ∷ []);
   known = 5 ∷ 1 ∷ 2 ∷ 2 ∷ 2 ∷ 4 ∷ [];
   down = 0 ∷ 0 ∷ 0 ∷ 0 ∷ 0 ∷ 1 ∷ [];

@@ -25,7 +25,7 @@ use Rattle.mesh_rules.specs.LeastRoutes.{Trip, least_backup}
 use Rattle.mesh_rules.specs.Machine.{start}
 use Rattle.mesh_nodes.proofs.routes.Backups.{least_backup-least, no_backup-none}
 use Rattle.mesh_nodes.proofs.routes.Topologies.{new-rows}
-use Rattle.mesh_examples.proofs.Scene.{call, desk, joins, link, lsp, node, over, spec, takes}
+use Rattle.mesh_examples.proofs.Scene.{call, desk, joins, link, lsp, node, over, spec, takes, takes_each}
 
 -- The networks
 
@@ -229,9 +229,7 @@ abbrev connected : List MeshEvent
 connected =
     Post (Setup (call 1) (node 1) (node 2) true false (Some primary) None)
     ∷ desk 1
-    ∷ takes 2 1
-    ∷ takes 1 2
-    ∷ []
+    ∷ takes_each ((2, 1) ∷ (1, 2) ∷ [])
 
 -- the state, the cause and the backup LSP of each call of node 1
 abbrev calls : Network → List MeshEvent → List (CallState × Cause × Option Lsp)

@@ -9,7 +9,7 @@ use Rattle.ason_base.specs.declared.calls.Phase.TheVariants.{Asked, Live}
 use Rattle.mesh_rules.specs.declared.events.MeshEvent.{MeshEvent}
 use Rattle.mesh_rules.specs.Events.{after}
 use Rattle.mesh_rules.specs.Machine.{start}
-use Rattle.mesh_examples.proofs.Scene.{all_enabled, called, desk, fails_link, fails_srlg, joins, learns, leg, over, repairs_link, repairs_srlg, reported, seen, Seen, sets_up, sets_up_alone, spec, takes}
+use Rattle.mesh_examples.proofs.Scene.{all_enabled, among, called, desk, fails_link, fails_srlg, joins, learns, leg, over, repairs_link, repairs_srlg, reported, Seen, seen, sets_up, sets_up_alone, spec, takes, takes_each}
 
 abbrev network : Network
 network = record {
@@ -38,9 +38,8 @@ events =
     ∷ takes 6 3
     ∷ fails_srlg 1
     ∷ desk 4
-    ∷ takes 2 6
-    ∷ takes 6 2
-    ∷ desk 5
+    ∷ takes_each ((2, 6) ∷ (6, 2) ∷ [])
+    ++ desk 5
     ∷ desk 5
     ∷ desk 6
     ∷ desk 6
@@ -51,9 +50,8 @@ events =
     ∷ desk 2
     ∷ takes 3 6
     ∷ desk 2
-    ∷ takes 6 2
-    ∷ takes 3 6
-    ∷ sets_up 2 4 3 (over 4 6 ∷ []) (over 4 9 ∷ over 6 5 ∷ over 2 3 ∷ [])
+    ∷ takes_each ((6, 2) ∷ (3, 6) ∷ [])
+    ++ sets_up 2 4 3 (over 4 6 ∷ []) (over 4 9 ∷ over 6 5 ∷ over 2 3 ∷ [])
     ∷ desk 4
     ∷ repairs_srlg 1
     ∷ desk 5
@@ -66,22 +64,16 @@ events =
 
 abbrev as_reached : Seen
 as_reached = record {
-  legs =
-      []
-      ∷ (leg 3 1 Live (Some 1) None 2 0 0 ∷ [])
-      ∷ (leg 3 1 Live None (Some 1) 0 3 1 ∷ [])
-      ∷ (leg 4 1 Asked None None 0 3 0 ∷ [])
-      ∷ []
-      ∷ (leg 3 1 Live (Some 1) (Some 1) 3 2 0 ∷ [])
-      ∷ [];
-  calls =
-      []
-      ∷ []
-      ∷ (reported 1 Bare Unset 1 0 ∷ [])
-      ∷ (called 2 Asking Unset ∷ [])
-      ∷ []
-      ∷ []
-      ∷ [];
+  legs = among 6 (
+        (2, leg 3 1 Live (Some 1) None 2 0 0 ∷ [])
+        ∷ (3, leg 3 1 Live None (Some 1) 0 3 1 ∷ [])
+        ∷ (4, leg 4 1 Asked None None 0 3 0 ∷ [])
+        ∷ (6, leg 3 1 Live (Some 1) (Some 1) 3 2 0 ∷ [])
+        ∷ []);
+  calls = among 6 (
+        (3, reported 1 Bare Unset 1 0 ∷ [])
+        ∷ (4, called 2 Asking Unset ∷ [])
+        ∷ []);
   known = 10 ∷ 10 ∷ 10 ∷ 10 ∷ 10 ∷ 10 ∷ [];
   down = 1 ∷ 3 ∷ 0 ∷ 2 ∷ 1 ∷ 1 ∷ [];
   mail = (0, 0) ∷ (0, 0) ∷ (0, 0) ∷ (0, 0) ∷ (0, 0) ∷ (0, 1) ∷ (0, 0) ∷ (0, 0) ∷ (0, 0) ∷ (0, 0) ∷ [];

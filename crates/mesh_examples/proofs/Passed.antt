@@ -13,7 +13,7 @@ use Rattle.mesh_rules.specs.Machine.{start}
 use Rattle.mesh_laws.specs.HopLaw.{HasShape}
 use Rattle.mesh_laws.specs.HopShapes as row
 use Rattle.mesh_examples.proofs.Answered as answered
-use Rattle.mesh_examples.proofs.Scene.{all_enabled, alone, called, desk, learns, leg, lsp, node, over, Seen, seen, sets_up, takes}
+use Rattle.mesh_examples.proofs.Scene.{all_enabled, alone, among, called, desk, learns, leg, lsp, node, over, Seen, seen, sets_up, takes_each}
 
 abbrev network : Network
 network = answered.network
@@ -23,21 +23,15 @@ events =
     learns 3 (7 ∷ [])
     ++ sets_up 1 4 5 (over 4 7 ∷ []) (over 4 5 ∷ over 3 4 ∷ over 2 1 ∷ over 1 3 ∷ [])
     ∷ desk 4
-    ∷ takes 5 4
-    ∷ takes 4 5
-    ∷ takes 3 4
-    ∷ []
+    ∷ takes_each ((5, 4) ∷ (4, 5) ∷ (3, 4) ∷ [])
 
 abbrev as_reached : Seen
 as_reached = record {
-  legs =
-      []
-      ∷ []
-      ∷ (leg 4 2 Asked None None 1 1 2 ∷ [])
-      ∷ (leg 4 1 Live None (Some 1) 0 1 0 ∷ leg 4 2 Asked None None 0 1 3 ∷ [])
-      ∷ (leg 4 1 Live (Some 1) None 1 0 0 ∷ [])
-      ∷ []
-      ∷ [];
+  legs = among 6 (
+        (3, leg 4 2 Asked None None 1 1 2 ∷ [])
+        ∷ (4, leg 4 1 Live None (Some 1) 0 1 0 ∷ leg 4 2 Asked None None 0 1 3 ∷ [])
+        ∷ (5, leg 4 1 Live (Some 1) None 1 0 0 ∷ [])
+        ∷ []);
   calls = alone 6 4 (called 1 Pairing Unset ∷ []);
   known = 3 ∷ 2 ∷ 5 ∷ 2 ∷ 3 ∷ 0 ∷ [];
   down = 0 ∷ 0 ∷ 0 ∷ 0 ∷ 0 ∷ 0 ∷ [];

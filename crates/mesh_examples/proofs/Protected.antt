@@ -13,7 +13,7 @@ use Rattle.ason_base.specs.declared.ids.Lsp.{Lsp}
 use Rattle.mesh_rules.specs.declared.events.MeshEvent.{MeshEvent}
 use Rattle.mesh_rules.specs.Events.{after}
 use Rattle.mesh_rules.specs.Machine.{start}
-use Rattle.mesh_examples.proofs.Scene.{all_enabled, desk, joins, learns, lsp, over, protects, sets_up, spec, takes}
+use Rattle.mesh_examples.proofs.Scene.{all_enabled, desk, joins, learns, lsp, over, protects, sets_up, spec, takes, takes_each}
 
 abbrev triangle : Network
 triangle = record {
@@ -30,11 +30,7 @@ abbrev connected : List MeshEvent
 connected =
     sets_up 1 1 3 (over 1 1 ∷ over 2 2 ∷ []) (over 1 3 ∷ [])
     ∷ desk 1
-    ∷ takes 2 1
-    ∷ takes 3 2
-    ∷ takes 2 3
-    ∷ takes 1 2
-    ∷ []
+    ∷ takes_each ((2, 1) ∷ (3, 2) ∷ (2, 3) ∷ (1, 2) ∷ [])
 
 unbacked : calls connected ≡ (Bare, NoBackup, None) ∷ []
 unfolding labels.numbers_from

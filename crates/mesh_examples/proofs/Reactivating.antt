@@ -12,7 +12,7 @@ use Rattle.mesh_rules.specs.Events.{after}
 use Rattle.mesh_rules.specs.Machine.{start}
 use Rattle.mesh_laws.specs.HopLaw.{HasShape}
 use Rattle.mesh_laws.specs.HopShapes as row
-use Rattle.mesh_examples.proofs.Scene.{all_enabled, alone, desk, fails_link, joins, learns, leg, lsp, node, over, repairs_link, reported, Seen, seen, sets_up, spec, takes, ticks}
+use Rattle.mesh_examples.proofs.Scene.{all_enabled, alone, among, desk, fails_link, joins, learns, leg, lsp, node, over, repairs_link, reported, Seen, seen, sets_up, spec, takes, takes_each, ticks}
 
 abbrev pub network : Network
 network = record {
@@ -32,31 +32,15 @@ events =
     ++ learns 6 (2 ∷ 6 ∷ [])
     ++ sets_up 1 3 1 (over 3 6 ∷ over 4 2 ∷ []) (over 3 7 ∷ over 5 9 ∷ over 6 3 ∷ [])
     ∷ desk 3
-    ∷ takes 4 3
-    ∷ takes 1 4
-    ∷ fails_link 2
+    ∷ takes_each ((4, 3) ∷ (1, 4) ∷ [])
+    ++ fails_link 2
     ∷ desk 1
-    ∷ takes 4 1
-    ∷ takes 4 1
-    ∷ takes 3 4
-    ∷ takes 5 3
-    ∷ repairs_link 2
-    ∷ takes 3 4
-    ∷ takes 6 5
-    ∷ takes 1 6
-    ∷ takes 6 1
-    ∷ desk 1
-    ∷ takes 5 6
-    ∷ takes 3 5
-    ∷ takes 5 3
-    ∷ takes 6 5
-    ∷ takes 1 6
-    ∷ takes 4 1
-    ∷ takes 3 4
-    ∷ takes 6 1
-    ∷ takes 5 6
-    ∷ takes 3 5
-    ∷ fails_link 2
+    ∷ takes_each ((4, 1) ∷ (4, 1) ∷ (3, 4) ∷ (5, 3) ∷ [])
+    ++ repairs_link 2
+    ∷ takes_each ((3, 4) ∷ (6, 5) ∷ (1, 6) ∷ (6, 1) ∷ [])
+    ++ desk 1
+    ∷ takes_each ((5, 6) ∷ (3, 5) ∷ (5, 3) ∷ (6, 5) ∷ (1, 6) ∷ (4, 1) ∷ (3, 4) ∷ (6, 1) ∷ (5, 6) ∷ (3, 5) ∷ [])
+    ++ fails_link 2
     ∷ ticks 3
     ∷ desk 1
     ∷ takes 4 1
@@ -66,14 +50,13 @@ events =
 
 abbrev pub as_reached : Seen
 as_reached = record {
-  legs =
-      (leg 3 1 Live (Some 1) None 1 0 0 ∷ leg 3 2 Live (Some 1) None 1 0 0 ∷ [])
-      ∷ []
-      ∷ (leg 3 1 Live None (Some 1) 0 3 1 ∷ leg 3 2 Armed None (Some 1) 0 2 2 ∷ [])
-      ∷ (leg 3 1 Live (Some 1) (Some 1) 3 1 0 ∷ [])
-      ∷ (leg 3 2 Live (Some 1) (Some 1) 2 2 1 ∷ [])
-      ∷ (leg 3 2 Live (Some 1) (Some 1) 1 1 0 ∷ [])
-      ∷ [];
+  legs = among 6 (
+        (1, leg 3 1 Live (Some 1) None 1 0 0 ∷ leg 3 2 Live (Some 1) None 1 0 0 ∷ [])
+        ∷ (3, leg 3 1 Live None (Some 1) 0 3 1 ∷ leg 3 2 Armed None (Some 1) 0 2 2 ∷ [])
+        ∷ (4, leg 3 1 Live (Some 1) (Some 1) 3 1 0 ∷ [])
+        ∷ (5, leg 3 2 Live (Some 1) (Some 1) 2 2 1 ∷ [])
+        ∷ (6, leg 3 2 Live (Some 1) (Some 1) 1 1 0 ∷ [])
+        ∷ []);
   calls = alone 6 3 (reported 1 Turning Unset 1 0 ∷ []);
   known = 4 ∷ 2 ∷ 5 ∷ 3 ∷ 5 ∷ 5 ∷ [];
   down = 1 ∷ 0 ∷ 0 ∷ 0 ∷ 0 ∷ 0 ∷ [];

@@ -11,7 +11,7 @@ use Rattle.mesh_rules.specs.declared.events.MeshEvent.{MeshEvent}
 use Rattle.mesh_rules.specs.Events.{after}
 use Rattle.mesh_rules.specs.Machine.{start}
 use Rattle.mesh_examples.proofs.SharedLabel as shared_label
-use Rattle.mesh_examples.proofs.Scene.{all_enabled, alone, desk, fails_link, learns, leg, over, protects, releases, reported, reverts, Seen, seen, sets_up, takes, ticks}
+use Rattle.mesh_examples.proofs.Scene.{all_enabled, alone, among, desk, fails_link, learns, leg, over, protects, releases, reported, reverts, Seen, seen, sets_up, takes, takes_each, ticks}
 
 abbrev network : Network
 network = shared_label.network
@@ -25,10 +25,8 @@ events =
     ++ sets_up 1 1 2 (over 1 1 ∷ []) (over 1 3 ∷ over 5 5 ∷ over 6 4 ∷ [])
     ∷ sets_up 2 3 4 (over 3 2 ∷ []) (over 3 6 ∷ over 5 5 ∷ over 6 7 ∷ [])
     ∷ desk 3
-    ∷ takes 4 3
-    ∷ takes 3 4
-    ∷ takes 5 3
-    ∷ desk 1
+    ∷ takes_each ((4, 3) ∷ (3, 4) ∷ (5, 3) ∷ [])
+    ++ desk 1
     ∷ takes 6 5
     ∷ fails_link 5
     ∷ desk 6
@@ -36,42 +34,30 @@ events =
     ∷ protects 2 3
     ∷ takes 5 6
     ∷ desk 5
-    ∷ takes 4 6
-    ∷ takes 6 4
-    ∷ takes 5 6
-    ∷ fails_link 1
+    ∷ takes_each ((4, 6) ∷ (6, 4) ∷ (5, 6) ∷ [])
+    ++ fails_link 1
     ∷ desk 3
     ∷ desk 2
     ∷ takes 3 5
     ∷ desk 1
-    ∷ takes 3 5
-    ∷ takes 1 2
-    ∷ takes 1 2
-    ∷ takes 5 1
-    ∷ takes 6 5
-    ∷ takes 5 6
-    ∷ takes 1 5
-    ∷ ticks 3
+    ∷ takes_each ((3, 5) ∷ (1, 2) ∷ (1, 2) ∷ (5, 1) ∷ (6, 5) ∷ (5, 6) ∷ (1, 5) ∷ [])
+    ++ ticks 3
     ∷ reverts 2 3
     ∷ desk 3
     ∷ releases 2 3
     ∷ desk 3
-    ∷ takes 4 3
-    ∷ takes 5 3
-    ∷ takes 6 5
-    ∷ takes 3 4
-    ∷ []
+    ∷ takes_each ((4, 3) ∷ (5, 3) ∷ (6, 5) ∷ (3, 4) ∷ [])
 
 abbrev as_reached : Seen
 as_reached = record {
-  legs =
-      (leg 1 1 Live None (Some 1) 0 1 0 ∷ [])
-      ∷ (leg 1 1 Live (Some 1) None 1 0 0 ∷ [])
-      ∷ (leg 3 2 Closing None (Some 1) 0 2 2 ∷ [])
-      ∷ (leg 3 2 Held (Some 1) None 1 0 0 ∷ [])
-      ∷ (leg 3 2 Closing None (Some 1) 2 1 1 ∷ [])
-      ∷ (leg 3 2 Closing None (Some 1) 1 1 0 ∷ [])
-      ∷ [];
+  legs = among 6 (
+        (1, leg 1 1 Live None (Some 1) 0 1 0 ∷ [])
+        ∷ (2, leg 1 1 Live (Some 1) None 1 0 0 ∷ [])
+        ∷ (3, leg 3 2 Closing None (Some 1) 0 2 2 ∷ [])
+        ∷ (4, leg 3 2 Held (Some 1) None 1 0 0 ∷ [])
+        ∷ (5, leg 3 2 Closing None (Some 1) 2 1 1 ∷ [])
+        ∷ (6, leg 3 2 Closing None (Some 1) 1 1 0 ∷ [])
+        ∷ []);
   calls = alone 6 1 (reported 1 Bare (Code down_code) 1 0 ∷ []);
   known = 2 ∷ 2 ∷ 2 ∷ 2 ∷ 5 ∷ 5 ∷ [];
   down = 1 ∷ 1 ∷ 0 ∷ 0 ∷ 1 ∷ 1 ∷ [];

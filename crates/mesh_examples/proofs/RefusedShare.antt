@@ -14,7 +14,7 @@ use Rattle.mesh_rules.specs.declared.events.MeshEvent.{MeshEvent}
 use Rattle.mesh_rules.specs.Events.{after}
 use Rattle.mesh_rules.specs.Machine.{start}
 use Rattle.mesh_examples.proofs.TakenLabel as taken_label
-use Rattle.mesh_examples.proofs.Scene.{all_enabled, called, desk, learns, leg, over, protects, Seen, seen, sets_up, takes}
+use Rattle.mesh_examples.proofs.Scene.{all_enabled, among, called, desk, learns, leg, over, protects, Seen, seen, sets_up, takes, takes_each}
 
 abbrev network : Network
 network = taken_label.network
@@ -28,26 +28,10 @@ first_try =
     ++ sets_up 1 1 2 (over 1 1 ∷ []) (over 1 3 ∷ over 5 5 ∷ over 6 4 ∷ [])
     ∷ sets_up 2 3 4 (over 3 2 ∷ []) (over 3 6 ∷ over 5 5 ∷ over 6 7 ∷ [])
     ∷ desk 3
-    ∷ takes 4 3
-    ∷ takes 3 4
-    ∷ desk 1
-    ∷ takes 2 1
-    ∷ takes 1 2
-    ∷ takes 5 3
-    ∷ takes 6 5
-    ∷ takes 4 6
-    ∷ takes 5 1
-    ∷ takes 6 5
-    ∷ takes 2 6
-    ∷ takes 6 4
-    ∷ takes 5 6
-    ∷ takes 6 2
-    ∷ takes 2 6
-    ∷ takes 6 2
-    ∷ takes 5 6
-    ∷ takes 3 5
-    ∷ takes 1 5
-    ∷ []
+    ∷ takes_each ((4, 3) ∷ (3, 4) ∷ [])
+    ++ desk 1
+    ∷ takes_each ((2, 1) ∷ (1, 2) ∷ (5, 3) ∷ (6, 5) ∷ (4, 6) ∷ (5, 1) ∷ (6, 5) ∷ (2, 6) ∷ (6, 4) ∷ (5, 6)
+        ∷ (6, 2) ∷ (2, 6) ∷ (6, 2) ∷ (5, 6) ∷ (3, 5) ∷ (1, 5) ∷ [])
 
 -- it is to be protected again
 abbrev again : List MeshEvent
@@ -56,22 +40,18 @@ again = first_try ++ protects 1 1 ∷ desk 1 ∷ takes 5 1 ∷ takes 6 5 ∷ tak
 -- the call is bare, for this cause
 abbrev as_reached : Cause → Seen
 as_reached cause = record {
-  legs =
-      (leg 1 1 Live None (Some 1) 0 1 0 ∷ [])
-      ∷ (leg 1 1 Live (Some 1) None 1 0 0 ∷ [])
-      ∷ (leg 3 1 Live None (Some 1) 0 1 0 ∷ leg 3 2 Held None (Some 1) 0 2 2 ∷ [])
-      ∷ (leg 3 1 Live (Some 1) None 1 0 0 ∷ leg 3 2 Held (Some 1) None 1 0 0 ∷ [])
-      ∷ (leg 3 2 Held (Some 1) (Some 1) 2 1 1 ∷ [])
-      ∷ (leg 3 2 Held (Some 1) (Some 1) 1 1 0 ∷ [])
-      ∷ [];
-  calls =
-      (called 1 Bare cause ∷ [])
-      ∷ []
-      ∷ (called 2 Guarded Unset ∷ [])
-      ∷ []
-      ∷ []
-      ∷ []
-      ∷ [];
+  legs = among 6 (
+        (1, leg 1 1 Live None (Some 1) 0 1 0 ∷ [])
+        ∷ (2, leg 1 1 Live (Some 1) None 1 0 0 ∷ [])
+        ∷ (3, leg 3 1 Live None (Some 1) 0 1 0 ∷ leg 3 2 Held None (Some 1) 0 2 2 ∷ [])
+        ∷ (4, leg 3 1 Live (Some 1) None 1 0 0 ∷ leg 3 2 Held (Some 1) None 1 0 0 ∷ [])
+        ∷ (5, leg 3 2 Held (Some 1) (Some 1) 2 1 1 ∷ [])
+        ∷ (6, leg 3 2 Held (Some 1) (Some 1) 1 1 0 ∷ [])
+        ∷ []);
+  calls = among 6 (
+        (1, called 1 Bare cause ∷ [])
+        ∷ (3, called 2 Guarded Unset ∷ [])
+        ∷ []);
   known = 2 ∷ 2 ∷ 2 ∷ 2 ∷ 5 ∷ 5 ∷ [];
   down = 0 ∷ 0 ∷ 0 ∷ 0 ∷ 0 ∷ 0 ∷ [];
   mail = (0, 0) ∷ (0, 0) ∷ (0, 0) ∷ (0, 0) ∷ (0, 0) ∷ (0, 0) ∷ (0, 0) ∷ [];

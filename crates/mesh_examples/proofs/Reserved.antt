@@ -12,7 +12,7 @@ use Rattle.mesh_rules.specs.Events.{after}
 use Rattle.mesh_rules.specs.Machine.{start}
 use Rattle.mesh_laws.specs.HopLaw.{HasShape}
 use Rattle.mesh_laws.specs.HopShapes as row
-use Rattle.mesh_examples.proofs.Scene.{all_enabled, alone, called, desk, joins, learns, leg, lsp, node, over, Seen, seen, sets_up, spec, takes}
+use Rattle.mesh_examples.proofs.Scene.{all_enabled, alone, among, called, desk, joins, learns, leg, lsp, node, over, Seen, seen, sets_up, spec, takes_each}
 
 abbrev pub network : Network
 network = record {
@@ -28,23 +28,15 @@ events =
     ++ learns 6 (3 ∷ [])
     ++ sets_up 1 6 3 (over 6 6 ∷ over 4 3 ∷ []) (over 6 5 ∷ [])
     ∷ desk 6
-    ∷ takes 4 6
-    ∷ takes 3 4
-    ∷ takes 4 3
-    ∷ takes 6 4
-    ∷ takes 3 6
-    ∷ []
+    ∷ takes_each ((4, 6) ∷ (3, 4) ∷ (4, 3) ∷ (6, 4) ∷ (3, 6) ∷ [])
 
 abbrev pub as_reached : Seen
 as_reached = record {
-  legs =
-      []
-      ∷ []
-      ∷ (leg 6 1 Live (Some 1) None 2 0 0 ∷ leg 6 2 Held (Some 1) None 1 0 0 ∷ [])
-      ∷ (leg 6 1 Live (Some 1) (Some 1) 1 2 0 ∷ [])
-      ∷ []
-      ∷ (leg 6 1 Live None (Some 1) 0 1 1 ∷ leg 6 2 Asked None None 0 1 0 ∷ [])
-      ∷ [];
+  legs = among 6 (
+        (3, leg 6 1 Live (Some 1) None 2 0 0 ∷ leg 6 2 Held (Some 1) None 1 0 0 ∷ [])
+        ∷ (4, leg 6 1 Live (Some 1) (Some 1) 1 2 0 ∷ [])
+        ∷ (6, leg 6 1 Live None (Some 1) 0 1 1 ∷ leg 6 2 Asked None None 0 1 0 ∷ [])
+        ∷ []);
   calls = alone 6 6 (called 1 Pairing Unset ∷ []);
   known = 2 ∷ 0 ∷ 4 ∷ 3 ∷ 2 ∷ 5 ∷ [];
   down = 0 ∷ 0 ∷ 0 ∷ 0 ∷ 0 ∷ 0 ∷ [];

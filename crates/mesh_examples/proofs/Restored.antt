@@ -13,7 +13,7 @@ use Rattle.mesh_rules.specs.Machine.{start}
 use Rattle.mesh_laws.specs.AloneLaw.{Alone}
 use Rattle.mesh_laws.specs.RestorationLaw.{is_guarded, is_hit}
 use Rattle.mesh_laws.proofs.alone.Law.{run_starts_calm}
-use Rattle.mesh_examples.proofs.Scene.{all_enabled, desk, fails_link, joins, learns, leg, link, lsp, over, reported, seen, Seen, sets_up, spec, takes}
+use Rattle.mesh_examples.proofs.Scene.{all_enabled, among, desk, fails_link, joins, learns, leg, link, lsp, over, reported, Seen, seen, sets_up, spec, takes_each}
 
 abbrev network : Network
 network = record {
@@ -29,29 +29,19 @@ events =
     ++ learns 3 (1 ∷ [])
     ++ sets_up 1 1 2 (over 1 1 ∷ []) (over 1 2 ∷ over 3 3 ∷ [])
     ∷ desk 1
-    ∷ takes 2 1
-    ∷ takes 1 2
-    ∷ takes 3 1
-    ∷ takes 2 3
-    ∷ takes 3 2
-    ∷ takes 1 3
-    ∷ fails_link 1
+    ∷ takes_each ((2, 1) ∷ (1, 2) ∷ (3, 1) ∷ (2, 3) ∷ (3, 2) ∷ (1, 3) ∷ [])
+    ++ fails_link 1
     ∷ desk 1
     ∷ desk 2
-    ∷ takes 1 2
-    ∷ takes 3 1
-    ∷ takes 2 3
-    ∷ takes 3 2
-    ∷ takes 1 3
-    ∷ []
+    ∷ takes_each ((1, 2) ∷ (3, 1) ∷ (2, 3) ∷ (3, 2) ∷ (1, 3) ∷ [])
 
 abbrev as_reached : Seen
 as_reached = record {
-  legs =
-      (leg 1 1 Live None (Some 1) 0 2 0 ∷ leg 1 2 Live None (Some 1) 0 2 1 ∷ [])
-      ∷ (leg 1 1 Live (Some 1) None 2 0 0 ∷ leg 1 2 Live (Some 1) None 2 0 0 ∷ [])
-      ∷ (leg 1 2 Live (Some 1) (Some 1) 2 2 0 ∷ [])
-      ∷ [];
+  legs = among 3 (
+        (1, leg 1 1 Live None (Some 1) 0 2 0 ∷ leg 1 2 Live None (Some 1) 0 2 1 ∷ [])
+        ∷ (2, leg 1 1 Live (Some 1) None 2 0 0 ∷ leg 1 2 Live (Some 1) None 2 0 0 ∷ [])
+        ∷ (3, leg 1 2 Live (Some 1) (Some 1) 2 2 0 ∷ [])
+        ∷ []);
   calls = (reported 1 Turned Unset 1 0 ∷ []) ∷ [] ∷ [] ∷ [];
   known = 3 ∷ 3 ∷ 3 ∷ [];
   down = 1 ∷ 1 ∷ 0 ∷ [];

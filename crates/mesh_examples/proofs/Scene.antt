@@ -1,6 +1,6 @@
 -- What is looked at of a mesh of some nodes after a run: the legs and calls of each node, how many links each node
 -- knows, how many fibres it knows to be down, and how many messages are under way.
-use Rattle.std.proofs.Common.{ℕ, zero, suc, ◌-◌, Bool, true, false, cond, nat_eq, List, [], ◌∷◌}
+use Rattle.std.proofs.Common.{ℕ, zero, suc, Bool, true, false, cond, nat_eq, List, [], ◌∷◌}
 use Rattle.std.specs.Prelude.{◌&&◌, length, map, Option, Some, None}
 use Rattle.ason_base.specs.Network.{Network}
 use Rattle.ason_base.specs.declared.calls.CallState.{CallState}
@@ -106,6 +106,10 @@ desk n = Desk (node n)
 abbrev pub takes : ℕ → ℕ → MeshEvent
 takes n u = Take (node n) (node u)
 
+-- one after the other
+abbrev pub takes_each : List (ℕ × ℕ) → List MeshEvent
+takes_each pairs = map (λ p. takes p.0 p.1) pairs
+
 -- each event is enabled when its turn comes
 abbrev pub all_enabled : Network → Mesh → List MeshEvent → Bool
 all_enabled t s [] = true
@@ -132,10 +136,23 @@ pub record SeenCall : Type 0 where
   pub back_reports : ℕ
   pub ticks : ℕ
 
--- of so many nodes this one alone has any
+-- what is given to the node
+abbrev pub given_to : {X : Type 0} → ℕ → List (ℕ × List X) → List X
+given_to n [] = []
+given_to n (g ∷ given) = cond (nat_eq g.0 n) g.1 (given_to n given)
+
+-- what the nodes from this one on have, of so many nodes
+abbrev pub from_node : {X : Type 0} → ℕ → ℕ → List (ℕ × List X) → List (List X)
+from_node zero n given = []
+from_node (suc count) n given = given_to n given ∷ from_node count (suc n) given
+
+-- of so many nodes these alone have any
+abbrev pub among : {X : Type 0} → ℕ → List (ℕ × List X) → List (List X)
+among count given = from_node count 1 given
+
+-- this one alone has any
 abbrev pub alone : {X : Type 0} → ℕ → ℕ → List X → List (List X)
-alone zero n xs = []
-alone (suc count) n xs = cond (nat_eq n 1) xs [] ∷ alone count (n - 1) xs
+alone count n xs = among count ((n, xs) ∷ [])
 
 -- by node the legs, the calls, how many links are known, and how many fibres are known to be down; by link the messages
 -- to its high end, and to its low end

@@ -9,7 +9,7 @@ use Rattle.ason_base.specs.declared.calls.Phase.TheVariants.{Asked, Held, Live}
 use Rattle.mesh_rules.specs.declared.events.MeshEvent.{MeshEvent}
 use Rattle.mesh_rules.specs.Events.{after}
 use Rattle.mesh_rules.specs.Machine.{start}
-use Rattle.mesh_examples.proofs.Scene.{all_enabled, called, desk, fails_link, joins, learns, leg, over, reported, seen, Seen, sets_up, spec, takes}
+use Rattle.mesh_examples.proofs.Scene.{all_enabled, among, called, desk, fails_link, joins, learns, leg, over, reported, Seen, seen, sets_up, spec, takes, takes_each}
 
 abbrev network : Network
 network = record {
@@ -32,9 +32,8 @@ events =
     ++ learns 4 (1 ∷ 2 ∷ 3 ∷ 4 ∷ [])
     ++ sets_up 1 1 5 (over 1 2 ∷ []) (over 1 1 ∷ over 2 4 ∷ [])
     ∷ desk 1
-    ∷ takes 5 1
-    ∷ takes 1 5
-    ∷ fails_link 1
+    ∷ takes_each ((5, 1) ∷ (1, 5) ∷ [])
+    ++ fails_link 1
     ∷ fails_link 2
     ∷ desk 1
     ∷ takes 2 1
@@ -42,9 +41,8 @@ events =
     ∷ desk 2
     ∷ takes 5 2
     ∷ desk 5
-    ∷ takes 1 2
-    ∷ takes 1 5
-    ∷ sets_up 2 5 6 (over 5 8 ∷ []) (over 5 4 ∷ over 2 5 ∷ [])
+    ∷ takes_each ((1, 2) ∷ (1, 5) ∷ [])
+    ++ sets_up 2 5 6 (over 5 8 ∷ []) (over 5 4 ∷ over 2 5 ∷ [])
     ∷ desk 5
     ∷ takes 2 5
     ∷ fails_link 4
@@ -56,24 +54,16 @@ events =
 
 abbrev as_reached : Seen
 as_reached = record {
-  legs =
-      (leg 1 1 Live None (Some 1) 0 1 0 ∷ leg 1 2 Held None (Some 1) 0 1 1 ∷ [])
-      ∷ (leg 1 2 Held (Some 1) (Some 1) 1 1 0 ∷ [])
-      ∷ []
-      ∷ []
-      ∷ (leg 1 1 Live (Some 1) None 1 0 0
-      ∷ leg 1 2 Held (Some 1) None 1 0 0
-      ∷ leg 5 1 Asked None None 0 1 0 ∷ [])
-      ∷ (leg 5 1 Live (Some 1) None 1 0 0 ∷ [])
-      ∷ [];
-  calls =
-      (reported 1 Stuck BackDown 1 1 ∷ [])
-      ∷ []
-      ∷ []
-      ∷ []
-      ∷ (called 2 Asking Unset ∷ [])
-      ∷ []
-      ∷ [];
+  legs = among 6 (
+        (1, leg 1 1 Live None (Some 1) 0 1 0 ∷ leg 1 2 Held None (Some 1) 0 1 1 ∷ [])
+        ∷ (2, leg 1 2 Held (Some 1) (Some 1) 1 1 0 ∷ [])
+        ∷ (5, leg 1 1 Live (Some 1) None 1 0 0 ∷ leg 1 2 Held (Some 1) None 1 0 0 ∷ leg 5 1 Asked None None 0 1 0 ∷ [])
+        ∷ (6, leg 5 1 Live (Some 1) None 1 0 0 ∷ [])
+        ∷ []);
+  calls = among 6 (
+        (1, reported 1 Stuck BackDown 1 1 ∷ [])
+        ∷ (5, called 2 Asking Unset ∷ [])
+        ∷ []);
   known = 8 ∷ 8 ∷ 8 ∷ 8 ∷ 8 ∷ 8 ∷ [];
   down = 2 ∷ 2 ∷ 0 ∷ 0 ∷ 2 ∷ 0 ∷ [];
   mail = (0, 0) ∷ (0, 0) ∷ (0, 0) ∷ (0, 1) ∷ (0, 0) ∷ (0, 0) ∷ (0, 0) ∷ (0, 1) ∷ [];

@@ -10,7 +10,7 @@ use Rattle.ason_base.specs.declared.calls.Phase.TheVariants.{Held, Live}
 use Rattle.mesh_rules.specs.declared.events.MeshEvent.{MeshEvent}
 use Rattle.mesh_rules.specs.Events.{after}
 use Rattle.mesh_rules.specs.Machine.{start}
-use Rattle.mesh_examples.proofs.Scene.{all_enabled, called, desk, fails_link, joins, learns, leg, over, repairs_link, reported, seen, Seen, sets_up, spec, takes}
+use Rattle.mesh_examples.proofs.Scene.{all_enabled, among, called, desk, fails_link, joins, learns, leg, over, repairs_link, reported, Seen, seen, sets_up, spec, takes, takes_each}
 
 abbrev network : Network
 network = record {
@@ -36,25 +36,18 @@ events =
     ∷ desk 6
     ∷ takes 3 6
     ∷ fails_link 4
-    ∷ takes 1 3
-    ∷ takes 3 1
-    ∷ desk 6
-    ∷ takes 6 3
-    ∷ takes 2 6
-    ∷ takes 1 2
-    ∷ takes 2 1
-    ∷ desk 2
-    ∷ takes 6 2
-    ∷ takes 6 2
-    ∷ fails_link 7
+    ∷ takes_each ((1, 3) ∷ (3, 1) ∷ [])
+    ++ desk 6
+    ∷ takes_each ((6, 3) ∷ (2, 6) ∷ (1, 2) ∷ (2, 1) ∷ [])
+    ++ desk 2
+    ∷ takes_each ((6, 2) ∷ (6, 2) ∷ [])
+    ++ fails_link 7
     ∷ sets_up 2 2 6 (over 2 4 ∷ []) (over 2 1 ∷ over 1 3 ∷ [])
     ∷ desk 6
     ∷ desk 2
     ∷ desk 3
-    ∷ takes 6 3
-    ∷ takes 6 2
-    ∷ takes 2 6
-    ∷ repairs_link 7
+    ∷ takes_each ((6, 3) ∷ (6, 2) ∷ (2, 6) ∷ [])
+    ++ repairs_link 7
     ∷ desk 6
     ∷ desk 3
     ∷ takes 6 3
@@ -62,22 +55,16 @@ events =
 
 abbrev as_reached : Seen
 as_reached = record {
-  legs =
-      (leg 6 1 Live (Some 1) None 1 0 0 ∷ leg 6 2 Held (Some 1) None 1 0 0 ∷ [])
-      ∷ (leg 6 2 Held (Some 1) (Some 1) 2 1 0 ∷ [])
-      ∷ (leg 6 1 Live (Some 1) (Some 1) 1 1 0 ∷ [])
-      ∷ []
-      ∷ []
-      ∷ (leg 6 1 Live None (Some 1) 0 1 1 ∷ leg 6 2 Held None (Some 1) 0 2 1 ∷ [])
-      ∷ [];
-  calls =
-      []
-      ∷ (called 2 Blocked (Code down_code) ∷ [])
-      ∷ []
-      ∷ []
-      ∷ []
-      ∷ (reported 1 Guarded Unset 0 1 ∷ [])
-      ∷ [];
+  legs = among 6 (
+        (1, leg 6 1 Live (Some 1) None 1 0 0 ∷ leg 6 2 Held (Some 1) None 1 0 0 ∷ [])
+        ∷ (2, leg 6 2 Held (Some 1) (Some 1) 2 1 0 ∷ [])
+        ∷ (3, leg 6 1 Live (Some 1) (Some 1) 1 1 0 ∷ [])
+        ∷ (6, leg 6 1 Live None (Some 1) 0 1 1 ∷ leg 6 2 Held None (Some 1) 0 2 1 ∷ [])
+        ∷ []);
+  calls = among 6 (
+        (2, called 2 Blocked (Code down_code) ∷ [])
+        ∷ (6, reported 1 Guarded Unset 0 1 ∷ [])
+        ∷ []);
   known = 9 ∷ 9 ∷ 9 ∷ 9 ∷ 9 ∷ 9 ∷ [];
   down = 0 ∷ 1 ∷ 0 ∷ 0 ∷ 0 ∷ 1 ∷ [];
   mail = (0, 0) ∷ (0, 0) ∷ (0, 0) ∷ (0, 0) ∷ (0, 0) ∷ (0, 0) ∷ (0, 0) ∷ (0, 0) ∷ (0, 0) ∷ [];

@@ -11,7 +11,7 @@ use Rattle.ason_base.specs.declared.calls.Phase.TheVariants.{Held, Live}
 use Rattle.mesh_rules.specs.declared.events.MeshEvent.{MeshEvent}
 use Rattle.mesh_rules.specs.Events.{after}
 use Rattle.mesh_rules.specs.Machine.{start}
-use Rattle.mesh_examples.proofs.Scene.{all_enabled, called, desk, joins, learns, leg, over, Seen, seen, sets_up, spec, takes}
+use Rattle.mesh_examples.proofs.Scene.{all_enabled, among, called, desk, joins, learns, leg, over, Seen, seen, sets_up, spec, takes_each}
 
 abbrev pub network : Network
 network = record {
@@ -29,46 +29,26 @@ events =
     ++ learns 6 (2 ∷ [])
     ++ sets_up 1 1 2 (over 1 1 ∷ []) (over 1 3 ∷ over 5 5 ∷ over 6 4 ∷ [])
     ∷ desk 1
-    ∷ takes 2 1
-    ∷ takes 1 2
-    ∷ sets_up 2 3 4 (over 3 2 ∷ []) (over 3 6 ∷ over 5 5 ∷ over 6 7 ∷ [])
+    ∷ takes_each ((2, 1) ∷ (1, 2) ∷ [])
+    ++ sets_up 2 3 4 (over 3 2 ∷ []) (over 3 6 ∷ over 5 5 ∷ over 6 7 ∷ [])
     ∷ desk 3
-    ∷ takes 4 3
-    ∷ takes 5 1
-    ∷ takes 3 4
-    ∷ takes 5 3
-    ∷ takes 6 5
-    ∷ takes 6 5
-    ∷ takes 2 6
-    ∷ takes 6 2
-    ∷ takes 4 6
-    ∷ takes 6 4
-    ∷ takes 5 6
-    ∷ takes 1 5
-    ∷ takes 4 6
-    ∷ takes 6 4
-    ∷ takes 5 6
-    ∷ takes 3 5
-    ∷ []
+    ∷ takes_each ((4, 3) ∷ (5, 1) ∷ (3, 4) ∷ (5, 3) ∷ (6, 5) ∷ (6, 5) ∷ (2, 6) ∷ (6, 2) ∷ (4, 6) ∷ (6, 4)
+        ∷ (5, 6) ∷ (1, 5) ∷ (4, 6) ∷ (6, 4) ∷ (5, 6) ∷ (3, 5) ∷ [])
 
 abbrev pub as_reached : Seen
 as_reached = record {
-  legs =
-      (leg 1 1 Live None (Some 1) 0 1 0 ∷ leg 1 2 Held None (Some 1) 0 2 2 ∷ [])
-      ∷ (leg 1 1 Live (Some 1) None 1 0 0 ∷ leg 1 2 Held (Some 1) None 1 0 0 ∷ [])
-      ∷ (leg 3 1 Live None (Some 1) 0 1 0 ∷ [])
-      ∷ (leg 3 1 Live (Some 1) None 1 0 0 ∷ [])
-      ∷ (leg 1 2 Held (Some 1) (Some 1) 2 1 1 ∷ [])
-      ∷ (leg 1 2 Held (Some 1) (Some 1) 1 1 0 ∷ [])
-      ∷ [];
-  calls =
-      (called 1 Guarded Unset ∷ [])
-      ∷ []
-      ∷ (called 2 Bare (Code label_code) ∷ [])
-      ∷ []
-      ∷ []
-      ∷ []
-      ∷ [];
+  legs = among 6 (
+        (1, leg 1 1 Live None (Some 1) 0 1 0 ∷ leg 1 2 Held None (Some 1) 0 2 2 ∷ [])
+        ∷ (2, leg 1 1 Live (Some 1) None 1 0 0 ∷ leg 1 2 Held (Some 1) None 1 0 0 ∷ [])
+        ∷ (3, leg 3 1 Live None (Some 1) 0 1 0 ∷ [])
+        ∷ (4, leg 3 1 Live (Some 1) None 1 0 0 ∷ [])
+        ∷ (5, leg 1 2 Held (Some 1) (Some 1) 2 1 1 ∷ [])
+        ∷ (6, leg 1 2 Held (Some 1) (Some 1) 1 1 0 ∷ [])
+        ∷ []);
+  calls = among 6 (
+        (1, called 1 Guarded Unset ∷ [])
+        ∷ (3, called 2 Bare (Code label_code) ∷ [])
+        ∷ []);
   known = 2 ∷ 2 ∷ 2 ∷ 2 ∷ 5 ∷ 5 ∷ [];
   down = 0 ∷ 0 ∷ 0 ∷ 0 ∷ 0 ∷ 0 ∷ [];
   mail = (0, 0) ∷ (0, 0) ∷ (0, 0) ∷ (0, 0) ∷ (0, 0) ∷ (0, 0) ∷ (0, 0) ∷ [];

@@ -9,7 +9,7 @@ use Rattle.ason_base.specs.declared.calls.Phase.TheVariants.{Live}
 use Rattle.mesh_rules.specs.declared.events.MeshEvent.{MeshEvent}
 use Rattle.mesh_rules.specs.Events.{after}
 use Rattle.mesh_rules.specs.Machine.{start}
-use Rattle.mesh_examples.proofs.Scene.{all_enabled, alone, desk, fails_link, joins, learns, leg, over, protects, reported, retries, Seen, seen, sets_up, spec, takes, ticks}
+use Rattle.mesh_examples.proofs.Scene.{all_enabled, alone, among, desk, fails_link, joins, learns, leg, over, protects, reported, retries, Seen, seen, sets_up, spec, takes, takes_each, ticks}
 
 abbrev network : Network
 network = record {
@@ -31,24 +31,16 @@ events =
     ++ learns 6 (1 ∷ 2 ∷ 3 ∷ 5 ∷ 6 ∷ 8 ∷ [])
     ++ sets_up 1 2 4 (over 2 1 ∷ over 1 4 ∷ over 6 9 ∷ []) (over 2 5 ∷ [])
     ∷ desk 2
-    ∷ takes 1 2
-    ∷ takes 6 1
-    ∷ takes 4 6
-    ∷ takes 6 4
-    ∷ takes 1 6
-    ∷ takes 2 1
-    ∷ takes 4 2
-    ∷ fails_link 1
+    ∷ takes_each ((1, 2) ∷ (6, 1) ∷ (4, 6) ∷ (6, 4) ∷ (1, 6) ∷ (2, 1) ∷ (4, 2) ∷ [])
+    ++ fails_link 1
     ∷ retries 1 2
     ∷ desk 1
     ∷ desk 2
     ∷ takes 2 1
     ∷ fails_link 1
     ∷ desk 2
-    ∷ takes 2 4
-    ∷ takes 4 2
-    ∷ takes 2 4
-    ∷ fails_link 3
+    ∷ takes_each ((2, 4) ∷ (4, 2) ∷ (2, 4) ∷ [])
+    ++ fails_link 3
     ∷ desk 5
     ∷ protects 1 2
     ∷ ticks 2
@@ -56,14 +48,12 @@ events =
 
 abbrev as_reached : Seen
 as_reached = record {
-  legs =
-      (leg 2 1 Live (Some 1) (Some 1) 1 1 1 ∷ [])
-      ∷ (leg 2 1 Live None (Some 1) 0 1 2 ∷ leg 2 2 Live None (Some 1) 0 1 0 ∷ [])
-      ∷ []
-      ∷ (leg 2 1 Live (Some 1) None 1 0 0 ∷ leg 2 2 Live (Some 1) None 1 0 0 ∷ [])
-      ∷ []
-      ∷ (leg 2 1 Live (Some 1) (Some 1) 1 1 0 ∷ [])
-      ∷ [];
+  legs = among 6 (
+        (1, leg 2 1 Live (Some 1) (Some 1) 1 1 1 ∷ [])
+        ∷ (2, leg 2 1 Live None (Some 1) 0 1 2 ∷ leg 2 2 Live None (Some 1) 0 1 0 ∷ [])
+        ∷ (4, leg 2 1 Live (Some 1) None 1 0 0 ∷ leg 2 2 Live (Some 1) None 1 0 0 ∷ [])
+        ∷ (6, leg 2 1 Live (Some 1) (Some 1) 1 1 0 ∷ [])
+        ∷ []);
   calls = alone 6 2 (reported 1 Turned Unset 1 0 ∷ []);
   known = 9 ∷ 9 ∷ 9 ∷ 9 ∷ 9 ∷ 9 ∷ [];
   down = 1 ∷ 1 ∷ 0 ∷ 0 ∷ 1 ∷ 0 ∷ [];

@@ -10,7 +10,7 @@ use Rattle.mesh_rules.specs.Events.{after}
 use Rattle.mesh_rules.specs.Machine.{start}
 use Rattle.mesh_laws.specs.HopLaw.{HasShape}
 use Rattle.mesh_laws.specs.HopShapes as row
-use Rattle.mesh_examples.proofs.Scene.{all_enabled, desk, fails_link, joins, learns, leg, lsp, node, over, releases, seen, Seen, sets_up, spec, takes}
+use Rattle.mesh_examples.proofs.Scene.{all_enabled, among, desk, fails_link, joins, learns, leg, lsp, node, over, releases, Seen, seen, sets_up, spec, takes, takes_each}
 
 abbrev pub network : Network
 network = record {
@@ -28,31 +28,24 @@ events =
     ++ learns 4 (8 ∷ [])
     ++ sets_up 1 3 5 (over 3 8 ∷ []) (over 3 7 ∷ over 4 5 ∷ over 2 6 ∷ [])
     ∷ desk 3
-    ∷ takes 5 3
-    ∷ takes 3 5
-    ∷ releases 1 3
+    ∷ takes_each ((5, 3) ∷ (3, 5) ∷ [])
+    ++ releases 1 3
     ∷ takes 4 3
     ∷ fails_link 8
-    ∷ takes 2 4
-    ∷ takes 5 2
-    ∷ takes 2 5
-    ∷ desk 5
-    ∷ takes 3 5
-    ∷ takes 4 2
-    ∷ takes 3 4
-    ∷ desk 3
+    ∷ takes_each ((2, 4) ∷ (5, 2) ∷ (2, 5) ∷ [])
+    ++ desk 5
+    ∷ takes_each ((3, 5) ∷ (4, 2) ∷ (3, 4) ∷ [])
+    ++ desk 3
     ∷ []
 
 abbrev pub as_reached : Seen
 as_reached = record {
-  legs =
-      []
-      ∷ (leg 3 2 Held (Some 1) (Some 1) 1 1 0 ∷ [])
-      ∷ (leg 3 1 Closing None (Some 1) 0 2 0 ∷ leg 3 2 Falling None (Some 1) 0 1 2 ∷ [])
-      ∷ (leg 3 2 Held (Some 1) (Some 1) 1 1 1 ∷ [])
-      ∷ (leg 3 1 Live (Some 1) None 2 0 0 ∷ leg 3 2 Held (Some 1) None 1 0 0 ∷ [])
-      ∷ []
-      ∷ [];
+  legs = among 6 (
+        (2, leg 3 2 Held (Some 1) (Some 1) 1 1 0 ∷ [])
+        ∷ (3, leg 3 1 Closing None (Some 1) 0 2 0 ∷ leg 3 2 Falling None (Some 1) 0 1 2 ∷ [])
+        ∷ (4, leg 3 2 Held (Some 1) (Some 1) 1 1 1 ∷ [])
+        ∷ (5, leg 3 1 Live (Some 1) None 2 0 0 ∷ leg 3 2 Held (Some 1) None 1 0 0 ∷ [])
+        ∷ []);
   calls =
       []
       ∷ []

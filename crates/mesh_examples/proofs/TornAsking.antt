@@ -12,7 +12,7 @@ use Rattle.mesh_rules.specs.Events.{after}
 use Rattle.mesh_rules.specs.Machine.{start}
 use Rattle.mesh_laws.specs.HopLaw.{HasShape}
 use Rattle.mesh_laws.specs.HopShapes as row
-use Rattle.mesh_examples.proofs.Scene.{all_enabled, alone, called, desk, joins, learns, leg, lsp, node, over, releases, Seen, seen, sets_up, spec, takes}
+use Rattle.mesh_examples.proofs.Scene.{all_enabled, alone, called, desk, joins, learns, leg, lsp, node, over, releases, Seen, seen, sets_up, spec, takes_each}
 
 abbrev network : Network
 network = record {
@@ -27,15 +27,11 @@ events =
     learns 2 (7 ∷ [])
     ++ sets_up 1 2 4 (over 2 4 ∷ []) (over 2 3 ∷ over 3 6 ∷ [])
     ∷ desk 2
-    ∷ takes 4 2
-    ∷ takes 2 4
-    ∷ sets_up 2 2 3 (over 2 5 ∷ over 6 7 ∷ []) (over 2 3 ∷ [])
+    ∷ takes_each ((4, 2) ∷ (2, 4) ∷ [])
+    ++ sets_up 2 2 3 (over 2 5 ∷ over 6 7 ∷ []) (over 2 3 ∷ [])
     ∷ desk 2
-    ∷ takes 6 2
-    ∷ takes 3 6
-    ∷ takes 6 3
-    ∷ takes 2 6
-    ∷ releases 2 2
+    ∷ takes_each ((6, 2) ∷ (3, 6) ∷ (6, 3) ∷ (2, 6) ∷ [])
+    ++ releases 2 2
     ∷ desk 2
     ∷ []
 

@@ -10,7 +10,7 @@ use Rattle.mesh_rules.specs.Events.{after}
 use Rattle.mesh_rules.specs.Machine.{start}
 use Rattle.mesh_laws.specs.HopLaw.{HasShape}
 use Rattle.mesh_laws.specs.HopShapes as row
-use Rattle.mesh_examples.proofs.Scene.{all_enabled, desk, fails_link, joins, learns, leg, lsp, node, over, releases, repairs_link, Seen, seen, sets_up, spec, takes}
+use Rattle.mesh_examples.proofs.Scene.{all_enabled, among, desk, fails_link, joins, learns, leg, lsp, node, over, releases, repairs_link, Seen, seen, sets_up, spec, takes, takes_each}
 
 abbrev network : Network
 network = record {
@@ -27,29 +27,16 @@ events =
     ++ learns 4 (6 ∷ [])
     ++ sets_up 3 3 5 (over 3 6 ∷ []) (over 3 2 ∷ over 1 3 ∷ over 4 7 ∷ [])
     ∷ desk 3
-    ∷ takes 5 3
-    ∷ takes 3 5
-    ∷ takes 1 3
-    ∷ takes 4 1
-    ∷ takes 5 4
-    ∷ takes 4 5
-    ∷ fails_link 3
+    ∷ takes_each ((5, 3) ∷ (3, 5) ∷ (1, 3) ∷ (4, 1) ∷ (5, 4) ∷ (4, 5) ∷ [])
+    ++ fails_link 3
     ∷ desk 4
-    ∷ takes 1 4
-    ∷ takes 3 1
-    ∷ fails_link 6
+    ∷ takes_each ((1, 4) ∷ (3, 1) ∷ [])
+    ++ fails_link 6
     ∷ takes 1 4
     ∷ desk 5
     ∷ desk 3
-    ∷ takes 3 5
-    ∷ takes 1 3
-    ∷ takes 3 1
-    ∷ takes 4 1
-    ∷ takes 5 4
-    ∷ takes 4 5
-    ∷ takes 1 4
-    ∷ takes 3 1
-    ∷ repairs_link 6
+    ∷ takes_each ((3, 5) ∷ (1, 3) ∷ (3, 1) ∷ (4, 1) ∷ (5, 4) ∷ (4, 5) ∷ (1, 4) ∷ (3, 1) ∷ [])
+    ++ repairs_link 6
     ∷ desk 5
     ∷ desk 3
     ∷ takes 3 5
@@ -59,14 +46,12 @@ events =
 
 abbrev as_reached : Seen
 as_reached = record {
-  legs =
-      (leg 3 2 Live (Some 1) (Some 1) 1 1 1 ∷ [])
-      ∷ []
-      ∷ (leg 3 1 Closing None (Some 1) 0 3 0 ∷ leg 3 2 Closing None (Some 1) 0 1 2 ∷ [])
-      ∷ (leg 3 2 Live (Some 1) (Some 1) 1 1 0 ∷ [])
-      ∷ (leg 3 1 Live (Some 1) None 3 0 0 ∷ leg 3 2 Live (Some 1) None 1 0 0 ∷ [])
-      ∷ []
-      ∷ [];
+  legs = among 6 (
+        (1, leg 3 2 Live (Some 1) (Some 1) 1 1 1 ∷ [])
+        ∷ (3, leg 3 1 Closing None (Some 1) 0 3 0 ∷ leg 3 2 Closing None (Some 1) 0 1 2 ∷ [])
+        ∷ (4, leg 3 2 Live (Some 1) (Some 1) 1 1 0 ∷ [])
+        ∷ (5, leg 3 1 Live (Some 1) None 3 0 0 ∷ leg 3 2 Live (Some 1) None 1 0 0 ∷ [])
+        ∷ []);
   calls =
       []
       ∷ []

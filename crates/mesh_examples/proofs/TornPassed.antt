@@ -10,7 +10,7 @@ use Rattle.mesh_rules.specs.Events.{after}
 use Rattle.mesh_rules.specs.Machine.{start}
 use Rattle.mesh_laws.specs.HopLaw.{HasShape}
 use Rattle.mesh_laws.specs.HopShapes as row
-use Rattle.mesh_examples.proofs.Scene.{all_enabled, desk, joins, learns, leg, lsp, node, over, releases, Seen, seen, sets_up, spec, takes}
+use Rattle.mesh_examples.proofs.Scene.{all_enabled, among, desk, joins, learns, leg, lsp, node, over, releases, Seen, seen, sets_up, spec, takes, takes_each}
 
 abbrev network : Network
 network = record {
@@ -25,23 +25,19 @@ events =
     learns 4 (1 ∷ [])
     ++ sets_up 1 1 2 (over 1 1 ∷ []) (over 1 2 ∷ over 4 7 ∷ over 6 4 ∷ [])
     ∷ desk 1
-    ∷ takes 2 1
-    ∷ takes 1 2
-    ∷ releases 1 1
+    ∷ takes_each ((2, 1) ∷ (1, 2) ∷ [])
+    ++ releases 1 1
     ∷ takes 4 1
     ∷ desk 1
     ∷ []
 
 abbrev as_reached : Seen
 as_reached = record {
-  legs =
-      (leg 1 1 Closing None (Some 1) 0 1 0 ∷ leg 1 2 Closing None None 0 1 2 ∷ [])
-      ∷ (leg 1 1 Live (Some 1) None 1 0 0 ∷ [])
-      ∷ []
-      ∷ (leg 1 2 Asked None None 1 1 1 ∷ [])
-      ∷ []
-      ∷ []
-      ∷ [];
+  legs = among 6 (
+        (1, leg 1 1 Closing None (Some 1) 0 1 0 ∷ leg 1 2 Closing None None 0 1 2 ∷ [])
+        ∷ (2, leg 1 1 Live (Some 1) None 1 0 0 ∷ [])
+        ∷ (4, leg 1 2 Asked None None 1 1 1 ∷ [])
+        ∷ []);
   calls =
       []
       ∷ []

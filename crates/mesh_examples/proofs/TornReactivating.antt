@@ -11,7 +11,7 @@ use Rattle.mesh_rules.specs.Machine.{start}
 use Rattle.mesh_laws.specs.HopLaw.{HasShape}
 use Rattle.mesh_laws.specs.HopShapes as row
 use Rattle.mesh_examples.proofs.Reactivating as reactivating
-use Rattle.mesh_examples.proofs.Scene.{all_enabled, desk, leg, lsp, node, releases, Seen, seen}
+use Rattle.mesh_examples.proofs.Scene.{all_enabled, among, desk, leg, lsp, node, releases, Seen, seen}
 
 abbrev network : Network
 network = reactivating.network
@@ -21,14 +21,13 @@ events = reactivating.events ++ releases 1 3 ∷ desk 3 ∷ []
 
 abbrev as_reached : Seen
 as_reached = record reactivating.as_reached {
-  legs =
-      (leg 3 1 Live (Some 1) None 1 0 0 ∷ leg 3 2 Live (Some 1) None 1 0 0 ∷ [])
-      ∷ []
-      ∷ (leg 3 1 Closing None (Some 1) 0 3 1 ∷ leg 3 2 Falling None (Some 1) 0 2 2 ∷ [])
-      ∷ (leg 3 1 Live (Some 1) (Some 1) 3 1 0 ∷ [])
-      ∷ (leg 3 2 Live (Some 1) (Some 1) 2 2 1 ∷ [])
-      ∷ (leg 3 2 Live (Some 1) (Some 1) 1 1 0 ∷ [])
-      ∷ [];
+  legs = among 6 (
+        (1, leg 3 1 Live (Some 1) None 1 0 0 ∷ leg 3 2 Live (Some 1) None 1 0 0 ∷ [])
+        ∷ (3, leg 3 1 Closing None (Some 1) 0 3 1 ∷ leg 3 2 Falling None (Some 1) 0 2 2 ∷ [])
+        ∷ (4, leg 3 1 Live (Some 1) (Some 1) 3 1 0 ∷ [])
+        ∷ (5, leg 3 2 Live (Some 1) (Some 1) 2 2 1 ∷ [])
+        ∷ (6, leg 3 2 Live (Some 1) (Some 1) 1 1 0 ∷ [])
+        ∷ []);
   calls =
       []
       ∷ []

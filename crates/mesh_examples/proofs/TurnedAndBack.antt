@@ -10,7 +10,7 @@ use Rattle.ason_base.specs.declared.calls.Phase.TheVariants.{Asked, Held, Live}
 use Rattle.mesh_rules.specs.declared.events.MeshEvent.{MeshEvent}
 use Rattle.mesh_rules.specs.Events.{after}
 use Rattle.mesh_rules.specs.Machine.{start}
-use Rattle.mesh_examples.proofs.Scene.{all_enabled, alone, called, desk, fails_link, joins, learns, leg, over, repairs_link, reported, retries, reverts, Seen, seen, sets_up, sets_up_alone, spec, takes, ticks}
+use Rattle.mesh_examples.proofs.Scene.{all_enabled, alone, among, called, desk, fails_link, joins, learns, leg, over, repairs_link, reported, retries, reverts, Seen, seen, sets_up, sets_up_alone, spec, takes, takes_each, ticks}
 
 abbrev network : Network
 network = record {
@@ -37,22 +37,16 @@ events =
     ++ learns 1 (5 ∷ [])
     ++ sets_up 1 5 2 (over 5 3 ∷ []) (over 5 6 ∷ over 3 7 ∷ over 6 4 ∷ [])
     ∷ desk 5
-    ∷ takes 2 5
-    ∷ takes 5 2
-    ∷ fails_link 3
-    ∷ takes 3 5
-    ∷ takes 6 3
-    ∷ takes 2 6
-    ∷ retries 1 5
-    ∷ takes 6 2
-    ∷ takes 3 6
-    ∷ takes 5 3
-    ∷ desk 5
+    ∷ takes_each ((2, 5) ∷ (5, 2) ∷ [])
+    ++ fails_link 3
+    ∷ takes_each ((3, 5) ∷ (6, 3) ∷ (2, 6) ∷ [])
+    ++ retries 1 5
+    ∷ takes_each ((6, 2) ∷ (3, 6) ∷ (5, 3) ∷ [])
+    ++ desk 5
     ∷ desk 2
     ∷ desk 5
-    ∷ takes 5 2
-    ∷ takes 3 5
-    ∷ ticks 5
+    ∷ takes_each ((5, 2) ∷ (3, 5) ∷ [])
+    ++ ticks 5
     ∷ reverts 1 5
     ∷ sets_up 2 5 2 (over 5 3 ∷ []) (over 5 6 ∷ over 3 2 ∷ [])
     ∷ repairs_link 3
@@ -63,10 +57,8 @@ events =
     ∷ desk 3
     ∷ desk 6
     ∷ desk 2
-    ∷ takes 2 6
-    ∷ takes 5 2
-    ∷ takes 6 2
-    ∷ desk 5
+    ∷ takes_each ((2, 6) ∷ (5, 2) ∷ (6, 2) ∷ [])
+    ++ desk 5
     ∷ desk 5
     ∷ retries 3 5
     ∷ takes 2 5
@@ -80,24 +72,19 @@ events =
     ∷ desk 5
     ∷ desk 3
     ∷ desk 5
-    ∷ takes 5 3
-    ∷ takes 3 6
-    ∷ retries 3 5
+    ∷ takes_each ((5, 3) ∷ (3, 6) ∷ [])
+    ++ retries 3 5
     ∷ takes 5 3
     ∷ []
 
 abbrev as_reached : Seen
 as_reached = record {
-  legs =
-      []
-      ∷ (leg 5 1 Live (Some 1) None 1 0 0 ∷ leg 5 2 Live (Some 1) None 2 0 0 ∷ [])
-      ∷ (leg 5 2 Live (Some 1) (Some 1) 2 2 1 ∷ [])
-      ∷ []
-      ∷ (leg 5 1 Live None (Some 1) 0 1 0
-      ∷ leg 5 2 Held None (Some 1) 0 2 2
-      ∷ leg 5 4 Asked None None 0 1 0 ∷ [])
-      ∷ (leg 5 2 Live (Some 1) (Some 1) 2 2 0 ∷ [])
-      ∷ [];
+  legs = among 6 (
+        (2, leg 5 1 Live (Some 1) None 1 0 0 ∷ leg 5 2 Live (Some 1) None 2 0 0 ∷ [])
+        ∷ (3, leg 5 2 Live (Some 1) (Some 1) 2 2 1 ∷ [])
+        ∷ (5, leg 5 1 Live None (Some 1) 0 1 0 ∷ leg 5 2 Held None (Some 1) 0 2 2 ∷ leg 5 4 Asked None None 0 1 0 ∷ [])
+        ∷ (6, leg 5 2 Live (Some 1) (Some 1) 2 2 0 ∷ [])
+        ∷ []);
   calls = alone 6 5 (reported 1 Guarded Unset 0 1 ∷ called 2 Blocked (Code set_code) ∷ called 3 Asking Unset ∷ []);
   known = 7 ∷ 7 ∷ 7 ∷ 7 ∷ 7 ∷ 7 ∷ [];
   down = 0 ∷ 0 ∷ 0 ∷ 0 ∷ 0 ∷ 0 ∷ [];

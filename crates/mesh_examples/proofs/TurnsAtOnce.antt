@@ -6,7 +6,7 @@ use Rattle.mesh_rules.specs.declared.events.MeshEvent.{MeshEvent}
 use Rattle.mesh_rules.specs.Events.{after}
 use Rattle.mesh_rules.specs.Machine.{start}
 use Rattle.mesh_examples.proofs.Activating as activating
-use Rattle.mesh_examples.proofs.Scene.{all_enabled, desk, fails_link, learns, over, seen, Seen, sets_up, takes}
+use Rattle.mesh_examples.proofs.Scene.{all_enabled, desk, fails_link, learns, over, Seen, seen, sets_up, takes_each}
 
 abbrev network : Network
 network = activating.network
@@ -21,18 +21,10 @@ events =
     ++ learns 3 (1 ∷ 2 ∷ 4 ∷ [])
     ++ sets_up 1 1 2 (over 1 3 ∷ over 6 5 ∷ []) (over 1 2 ∷ over 5 4 ∷ [])
     ∷ desk 1
-    ∷ takes 6 1
-    ∷ takes 2 6
-    ∷ takes 6 2
-    ∷ takes 1 6
-    ∷ takes 5 1
-    ∷ takes 2 5
-    ∷ takes 5 2
-    ∷ fails_link 3
+    ∷ takes_each ((6, 1) ∷ (2, 6) ∷ (6, 2) ∷ (1, 6) ∷ (5, 1) ∷ (2, 5) ∷ (5, 2) ∷ [])
+    ++ fails_link 3
     ∷ desk 6
-    ∷ takes 1 6
-    ∷ takes 1 5
-    ∷ []
+    ∷ takes_each ((1, 6) ∷ (1, 5) ∷ [])
 
 abbrev as_reached : Seen
 as_reached = record activating.as_reached {

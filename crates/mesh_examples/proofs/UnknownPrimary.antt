@@ -12,7 +12,7 @@ use Rattle.mesh_rules.specs.declared.events.MeshEvent.{MeshEvent}
 use Rattle.mesh_rules.specs.Events.{after}
 use Rattle.mesh_rules.specs.Machine.{start}
 use Rattle.mesh_examples.proofs.SharedLabel as shared_label
-use Rattle.mesh_examples.proofs.Scene.{all_enabled, called, desk, learns, leg, over, protects, Seen, seen, sets_up, takes}
+use Rattle.mesh_examples.proofs.Scene.{all_enabled, among, called, desk, learns, leg, over, protects, Seen, seen, sets_up, takes_each}
 
 abbrev network : Network
 network = shared_label.network
@@ -24,44 +24,29 @@ events =
     ++ learns 5 (2 ∷ [])
     ++ sets_up 1 1 2 (over 1 1 ∷ []) (over 1 3 ∷ over 5 5 ∷ over 6 4 ∷ [])
     ∷ desk 1
-    ∷ takes 2 1
-    ∷ takes 1 2
-    ∷ sets_up 2 3 4 (over 3 2 ∷ []) (over 3 6 ∷ over 5 5 ∷ over 6 7 ∷ [])
+    ∷ takes_each ((2, 1) ∷ (1, 2) ∷ [])
+    ++ sets_up 2 3 4 (over 3 2 ∷ []) (over 3 6 ∷ over 5 5 ∷ over 6 7 ∷ [])
     ∷ desk 3
-    ∷ takes 4 3
-    ∷ takes 5 1
-    ∷ takes 3 4
-    ∷ takes 6 5
-    ∷ takes 2 6
-    ∷ protects 2 3
-    ∷ takes 6 2
-    ∷ takes 5 6
-    ∷ desk 3
-    ∷ takes 5 3
-    ∷ takes 6 5
-    ∷ takes 1 5
-    ∷ takes 5 6
-    ∷ takes 3 5
-    ∷ []
+    ∷ takes_each ((4, 3) ∷ (5, 1) ∷ (3, 4) ∷ (6, 5) ∷ (2, 6) ∷ [])
+    ++ protects 2 3
+    ∷ takes_each ((6, 2) ∷ (5, 6) ∷ [])
+    ++ desk 3
+    ∷ takes_each ((5, 3) ∷ (6, 5) ∷ (1, 5) ∷ (5, 6) ∷ (3, 5) ∷ [])
 
 abbrev as_reached : Seen
 as_reached = record shared_label.as_reached {
-  legs =
-      (leg 1 1 Live None (Some 1) 0 1 0 ∷ leg 1 2 Held None (Some 1) 0 2 2 ∷ [])
-      ∷ (leg 1 1 Live (Some 1) None 1 0 0 ∷ leg 1 2 Held (Some 1) None 1 0 0 ∷ [])
-      ∷ (leg 3 1 Live None (Some 1) 0 1 0 ∷ [])
-      ∷ (leg 3 1 Live (Some 1) None 1 0 0 ∷ [])
-      ∷ (leg 1 2 Held (Some 1) (Some 1) 2 1 1 ∷ [])
-      ∷ (leg 1 2 Held (Some 1) (Some 1) 1 1 0 ∷ [])
-      ∷ [];
-  calls =
-      (called 1 Guarded Unset ∷ [])
-      ∷ []
-      ∷ (called 2 Bare (Code primary_code) ∷ [])
-      ∷ []
-      ∷ []
-      ∷ []
-      ∷ [];
+  legs = among 6 (
+        (1, leg 1 1 Live None (Some 1) 0 1 0 ∷ leg 1 2 Held None (Some 1) 0 2 2 ∷ [])
+        ∷ (2, leg 1 1 Live (Some 1) None 1 0 0 ∷ leg 1 2 Held (Some 1) None 1 0 0 ∷ [])
+        ∷ (3, leg 3 1 Live None (Some 1) 0 1 0 ∷ [])
+        ∷ (4, leg 3 1 Live (Some 1) None 1 0 0 ∷ [])
+        ∷ (5, leg 1 2 Held (Some 1) (Some 1) 2 1 1 ∷ [])
+        ∷ (6, leg 1 2 Held (Some 1) (Some 1) 1 1 0 ∷ [])
+        ∷ []);
+  calls = among 6 (
+        (1, called 1 Guarded Unset ∷ [])
+        ∷ (3, called 2 Bare (Code primary_code) ∷ [])
+        ∷ []);
   known = 2 ∷ 2 ∷ 2 ∷ 2 ∷ 5 ∷ 4 ∷ [];
 }
 

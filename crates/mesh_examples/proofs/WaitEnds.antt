@@ -10,7 +10,7 @@ use Rattle.ason_base.specs.declared.calls.Phase.TheVariants.{Live}
 use Rattle.mesh_rules.specs.declared.events.MeshEvent.{MeshEvent}
 use Rattle.mesh_rules.specs.Events.{after}
 use Rattle.mesh_rules.specs.Machine.{start}
-use Rattle.mesh_examples.proofs.Scene.{all_enabled, called, desk, fails_link, fails_srlg, joins, learns, leg, over, protects, releases, repairs_link, repairs_srlg, reported, retries, reverts, seen, Seen, sets_up, spec, takes, ticks}
+use Rattle.mesh_examples.proofs.Scene.{all_enabled, among, called, desk, fails_link, fails_srlg, joins, learns, leg, over, protects, releases, repairs_link, repairs_srlg, reported, retries, reverts, Seen, seen, sets_up, spec, takes, takes_each, ticks}
 
 abbrev network : Network
 network = record {
@@ -36,18 +36,12 @@ events =
     ∷ desk 5
     ∷ sets_up 1 4 5 (over 4 6 ∷ []) (over 4 3 ∷ over 3 5 ∷ over 6 8 ∷ [])
     ∷ desk 4
-    ∷ takes 5 4
-    ∷ takes 4 5
-    ∷ ticks 4
+    ∷ takes_each ((5, 4) ∷ (4, 5) ∷ [])
+    ++ ticks 4
     ∷ sets_up 2 4 3 (over 4 7 ∷ over 6 5 ∷ []) (over 4 3 ∷ [])
     ∷ desk 4
-    ∷ takes 6 4
-    ∷ takes 3 6
-    ∷ takes 6 3
-    ∷ takes 4 6
-    ∷ takes 3 4
-    ∷ takes 4 3
-    ∷ retries 1 4
+    ∷ takes_each ((6, 4) ∷ (3, 6) ∷ (6, 3) ∷ (4, 6) ∷ (3, 4) ∷ (4, 3) ∷ [])
+    ++ retries 1 4
     ∷ desk 4
     ∷ fails_link 7
     ∷ desk 6
@@ -55,25 +49,22 @@ events =
     ∷ repairs_link 7
     ∷ desk 4
     ∷ desk 6
-    ∷ takes 3 4
-    ∷ takes 4 3
-    ∷ desk 4
+    ∷ takes_each ((3, 4) ∷ (4, 3) ∷ [])
+    ++ desk 4
     ∷ takes 4 6
     ∷ reverts 1 4
     ∷ sets_up 3 1 5 (over 1 2 ∷ []) (over 1 1 ∷ over 3 3 ∷ over 4 7 ∷ over 6 8 ∷ [])
     ∷ protects 3 1
     ∷ desk 4
     ∷ desk 1
-    ∷ takes 5 1
-    ∷ takes 1 5
-    ∷ desk 1
+    ∷ takes_each ((5, 1) ∷ (1, 5) ∷ [])
+    ++ desk 1
     ∷ releases 3 1
     ∷ sets_up 4 4 3 (over 4 7 ∷ over 6 5 ∷ []) (over 4 3 ∷ [])
     ∷ desk 1
     ∷ desk 4
-    ∷ takes 6 4
-    ∷ takes 4 6
-    ∷ repairs_srlg 2
+    ∷ takes_each ((6, 4) ∷ (4, 6) ∷ [])
+    ++ repairs_srlg 2
     ∷ fails_srlg 1
     ∷ desk 4
     ∷ desk 3
@@ -97,30 +88,18 @@ events =
     ∷ desk 4
     ∷ desk 6
     ∷ desk 3
-    ∷ takes 6 3
-    ∷ takes 4 6
-    ∷ []
+    ∷ takes_each ((6, 3) ∷ (4, 6) ∷ [])
 
 abbrev as_reached : Seen
 as_reached = record {
-  legs =
-      []
-      ∷ []
-      ∷ (leg 4 2 Live (Some 1) None 1 0 0 ∷ leg 4 3 Live (Some 1) None 2 0 0 ∷ [])
-      ∷ (leg 4 2 Live None (Some 1) 0 1 1 ∷ leg 4 3 Live None (Some 1) 0 2 0 ∷ [])
-      ∷ []
-      ∷ (leg 4 2 Live (Some 1) (Some 1) 1 1 0 ∷ [])
-      ∷ [];
-  calls =
-      []
-      ∷ []
-      ∷ []
-      ∷ (called 1 Blocked (Code down_code)
-      ∷ reported 2 Turned Unset 1 0
-      ∷ called 4 Blocked (Code set_code) ∷ [])
-      ∷ []
-      ∷ []
-      ∷ [];
+  legs = among 6 (
+        (3, leg 4 2 Live (Some 1) None 1 0 0 ∷ leg 4 3 Live (Some 1) None 2 0 0 ∷ [])
+        ∷ (4, leg 4 2 Live None (Some 1) 0 1 1 ∷ leg 4 3 Live None (Some 1) 0 2 0 ∷ [])
+        ∷ (6, leg 4 2 Live (Some 1) (Some 1) 1 1 0 ∷ [])
+        ∷ []);
+  calls = among 6 (
+        (4, called 1 Blocked (Code down_code) ∷ reported 2 Turned Unset 1 0 ∷ called 4 Blocked (Code set_code) ∷ [])
+        ∷ []);
   known = 8 ∷ 0 ∷ 8 ∷ 8 ∷ 8 ∷ 8 ∷ [];
   down = 0 ∷ 0 ∷ 1 ∷ 0 ∷ 1 ∷ 1 ∷ [];
   mail = (0, 0) ∷ (0, 0) ∷ (0, 0) ∷ (0, 0) ∷ (0, 0) ∷ (0, 0) ∷ (0, 0) ∷ (0, 0) ∷ [];

@@ -9,7 +9,7 @@ use Rattle.ason_base.specs.declared.calls.Phase.TheVariants.{Asked, Held, Live}
 use Rattle.mesh_rules.specs.declared.events.MeshEvent.{MeshEvent}
 use Rattle.mesh_rules.specs.Events.{after}
 use Rattle.mesh_rules.specs.Machine.{start}
-use Rattle.mesh_examples.proofs.Scene.{all_enabled, alone, called, desk, fails_link, joins, learns, leg, over, repairs_link, Seen, seen, sets_up, sets_up_alone, spec, takes, ticks}
+use Rattle.mesh_examples.proofs.Scene.{all_enabled, alone, called, desk, fails_link, joins, learns, leg, over, repairs_link, Seen, seen, sets_up, sets_up_alone, spec, takes, takes_each, ticks}
 
 abbrev network : Network
 network = record {
@@ -32,34 +32,20 @@ events =
     ++ learns 1 (8 ∷ 9 ∷ [])
     ++ sets_up 1 2 5 (over 2 3 ∷ over 4 8 ∷ []) (over 2 5 ∷ over 6 9 ∷ [])
     ∷ desk 2
-    ∷ takes 4 2
-    ∷ takes 5 4
-    ∷ takes 4 5
-    ∷ takes 2 4
-    ∷ takes 6 2
-    ∷ takes 5 6
-    ∷ takes 6 5
-    ∷ takes 2 6
-    ∷ fails_link 8
+    ∷ takes_each ((4, 2) ∷ (5, 4) ∷ (4, 5) ∷ (2, 4) ∷ (6, 2) ∷ (5, 6) ∷ (6, 5) ∷ (2, 6) ∷ [])
+    ++ fails_link 8
     ∷ desk 4
     ∷ desk 5
-    ∷ takes 4 5
-    ∷ takes 2 4
-    ∷ takes 6 2
-    ∷ takes 5 6
-    ∷ takes 6 5
-    ∷ takes 2 6
-    ∷ repairs_link 8
+    ∷ takes_each ((4, 5) ∷ (2, 4) ∷ (6, 2) ∷ (5, 6) ∷ (6, 5) ∷ (2, 6) ∷ [])
+    ++ repairs_link 8
     ∷ desk 4
     ∷ desk 5
-    ∷ takes 4 5
-    ∷ takes 2 4
-    ∷ ticks 2
+    ∷ takes_each ((4, 5) ∷ (2, 4) ∷ [])
+    ++ ticks 2
     ∷ sets_up_alone 2 2 4 (over 2 3 ∷ [])
     ∷ desk 2
-    ∷ takes 4 2
-    ∷ takes 2 4
-    ∷ fails_link 2
+    ∷ takes_each ((4, 2) ∷ (2, 4) ∷ [])
+    ++ fails_link 2
     ∷ desk 1
     ∷ desk 3
     ∷ sets_up 3 2 4 (over 2 3 ∷ []) (over 2 5 ∷ over 6 9 ∷ over 5 8 ∷ [])

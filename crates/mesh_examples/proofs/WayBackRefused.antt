@@ -1,7 +1,7 @@
 -- A call from node 3 to node 2 takes a label of the fibre over which a two-way call from node 1 to node 3 comes back.
 -- A node that doesn't convert has no other label for the way back: it refuses the Path. One that converts takes
 -- another.
-use Rattle.std.proofs.Common.{◌≡◌, Bool, true, false, List, [], ◌∷◌, refl}
+use Rattle.std.proofs.Common.{◌≡◌, Bool, true, false, List, [], ◌∷◌, ◌++◌, refl}
 use Rattle.std.specs.Prelude.{Some, None}
 use Rattle.ason_base.specs.Codes.{label_code}
 use Rattle.ason_base.specs.Labels as labels
@@ -15,7 +15,7 @@ use Rattle.mesh_rules.specs.declared.events.MeshEvent.{MeshEvent}
 use Rattle.mesh_rules.specs.Events.{after}
 use Rattle.mesh_rules.specs.Machine.{start}
 use Rattle.mesh_rules.specs.Rows.{all_leg_rows}
-use Rattle.mesh_examples.proofs.Scene.{all_enabled, called, desk, joins, link, lsp, over, row, seen, sets_up_alone, sets_up_both, spec, takes}
+use Rattle.mesh_examples.proofs.Scene.{all_enabled, called, desk, joins, link, lsp, over, row, seen, sets_up_alone, sets_up_both, spec, takes_each}
 
 -- whether node 2 converts
 abbrev network : Bool → Network
@@ -29,27 +29,19 @@ abbrev refused : List MeshEvent
 refused =
     sets_up_alone 1 3 2 (over 3 2 ∷ [])
     ∷ desk 3
-    ∷ takes 2 3
-    ∷ takes 3 2
-    ∷ sets_up_both 2 1 3 false (over 1 1 ∷ over 2 2 ∷ []) None
+    ∷ takes_each ((2, 3) ∷ (3, 2) ∷ [])
+    ++ sets_up_both 2 1 3 false (over 1 1 ∷ over 2 2 ∷ []) None
     ∷ desk 1
-    ∷ takes 2 1
-    ∷ takes 1 2
-    ∷ []
+    ∷ takes_each ((2, 1) ∷ (1, 2) ∷ [])
 
 abbrev converted : List MeshEvent
 converted =
     sets_up_alone 1 3 2 (over 3 2 ∷ [])
     ∷ desk 3
-    ∷ takes 2 3
-    ∷ takes 3 2
-    ∷ sets_up_both 2 1 3 false (over 1 1 ∷ over 2 2 ∷ []) None
+    ∷ takes_each ((2, 3) ∷ (3, 2) ∷ [])
+    ++ sets_up_both 2 1 3 false (over 1 1 ∷ over 2 2 ∷ []) None
     ∷ desk 1
-    ∷ takes 2 1
-    ∷ takes 3 2
-    ∷ takes 2 3
-    ∷ takes 1 2
-    ∷ []
+    ∷ takes_each ((2, 1) ∷ (3, 2) ∷ (2, 3) ∷ (1, 2) ∷ [])
 
 abbrev connected : List LegRow
 connected =

@@ -1,6 +1,6 @@
 -- The label on which a two-way call comes back is taken: a call from the other end gets the other label of the fibre,
 -- or is blocked where the link has one label.
-use Rattle.std.proofs.Common.{◌≡◌, ℕ, true, false, List, [], ◌∷◌, refl}
+use Rattle.std.proofs.Common.{◌≡◌, ℕ, true, false, List, [], ◌∷◌, ◌++◌, refl}
 use Rattle.std.specs.Prelude.{Some, None}
 use Rattle.ason_base.specs.Codes.{set_code}
 use Rattle.ason_base.specs.Labels as labels
@@ -14,7 +14,7 @@ use Rattle.mesh_rules.specs.declared.events.MeshEvent.{MeshEvent}
 use Rattle.mesh_rules.specs.Events.{after}
 use Rattle.mesh_rules.specs.Machine.{start}
 use Rattle.mesh_rules.specs.Rows.{all_leg_rows}
-use Rattle.mesh_examples.proofs.Scene.{all_enabled, called, desk, joins, link, lsp, over, row, seen, sets_up_alone, sets_up_both, spec, takes}
+use Rattle.mesh_examples.proofs.Scene.{all_enabled, called, desk, joins, link, lsp, over, row, seen, sets_up_alone, sets_up_both, spec, takes_each}
 
 abbrev network : ℕ → Network
 network most = record { wait = 0; nodes = spec 1 false ∷ spec 2 false ∷ []; links = joins 1 1 2 most [] ∷ [] }
@@ -23,13 +23,10 @@ abbrev events : List MeshEvent
 events =
     sets_up_both 1 1 2 false (over 1 1 ∷ []) None
     ∷ desk 1
-    ∷ takes 2 1
-    ∷ takes 1 2
-    ∷ sets_up_alone 2 2 1 (over 2 1 ∷ [])
+    ∷ takes_each ((2, 1) ∷ (1, 2) ∷ [])
+    ++ sets_up_alone 2 2 1 (over 2 1 ∷ [])
     ∷ desk 2
-    ∷ takes 1 2
-    ∷ takes 2 1
-    ∷ []
+    ∷ takes_each ((1, 2) ∷ (2, 1) ∷ [])
 
 abbrev first_call : List LegRow
 first_call =
