@@ -1,5 +1,5 @@
 -- LSPs and fibres that are the same, and the order of LSPs.
-use Rattle.std.proofs.Common.{◌≡◌, Bool, true, false, nat_eq, nat_lt, refl, ◌∙◌}
+use Rattle.std.proofs.Common.{◌≡◌, Bool, true, false, nat_eq, refl}
 use Rattle.std.specs.Prelude.{◌&&◌}
 use Rattle.ason_base.specs.declared.ids.Fibre.{Fibre}
 use Rattle.ason_base.specs.declared.ids.Lsp.{Lsp}

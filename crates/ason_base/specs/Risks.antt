@@ -1,6 +1,6 @@
 -- Risks in their order, SRLGs before links, each by number; the risks of links and of routes.
-use Rattle.std.specs.Prelude.{◌≡◌, ◌==◌, Bool, true, false, not, nat_lt, IsTrue, List, [], ◌∷◌, ◌++◌, map, filter, Option}
-use Rattle.std.specs.List.{AllPairs, Contains, find, flat_map, list_any}
+use Rattle.std.specs.Prelude.{◌≡◌, ◌==◌, Bool, true, false, not, nat_lt, List, [], ◌∷◌, ◌++◌, map, filter, Option}
+use Rattle.std.specs.List.{Contains, find, flat_map, list_any}
 use Rattle.ason_base.specs.InOrder.{RisesBy, in_order}
 use Rattle.ason_base.specs.declared.ids.LinkId.{LinkId}
 use Rattle.ason_base.specs.declared.network.TeRow.{TeRow}
