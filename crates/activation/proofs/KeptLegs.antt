@@ -17,7 +17,7 @@ use Rattle.mesh_rules.specs.declared.arrivals.Arrival.{Arrival}
 use Rattle.mesh_rules.specs.declared.neighbours.Neighbour.{Neighbour}
 use Rattle.mesh_rules.specs.ActivationAnswers.{confirmed, contended, disarmed, is_confirmed, resv_again}
 use Rattle.mesh_rules.specs.Activations.{path_again}
-use Rattle.mesh_rules.specs.Changes.{Answer, nothing}
+use Rattle.mesh_rules.specs.Changes.{nothing}
 use Rattle.mesh_rules.specs.Legs.{find_leg, following, is_armed, is_asked, is_label, is_node, is_over, previous}
 use Rattle.mesh_rules.specs.Messages.{arrival}
 use Rattle.mesh_rules.specs.PathErrs.{PathFailure, on_path_err, path_err_with, removed}
@@ -26,7 +26,8 @@ use Rattle.mesh_rules.specs.Resvs.{answered, on_resv, resv_with}
 use Rattle.mesh_rules.specs.State.{new_node}
 use Rattle.mesh_nodes.specs.LocalNodes.{LocalNodeFits}
 use Rattle.mesh_nodes.proofs.Cases.{both_left, if_cases}
-use Rattle.leg_table.specs.Fits.{OwnLegsFit, legs_after}
+use Rattle.leg_table.specs.Fits.{OwnLegsFit}
+use Rattle.leg_table.specs.Handled.{MayBeHandledKept}
 use Rattle.mesh_nodes.specs.Kept.{LegFits}
 use Rattle.mesh_nodes.proofs.LegList.{found-all}
 use Rattle.leg_table.specs.LegClaims.{OverOwnFibres}
@@ -36,16 +37,11 @@ use Rattle.leg_table.specs.Tables.{LegTable}
 use Rattle.leg_labels.proofs.Activated.{confirmed-calm, contended-calm, path_again-calm}
 use Rattle.leg_labels.proofs.CallLegs.{Calm}
 use Rattle.leg_labels.proofs.MayPut.{found-itself}
-use Rattle.leg_labels.proofs.OwnLegs.{legs-after, next_state}
+use Rattle.leg_labels.proofs.OwnLegs.{calm-handled, legs-after, next_state}
 use Rattle.activation.specs.Answers.{activate_answer, busy_answer, connect_answer, connected_here, contended_here, path_here, path_taken, take_back_answer}
 
--- what an answer does to the legs: they keep their labels
-pub record Keeps (t : LegTable) (a : Answer) : Type 0 where
-  pub legs : OwnLegsFit (legs_after t a)
-  pub calm : Calm (local_of t) t.legs a
-
-none : (t : LegTable) → OwnLegsFit t → Keeps t nothing
-none t fits = record { legs = fits; calm = (tt, tt) }
+none : (t : LegTable) → OwnLegsFit t → MayBeHandledKept t nothing
+none t fits = calm-handled t nothing fits (tt, tt)
 
 -- the legs that stand are over the node's fibres
 over-here : (t : LegTable) (l : Lsp) (g : Leg) → LocalNodeFits (local_of t) → OwnLegsFit t →
@@ -126,7 +122,7 @@ contended-at t g m = ap (λ a. cond (is_armed g.phase) a nothing) (go (previous 
 
 -- a Path where a leg of its LSP may stand
 path-legs : (t : LegTable) (m : PathRequest) → LocalNodeFits (local_of t) → OwnLegsFit t →
-    Keeps t (path_here t m.arrival (drop 1 m.route) m.role)
+    MayBeHandledKept t (path_here t m.arrival (drop 1 m.route) m.role)
 path-legs t m links fits = go (find_leg m.arrival.lsp t.legs) refl
   where
     a : Arrival
@@ -135,23 +131,22 @@ path-legs t m links fits = go (find_leg m.arrival.lsp t.legs) refl
     left : List Step
     left = drop 1 m.route
 
-    go : (o : Option Leg) → find_leg a.lsp t.legs ≡ o → Keeps t (path_taken t a left m.role o)
+    go : (o : Option Leg) → find_leg a.lsp t.legs ≡ o → MayBeHandledKept t (path_taken t a left m.role o)
     go None found = none t fits
     go (Some g) found =
-        record {
-          legs = legs-after t a.from (Path a.lsp a.egress a.link m.route m.set m.upstream m.role)
-              (path_again (local_of t) (legs_state t) a left m.role g).legs links fits
-              (λ next. ap (λ w. w.legs) (path-by t next a left m.role g
-              ∙ ap (path_with (local_of t) (next_state t next) m) (sym found)));
-          calm = path_again-calm (local_of t) (legs_state t) g (over-here t a.lsp g links fits found)
-              (found-itself a.lsp t.legs g found) a left m.role;
-        }
+        calm-handled t (path_again (local_of t) (legs_state t) a left m.role g)
+        (legs-after t a.from (Path a.lsp a.egress a.link m.route m.set m.upstream m.role)
+        (path_again (local_of t) (legs_state t) a left m.role g).legs links fits
+        (λ next. ap (λ w. w.legs) (path-by t next a left m.role g
+        ∙ ap (path_with (local_of t) (next_state t next) m) (sym found))))
+        (path_again-calm (local_of t) (legs_state t) g (over-here t a.lsp g links fits found)
+        (found-itself a.lsp t.legs g found) a left m.role)
 
 pub activate-keeps : (t : LegTable) (u : NodeId) (m : Msg) → LocalNodeFits (local_of t) → OwnLegsFit t →
-    Keeps t (activate_answer t u m)
+    MayBeHandledKept t (activate_answer t u m)
 activate-keeps t u (Path l e k route set up r) links fits =
     let a = arrival l e u k in
-    if_cases (Keeps t) (is_active r) (path_here t a (drop 1 route) r) nothing
+    if_cases (MayBeHandledKept t) (is_active r) (path_here t a (drop 1 route) r) nothing
     (λ active. path-legs t (record { arrival = a; route = route; set = set; upstream = up; role = r }) links fits)
     (λ other. none t fits)
 activate-keeps t u (Resv l e k x) links fits = none t fits
@@ -160,10 +155,10 @@ activate-keeps t u (PathErr l e at gone code) links fits = none t fits
 activate-keeps t u (Notify l e at k code) links fits = none t fits
 
 pub take_back-keeps : (t : LegTable) (u : NodeId) (m : Msg) → LocalNodeFits (local_of t) → OwnLegsFit t →
-    Keeps t (take_back_answer t u m)
+    MayBeHandledKept t (take_back_answer t u m)
 take_back-keeps t u (Path l e k route set up r) links fits =
     let a = arrival l e u k in
-    if_cases (Keeps t) (is_active r) nothing (path_here t a (drop 1 route) r) (λ active. none t fits)
+    if_cases (MayBeHandledKept t) (is_active r) nothing (path_here t a (drop 1 route) r) (λ active. none t fits)
     (λ other. path-legs t (record { arrival = a; route = route; set = set; upstream = up; role = r }) links fits)
 take_back-keeps t u (Resv l e k x) links fits = none t fits
 take_back-keeps t u (PathTear l e k) links fits = none t fits
@@ -171,31 +166,30 @@ take_back-keeps t u (PathErr l e at gone code) links fits = none t fits
 take_back-keeps t u (Notify l e at k code) links fits = none t fits
 
 pub connect-keeps : (t : LegTable) (u : NodeId) (m : Msg) → LocalNodeFits (local_of t) → OwnLegsFit t →
-    Keeps t (connect_answer t u m)
+    MayBeHandledKept t (connect_answer t u m)
 connect-keeps t u (Path l e k route set up r) links fits = none t fits
 connect-keeps t u (Resv l e k x) links fits = go (find_leg l t.legs) refl
   where
     a : Arrival
     a = arrival l e u k
 
-    go : (o : Option Leg) → find_leg l t.legs ≡ o → Keeps t (connected_here a x o)
+    go : (o : Option Leg) → find_leg l t.legs ≡ o → MayBeHandledKept t (connected_here a x o)
     go None found = none t fits
     go (Some g) found =
-        if_cases (Keeps t) (is_confirmed a x g) (confirmed new_node g (previous g)) nothing
-        (λ takes. record {
-          legs = legs-after t u (Resv l e k x) (confirmed new_node g (previous g)).legs links fits
-              (λ next. resv-is t next a x g found takes);
-          calm = subst (Calm (local_of t) t.legs) (confirmed-here t g (previous g))
-              (confirmed-calm (local_of t) (legs_state t) g (over-here t l g links fits found)
-              (found-itself l t.legs g found) (previous g) (both_left (is_armed g.phase) _ takes));
-        })
+        if_cases (MayBeHandledKept t) (is_confirmed a x g) (confirmed new_node g (previous g)) nothing
+        (λ takes. calm-handled t (confirmed new_node g (previous g))
+        (legs-after t u (Resv l e k x) (confirmed new_node g (previous g)).legs links fits
+        (λ next. resv-is t next a x g found takes))
+        (subst (Calm (local_of t) t.legs) (confirmed-here t g (previous g))
+        (confirmed-calm (local_of t) (legs_state t) g (over-here t l g links fits found)
+        (found-itself l t.legs g found) (previous g) (both_left (is_armed g.phase) _ takes))))
         (λ other. none t fits)
 connect-keeps t u (PathTear l e k) links fits = none t fits
 connect-keeps t u (PathErr l e at gone code) links fits = none t fits
 connect-keeps t u (Notify l e at k code) links fits = none t fits
 
 pub busy-keeps : (t : LegTable) (u : NodeId) (m : Msg) → LocalNodeFits (local_of t) → OwnLegsFit t →
-    Keeps t (busy_answer t u m)
+    MayBeHandledKept t (busy_answer t u m)
 busy-keeps t u (Path l e k route set up r) links fits = none t fits
 busy-keeps t u (Resv l e k x) links fits = none t fits
 busy-keeps t u (PathTear l e k) links fits = none t fits
@@ -208,16 +202,14 @@ busy-keeps t u (PathErr l e at false code) links fits = go (find_leg l t.legs) r
     f : PathFailure
     f = record { lsp = l; msg = m; removed = false; code = code }
 
-    go : (o : Option Leg) → find_leg l t.legs ≡ o → Keeps t (contended_here u m o)
+    go : (o : Option Leg) → find_leg l t.legs ≡ o → MayBeHandledKept t (contended_here u m o)
     go None found = none t fits
     go (Some g) found =
-        if_cases (Keeps t) (is_node (following g) u) (contended new_node g m) nothing
-        (λ near. record {
-          legs = legs-after t u m (contended new_node g m).legs links fits
-              (λ next. err-is t next g u f found refl near);
-          calm = subst (Calm (local_of t) t.legs) (contended-at t g m)
-              (contended-calm (local_of t) (legs_state t) g (over-here t l g links fits found)
-              (found-itself l t.legs g found) m);
-        })
+        if_cases (MayBeHandledKept t) (is_node (following g) u) (contended new_node g m) nothing
+        (λ near. calm-handled t (contended new_node g m)
+        (legs-after t u m (contended new_node g m).legs links fits (λ next. err-is t next g u f found refl near))
+        (subst (Calm (local_of t) t.legs) (contended-at t g m)
+        (contended-calm (local_of t) (legs_state t) g (over-here t l g links fits found)
+        (found-itself l t.legs g found) m)))
         (λ other. none t fits)
 busy-keeps t u (Notify l e at k code) links fits = none t fits

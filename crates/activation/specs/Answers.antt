@@ -1,7 +1,7 @@
 -- How a backup is activated at a node of these tables (RFC 4872, section 8), and how its activation is taken back
 -- (reversion: RFC 4427): a Path where the leg stands, a Resv at a leg that is Armed, and a PathErr without
 -- Path_State_Removed. What becomes of the call at the ingress isn't told here: it's as at a node without calls.
-use Rattle.std.specs.Prelude.{ℕ, ◌&&◌, Bool, false, not, [], ◌∷◌, Option, Some, None, is_some, if◌then◌else◌, List, drop}
+use Rattle.std.specs.Prelude.{ℕ, ◌&&◌, Bool, false, not, [], ◌∷◌, Option, Some, None, if◌then◌else◌, List, drop}
 use Rattle.ason_base.specs.declared.calls.Phase.TheVariants.{Live}
 use Rattle.ason_base.specs.declared.ids.NodeId.{NodeId}
 use Rattle.ason_base.specs.declared.messages.Msg.{Msg}
@@ -18,13 +18,8 @@ use Rattle.mesh_rules.specs.Legs.{find_leg, following, is_armed, is_node, previo
 use Rattle.mesh_rules.specs.Messages.{arrival}
 use Rattle.mesh_rules.specs.Paths.{is_active}
 use Rattle.mesh_rules.specs.State.{new_node}
-use Rattle.leg_table.specs.Fits.{legs_after}
 use Rattle.leg_table.specs.States.{legs_state, local_of}
-use Rattle.leg_table.specs.Tables.{LegTable}
-
--- the LSP begins here
-abbrev pub begins_here : Leg → Bool
-begins_here g = not (is_some (previous g))
+use Rattle.leg_table.specs.Tables.{LegTable, begins_here}
 
 -- A Path
 
@@ -138,17 +133,3 @@ busy_answer t u (PathTear l e k) = nothing
 busy_answer t u (PathErr l e at gone code) =
     if gone then nothing else contended_here u (PathErr l e at gone code) (find_leg l t.legs)
 busy_answer t u (Notify l e at k code) = nothing
-
--- The tables after it
-
-abbrev pub after_activate : LegTable → NodeId → Msg → LegTable
-after_activate t u m = legs_after t (activate_answer t u m)
-
-abbrev pub after_take_back : LegTable → NodeId → Msg → LegTable
-after_take_back t u m = legs_after t (take_back_answer t u m)
-
-abbrev pub after_connect : LegTable → NodeId → Msg → LegTable
-after_connect t u m = legs_after t (connect_answer t u m)
-
-abbrev pub after_busy : LegTable → NodeId → Msg → LegTable
-after_busy t u m = legs_after t (busy_answer t u m)

@@ -1,9 +1,8 @@
 //! The steps of an activation carried out over a node's tables and its owner.
 
-ghost use Rattle.std.specs.Prelude.{◌≡◌, [], IfOk, OnErr, OnOk};
 ghost use Rattle.leg_table.specs.Fits.{TablesFitOwner};
-ghost use Rattle.leg_table.specs.LegClaims.{SharesStay};
-ghost use Rattle.activation.specs.Answers.{activate_answer, after_activate, after_busy, after_connect, after_take_back, busy_answer, connect_answer, take_back_answer};
+ghost use Rattle.leg_table.specs.Handled.{IsHandledKept};
+ghost use Rattle.activation.specs.Answers.{activate_answer, busy_answer, connect_answer, take_back_answer};
 
 use crate::path_errs::busy_change;
 use crate::paths::activate_change;
@@ -28,13 +27,8 @@ pub fn activate(
     msg: &Msg,
 ) -> Result<Outs, OutOfMemory>
     requires { TablesFitOwner tables.old owner.old }
-    ensures ok { OnOk result (tables.new ≡ after_activate tables.old from msg.now) }
-    ensures sent { IfOk result (λ outs. outs ≡ (activate_answer tables.old from msg.now).sent) }
-    ensures none { (activate_answer tables.old from msg.now).legs ≡ [] → owner.new ≡ owner.old }
-    ensures fits { TablesFitOwner tables.new owner.new }
-    ensures shares { SharesStay tables.old owner.old tables.new owner.new }
-    ensures err { OnErr result (tables.new ≡ tables.old) }
-    ensures err_owner { OnErr result (owner.new ≡ owner.old) }
+    ensures { IsHandledKept result tables.old owner.old tables.new owner.new
+        (activate_answer tables.old from msg.now) }
 {
     let change = activate_change(alloc, tables, owner, from, msg)?;
     handle_kept(alloc, tables, owner, change)
@@ -53,13 +47,8 @@ pub fn take_back(
     msg: &Msg,
 ) -> Result<Outs, OutOfMemory>
     requires { TablesFitOwner tables.old owner.old }
-    ensures ok { OnOk result (tables.new ≡ after_take_back tables.old from msg.now) }
-    ensures sent { IfOk result (λ outs. outs ≡ (take_back_answer tables.old from msg.now).sent) }
-    ensures none { (take_back_answer tables.old from msg.now).legs ≡ [] → owner.new ≡ owner.old }
-    ensures fits { TablesFitOwner tables.new owner.new }
-    ensures shares { SharesStay tables.old owner.old tables.new owner.new }
-    ensures err { OnErr result (tables.new ≡ tables.old) }
-    ensures err_owner { OnErr result (owner.new ≡ owner.old) }
+    ensures { IsHandledKept result tables.old owner.old tables.new owner.new
+        (take_back_answer tables.old from msg.now) }
 {
     let change = take_back_change(alloc, tables, from, msg)?;
     handle_kept(alloc, tables, owner, change)
@@ -76,13 +65,8 @@ pub fn connect(
     msg: &Msg,
 ) -> Result<Outs, OutOfMemory>
     requires { TablesFitOwner tables.old owner.old }
-    ensures ok { OnOk result (tables.new ≡ after_connect tables.old from msg.now) }
-    ensures sent { IfOk result (λ outs. outs ≡ (connect_answer tables.old from msg.now).sent) }
-    ensures none { (connect_answer tables.old from msg.now).legs ≡ [] → owner.new ≡ owner.old }
-    ensures fits { TablesFitOwner tables.new owner.new }
-    ensures shares { SharesStay tables.old owner.old tables.new owner.new }
-    ensures err { OnErr result (tables.new ≡ tables.old) }
-    ensures err_owner { OnErr result (owner.new ≡ owner.old) }
+    ensures { IsHandledKept result tables.old owner.old tables.new owner.new
+        (connect_answer tables.old from msg.now) }
 {
     let change = connect_change(alloc, tables, from, msg)?;
     handle_kept(alloc, tables, owner, change)
@@ -100,13 +84,8 @@ pub fn busy(
     msg: &Msg,
 ) -> Result<Outs, OutOfMemory>
     requires { TablesFitOwner tables.old owner.old }
-    ensures ok { OnOk result (tables.new ≡ after_busy tables.old from msg.now) }
-    ensures sent { IfOk result (λ outs. outs ≡ (busy_answer tables.old from msg.now).sent) }
-    ensures none { (busy_answer tables.old from msg.now).legs ≡ [] → owner.new ≡ owner.old }
-    ensures fits { TablesFitOwner tables.new owner.new }
-    ensures shares { SharesStay tables.old owner.old tables.new owner.new }
-    ensures err { OnErr result (tables.new ≡ tables.old) }
-    ensures err_owner { OnErr result (owner.new ≡ owner.old) }
+    ensures { IsHandledKept result tables.old owner.old tables.new owner.new
+        (busy_answer tables.old from msg.now) }
 {
     let change = busy_change(alloc, tables, from, msg)?;
     handle_kept(alloc, tables, owner, change)

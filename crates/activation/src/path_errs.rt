@@ -5,9 +5,8 @@ ghost use Rattle.std.specs.Prelude.{◌≡◌, IfOk};
 ghost use Rattle.mesh_rules.specs.Legs.{find_leg};
 ghost use Rattle.activation.specs.Answers.{busy_answer, contended_here, contends, contends_leg, disarmed_here};
 
-use crate::resvs::begins_here;
 use ason_base::{Copied, Leg, Lsp, Msg, NodeId, OutOfMemory, Phase};
-use leg_table::one_leg::{following, is_armed, is_node, previous, with_phase};
+use leg_table::one_leg::{begins_here, following, is_armed, is_node, previous, with_phase};
 use leg_table::{Change, NodeTables};
 use std::alloc::Global;
 

@@ -3,10 +3,10 @@
 ghost use Rattle.std.specs.Prelude.{◌≡◌, IfOk};
 ghost use Rattle.mesh_rules.specs.ActivationAnswers.{is_confirmed};
 ghost use Rattle.mesh_rules.specs.Legs.{find_leg};
-ghost use Rattle.activation.specs.Answers.{begins_here, carries, carries_leg, connect_answer, connected_here, live_here};
+ghost use Rattle.activation.specs.Answers.{carries, carries_leg, connect_answer, connected_here, live_here};
 
 use ason_base::{Label, Leg, Msg, NodeId, OutOfMemory, Phase};
-use leg_table::one_leg::{following, is_armed, is_over, previous, with_phase};
+use leg_table::one_leg::{begins_here, following, is_armed, is_over, previous, with_phase};
 use leg_table::{Change, NodeTables};
 use mesh_rules::Arrival;
 use std::alloc::Global;
@@ -50,13 +50,6 @@ fn on_resv(
         Some(leg) if is_confirmed(arrival, label, leg) => go_live(alloc, leg),
         _ => Ok(Change::nothing(alloc)),
     }
-}
-
-/// Whether the LSP begins here: the leg has no previous node.
-pub(crate) fn begins_here(leg: &Leg) -> bool
-    ensures { result ≡ begins_here leg.now }
-{
-    previous(leg).is_none()
 }
 
 fn carries_leg(tables: &NodeTables, arrival: Arrival, label: Label) -> bool

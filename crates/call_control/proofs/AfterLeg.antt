@@ -32,13 +32,13 @@ use Rattle.mesh_nodes.proofs.Followed.{later-none}
 use Rattle.mesh_nodes.proofs.LegList.{found-lsp}
 use Rattle.leg_table.specs.Fits.{legs_after}
 use Rattle.leg_table.specs.States.{legs_state, local_of, state_of}
-use Rattle.leg_table.specs.Tables.{CallTable, LegTable}
-use Rattle.call_control.specs.Handlers.{IsCarriedOut, begins_at, leg_answer, takes_err, takes_notify, takes_resv}
+use Rattle.leg_table.specs.Tables.{CallTable, LegTable, begins_here}
+use Rattle.call_control.specs.Handlers.{WasCarriedOut, leg_answer, takes_err, takes_notify, takes_resv}
 use Rattle.call_control.specs.Rules.{refused_for, refused_here}
 
 -- The rules
 
-pub begins-is : (o : Option Neighbour) → begins_at o ≡ true → o ≡ None
+pub begins-is : (o : Option Neighbour) → not (is_some o) ≡ true → o ≡ None
 begins-is None e = refl
 begins-is (Some h) e = absurd (cc e)
 
@@ -102,7 +102,7 @@ module _ (before t : LegTable) (c : CallTable) (u : NodeId) (l : Lsp) (e : NodeI
         ap (λ b. cond b (answered p n a x g (previous g)) (resv_again n a x g)) other
         ∙ ap (λ b. cond b (confirmed n g (previous g)) nothing) armed ∙ ap (confirmed n g) first
 
-    pub resv-taken : IsCarriedOut before (takes_resv a x (find_leg l before.legs))
+    pub resv-taken : WasCarriedOut before (takes_resv a x (find_leg l before.legs))
         (leg_answer before u (Resv l e k x)) t → TakesResv
     resv-taken done = go (find_leg l before.legs) refl done.applies done.after
       where
@@ -112,7 +112,7 @@ module _ (before t : LegTable) (c : CallTable) (u : NodeId) (l : Lsp) (e : NodeI
         go (Some g) found applies after = by_kind (is_expected a x g) refl
           where
             first : previous g ≡ None
-            first = begins-is (previous g) (both_left (begins_at (previous g)) _ applies)
+            first = begins-is (previous g) (both_left (begins_here g) _ applies)
 
             is : (b : Answer) → resv_with p (legs_state before) a x (Some g) ≡ b → t ≡ legs_after before b
             is b rule = after ∙ ap (λ o. legs_after before (resv_with p (legs_state before) a x o)) found
@@ -130,7 +130,7 @@ module _ (before t : LegTable) (c : CallTable) (u : NodeId) (l : Lsp) (e : NodeI
             })
             by_kind false other =
                 let armed : is_confirmed a x g ≡ true =
-                ap (λ b. b || is_confirmed a x g) (sym other) ∙ both_right (begins_at (previous g)) _ applies in
+                ap (λ b. b || is_confirmed a x g) (sym other) ∙ both_right (begins_here g) _ applies in
                 confirms g armed (record {
                   found = found;
                   is = is _ (resv-confirms (legs_state before) g first other armed);
@@ -163,8 +163,8 @@ module _ (before t : LegTable) (c : CallTable) (u : NodeId) (l : Lsp) (e : NodeI
     err-gone : (n : NodeState) (g : Leg) → takes_err u true (Some g) ≡ true →
         path_err_with n u (f true) (Some g) ≡ errs.refused_here n g code
     err-gone n g applies =
-        let first = begins-is (previous g) (both_left (begins_at (previous g)) _ applies) in
-        let taken = both_right (begins_at (previous g)) _ applies in
+        let first = begins-is (previous g) (both_left (begins_here g) _ applies) in
+        let taken = both_right (begins_here g) _ applies in
         ap (λ b. cond b (removed n g (f true)) nothing) (both_left (is_node (following g) u) _ taken)
         ∙ ap (λ b. cond b (err_passed n g (f true) (previous g)) (cond (is_closing g.phase) (removes g.lsp []) nothing))
         (both_right (is_node (following g) u) _ taken)
@@ -173,14 +173,14 @@ module _ (before t : LegTable) (c : CallTable) (u : NodeId) (l : Lsp) (e : NodeI
     err-busy : (n : NodeState) (g : Leg) → takes_err u false (Some g) ≡ true →
         path_err_with n u (f false) (Some g) ≡ disarmed n g (f false).msg None
     err-busy n g applies =
-        let first = begins-is (previous g) (both_left (begins_at (previous g)) _ applies) in
-        let taken = both_right (begins_at (previous g)) _ applies in
+        let first = begins-is (previous g) (both_left (begins_here g) _ applies) in
+        let taken = both_right (begins_here g) _ applies in
         ap (λ b. cond b (contended n g (f false).msg) nothing) (both_left (is_node (following g) u) _ taken)
         ∙ ap (λ b. cond b (disarmed n g (f false).msg (previous g)) nothing)
         (both_right (is_node (following g) u) _ taken)
         ∙ ap (disarmed n g (f false).msg) first
 
-    pub refuses : IsCarriedOut before (takes_err u true (find_leg l before.legs))
+    pub refuses : WasCarriedOut before (takes_err u true (find_leg l before.legs))
         (leg_answer before u (PathErr l e at true code)) t → Refuses at code
     refuses done = go (find_leg l before.legs) refl done.applies done.after
       where
@@ -201,7 +201,7 @@ module _ (before t : LegTable) (c : CallTable) (u : NodeId) (l : Lsp) (e : NodeI
                   ∙ ap (λ o. followed_by (removes l []) (refused_for code (call_with l c.calls) o)) (sym found);
             }
 
-    pub contends : IsCarriedOut before (takes_err u false (find_leg l before.legs))
+    pub contends : WasCarriedOut before (takes_err u false (find_leg l before.legs))
         (leg_answer before u (PathErr l e at false code)) t → Contends at code
     contends done = go (find_leg l before.legs) refl done.applies done.after
       where
@@ -211,7 +211,7 @@ module _ (before t : LegTable) (c : CallTable) (u : NodeId) (l : Lsp) (e : NodeI
         go None found applies after = absurd (cc applies)
         go (Some g) found applies after = record {
           leg = g;
-          armed = both_right (is_node (following g) u) _ (both_right (begins_at (previous g)) _ applies);
+          armed = both_right (is_node (following g) u) _ (both_right (begins_here g) _ applies);
           becomes = record {
             found = found;
             is = after ∙ ap (λ o. legs_after before (path_err_with (legs_state before) u (f false) o)) found
@@ -237,7 +237,7 @@ module _ (before t : LegTable) (c : CallTable) (u : NodeId) (l : Lsp) (e : NodeI
     abbrev n : Notice
     n = record { lsp = l; msg = Notify l e at k code; at = at; link = k; code = code }
 
-    pub tells : IsCarriedOut before (takes_notify u code (find_leg l before.legs)) nothing t → Tells at k code
+    pub tells : WasCarriedOut before (takes_notify u code (find_leg l before.legs)) nothing t → Tells at k code
     tells done = go (find_leg l before.legs) refl done.applies
       where
         go : (o : Option Leg) → find_leg l before.legs ≡ o → takes_notify u code o ≡ true → Tells at k code
@@ -251,10 +251,10 @@ module _ (before t : LegTable) (c : CallTable) (u : NodeId) (l : Lsp) (e : NodeI
             there = is_node (following g) u
 
             taken : ((here && there) && is_some (reported code)) ≡ true
-            taken = both_right (begins_at (previous g)) _ applies
+            taken = both_right (begins_here g) _ applies
 
             first : previous g ≡ None
-            first = begins-is (previous g) (both_left (begins_at (previous g)) _ applies)
+            first = begins-is (previous g) (both_left (begins_here g) _ applies)
 
             by_code : (o : Option Bool) → reported code ≡ o → is_some o ≡ true → Tells at k code
             by_code None told e = absurd (cc e)

@@ -18,7 +18,7 @@ use Rattle.mesh_rules.specs.KnownRows.{known_rows}
 use Rattle.mesh_rules.specs.Pairs.{beside_lsp, guarding, is_two_way, route_from}
 use Rattle.leg_table.specs.States.{legs_state, local_of, state_of}
 use Rattle.leg_table.specs.Tables.{CallTable, LegTable}
-use Rattle.call_control.specs.PairRules.{backup_over, begins_here}
+use Rattle.call_control.specs.PairRules.{backup_begun_here, backup_over}
 use Rattle.call_control.specs.Requests.{BackupRoute, PairRequest}
 use Rattle.call_control.specs.Rules.{asked_here}
 use Rattle.call_control.specs.Searches.{RowsAreKnown}
@@ -51,7 +51,7 @@ pub backup-begins : (t : LegTable) (c : CallTable) (r : PairRequest) (b : Backup
     in_pieces old (asked_here t (backup_over c r.work b.out b.rest b.primary back))
     (pairing r.call (beside_lsp r.work.lsp c.lsp))
     (record { tunnel = c.tunnel; lsp = c.lsp + 1 })
-    ≡ followed_by old (begins_here t c r b)
+    ≡ followed_by old (backup_begun_here t c r b)
 backup-begins t c r b back old known primary back_is =
     let p = local_of t in
     let paired = pairing r.call (beside_lsp r.work.lsp c.lsp) in
@@ -79,7 +79,7 @@ pub backup-begun : (t : LegTable) (c : CallTable) (back : Option ℕ) (old : Ans
     lsp ≡ new.lsp → copied ≡ ri.call → paired ≡ pairing copied lsp →
     called ≡ followed_by asked (changes_calls (call.Put paired ∷ [])) →
     next ≡ record { tunnel = c.tunnel; lsp = c.lsp + 1 } → used ≡ record called { numbers = Some next } →
-    used ≡ followed_by old (begins_here t c r b)
+    used ≡ followed_by old (backup_begun_here t c r b)
 backup-begun t c back old {r} {ri} {b} {bi} {asked} {called} {used} {new} {lsp} {copied} {paired} {next} known primary
     back_is same_r same_b new_is asked_is lsp_is copied_is paired_is called_is next_is used_is =
     used_is

@@ -17,7 +17,7 @@ use Rattle.ason_base.specs.declared.tables.Leg.{Leg}
 use Rattle.ason_base.specs.declared.tables.Out.{Out}
 use Rattle.mesh_rules.specs.CallSteps.{call_contended}
 use Rattle.mesh_rules.specs.Calls.{call_with, is_asking, is_pairing}
-use Rattle.mesh_rules.specs.Changes.{Answer, changed, followed_by, nothing, removes}
+use Rattle.mesh_rules.specs.Changes.{changed, followed_by, nothing, removes}
 use Rattle.mesh_rules.specs.Legs.{with_leg, with_phase, without_leg}
 use Rattle.mesh_rules.specs.LocalNodes.{LocalNode}
 use Rattle.mesh_rules.specs.Messages.{on_message}
@@ -190,12 +190,10 @@ follows before t c u (Notify l e at k code) were =
     (told-follows before c u were.fits l e at k code t took)
 
 -- what is done at the tables after is what the whole rule does at those before
-pub kept-after : (t : LegTable) (c : CallTable) (u : NodeId) (m : Msg) (a : Answer) (s : NodeState) →
-    a ≡ answer_here t c m → s ≡ changed (state_of t c) a → IsKeptAfter t c u m s
-kept-after t c u m a s same state before were =
-    state ∙ ap (changed (state_of t c)) same ∙ sym (follows before t c u m were).state
+pub kept-after : (t : LegTable) (c : CallTable) (u : NodeId) (m : Msg) (s : NodeState) →
+    s ≡ changed (state_of t c) (answer_here t c m) → IsKeptAfter t c u m s
+kept-after t c u m s state before were = state ∙ sym (follows before t c u m were).state
 
-pub sent-after : (t : LegTable) (c : CallTable) (u : NodeId) (m : Msg) (a : Answer) (outs : List Out) →
-    a ≡ answer_here t c m → outs ≡ a.sent → AreSentFor t c u m outs
-sent-after t c u m a outs same sent before were =
-    sent ∙ ap (λ b. b.sent) same ∙ sym (follows before t c u m were).sent
+pub sent-after : (t : LegTable) (c : CallTable) (u : NodeId) (m : Msg) (outs : List Out) →
+    outs ≡ (answer_here t c m).sent → AreSentFor t c u m outs
+sent-after t c u m outs sent before were = sent ∙ sym (follows before t c u m were).sent

@@ -1,20 +1,21 @@
 -- An ingress fits after what becomes of its calls.
-use Rattle.std.proofs.Common.{◌≡◌, ◌≤◌, length, refl, sym, subst, Result, Ok, Err}
-use Rattle.std.specs.Prelude.{OnErr, OnOk, IfOk}
+use Rattle.std.proofs.Common.{◌≡◌, refl, sym, subst, Result, Ok, Err}
+use Rattle.std.specs.Prelude.{OnOk, IfOk}
 use Rattle.std.specs.List.{AllByRecursion}
 use Rattle.ason_base.specs.declared.commands.Command.{Command}
 use Rattle.ason_base.specs.declared.commands.Command.TheVariants.{Setup, Release, Protect, Retry, Revert, Fail, Repair}
 use Rattle.ason_base.specs.declared.commands.DeskItem.{DeskItem}
 use Rattle.ason_base.specs.declared.commands.DeskItem.TheVariants.{Order}
+use Rattle.link_owner.specs.Owners.{OwnerState}
 use Rattle.mesh_rules.specs.Calls.{find_call}
 use Rattle.mesh_rules.specs.Changes.{Answer, changed, nothing}
-use Rattle.mesh_rules.specs.Legs.{legs_changed}
 use Rattle.mesh_rules.specs.LocalNodes.{LocalNode}
 use Rattle.mesh_rules.specs.Orders.{on_item}
 use Rattle.mesh_rules.specs.State.{NodeState}
 use Rattle.mesh_nodes.specs.Kept.{NodeFits}
 use Rattle.mesh_nodes.specs.LocalNodes.{LocalNodeFits}
 use Rattle.mesh_nodes.proofs.Items.{items-fit}
+use Rattle.leg_table.specs.Handled.{CallsFollow, Handed, MayBeCarriedOut}
 use Rattle.leg_table.specs.States.{local_of, state_of}
 use Rattle.leg_table.specs.Tables.{CallTable, LegTable}
 use Rattle.leg_labels.proofs.CallLegs.{Fine}
@@ -33,8 +34,8 @@ pub record Keeps (t : LegTable) (c : CallTable) (a : Answer) : Type 0 where
   pub stays : Stays (local_of t) (state_of t c) a
   pub fine : Fine (local_of t) t.legs a
 
-pub keeps-few : (t : LegTable) (c : CallTable) (a : Answer) → Keeps t c a → length (legs_changed a.legs t.legs) ≤ 4096
-keeps-few t c a keeps = keeps.kept.legs.few
+pub keeps-may : (t : LegTable) (c : CallTable) (a : Answer) → Keeps t c a → MayBeCarriedOut t a
+keeps-may t c a keeps = record { may = keeps.fine.0; marks = keeps.fine.1; few = keeps.kept.legs.few }
 
 pub nothing-keeps : (t : LegTable) (c : CallTable) → IngressFits t c → Keeps t c nothing
 nothing-keeps t c fits = record {
@@ -60,14 +61,13 @@ carried-fits t after c calls a links keeps local known state = record {
 }
 
 -- or after want of memory, where nothing has changed
-pub either-fits : {X E : Type 0} (t after : LegTable) (c calls : CallTable) (a : Answer) (r : Result X E) →
-    IngressFits t c → Keeps t c a → local_of after ≡ local_of t → RowsAreKnown after →
-    OnOk r (state_of after calls ≡ changed (state_of t c) a) → OnErr r (after ≡ t) → OnErr r (calls ≡ c) →
-    IngressFits after calls
-either-fits t after c calls a (Ok x) fits keeps local known state tables same =
-    carried-fits t after c calls a fits.links keeps local known state
-either-fits t after c calls a (Err e) fits keeps local known state tables same =
-    subst (λ s. IngressFits s calls) (sym tables) (subst (IngressFits t) (sym same) fits)
+pub either-fits : (handed : Handed) (t : LegTable) (o : OwnerState) (c : CallTable) (after : LegTable)
+    (claimed : OwnerState) (calls : CallTable) (a : Answer) → IngressFits t c → Keeps t c a →
+    CallsFollow handed t o c after claimed calls a → RowsAreKnown after → IngressFits after calls
+either-fits (Ok outs) t o c after claimed calls a fits keeps done known =
+    carried-fits t after c calls a fits.links keeps done.local known done.ok
+either-fits (Err e) t o c after claimed calls a fits keeps done known =
+    subst (λ s. IngressFits s calls) (sym done.err) (subst (IngressFits t) (sym done.err_calls) fits)
 
 pub on-ok : {X E : Type 0} (P Q : Type 0) (r : Result X E) → (P → Q) → OnOk r P → OnOk r Q
 on-ok P Q (Ok x) f here = f here

@@ -15,7 +15,7 @@ use Rattle.mesh_rules.specs.FirstLegs.{first_back}
 use Rattle.mesh_rules.specs.KnownRows.{known_rows}
 use Rattle.mesh_rules.specs.Legs.{reverse, usable}
 use Rattle.mesh_rules.specs.LocalNodes.{fibre_out, own_link}
-use Rattle.mesh_rules.specs.Pairs.{guarding, is_two_way, route_from}
+use Rattle.mesh_rules.specs.Pairs.{guarding, is_two_way}
 use Rattle.mesh_rules.specs.Paths.{recorded, role_of}
 use Rattle.mesh_nodes.specs.LocalNodes.{LocalNodeFits}
 use Rattle.leg_table.specs.States.{legs_state, local_of, state_of}

@@ -1,5 +1,5 @@
 -- What commands, Resvs, PathErrs and Notifies do to the calls at an ingress of these tables.
-use Rattle.std.specs.Prelude.{◌≡◌, ◌&&◌, ◌||◌, ℕ, Bool, true, false, not, List, Option, Some, None, IsTrue, is_some, if◌then◌else◌}
+use Rattle.std.specs.Prelude.{◌≡◌, ◌&&◌, ◌||◌, ℕ, Bool, true, false, not, List, Option, Some, None, IfSome, IsTrue, is_some, if◌then◌else◌}
 use Rattle.ason_base.specs.Lsps.{is_lsp}
 use Rattle.ason_base.specs.declared.calls.Phase.{Phase}
 use Rattle.ason_base.specs.declared.calls.Role.{Role}
@@ -17,18 +17,18 @@ use Rattle.ason_base.specs.declared.tables.CallRec.{CallRec}
 use Rattle.ason_base.specs.declared.tables.Leg.{Leg}
 use Rattle.ason_base.specs.declared.tables.Out.{Out}
 use Rattle.mesh_rules.specs.declared.arrivals.Arrival.{Arrival}
-use Rattle.mesh_rules.specs.declared.neighbours.Neighbour.{Neighbour}
 use Rattle.mesh_rules.specs.ActivationAnswers.{is_confirmed}
 use Rattle.mesh_rules.specs.Calls.{call_with}
 use Rattle.mesh_rules.specs.Changes.{Answer, changed, nothing}
-use Rattle.mesh_rules.specs.Legs.{find_leg, following, is_armed, is_asked, is_closing, is_in_use, is_node, is_work, previous}
+use Rattle.mesh_rules.specs.Legs.{find_leg, following, is_armed, is_asked, is_closing, is_in_use, is_node, is_work}
 use Rattle.mesh_rules.specs.Messages.{arrival, on_message}
 use Rattle.mesh_rules.specs.Reports.{reported}
 use Rattle.mesh_rules.specs.Resvs.{is_expected}
+use Rattle.mesh_rules.specs.Setups.{SetupRequest}
 use Rattle.mesh_rules.specs.State.{NodeState}
 use Rattle.leg_table.specs.Fits.{legs_after}
 use Rattle.leg_table.specs.States.{legs_state, local_of, state_of}
-use Rattle.leg_table.specs.Tables.{CallTable, LegTable}
+use Rattle.leg_table.specs.Tables.{CallTable, LegTable, begins_here}
 use Rattle.call_control.specs.GoingBack.{going_back, reported_by, turned_by}
 use Rattle.call_control.specs.Ingress.{IngressFits}
 use Rattle.call_control.specs.Rules.{answered_here, contended_here, protect_here, refused_as, release_here, reported_here, retry_here, setup_here, turned_here}
@@ -36,33 +36,29 @@ use Rattle.call_control.specs.Searches.{IsRouteFor, sought_by_protect, sought_by
 
 -- Setups
 
+-- what a setup asks for
+abbrev pub request_of : Command → Option SetupRequest
+request_of (Setup n from to protected both via backup) =
+    Some
+    (record { call = n; from = from; egress = to; protected = protected; both = both; via = via; backup = backup })
+request_of (Release n from) = None
+request_of (Protect n from) = None
+request_of (Retry n from) = None
+request_of (Revert n from) = None
+request_of (Fail g) = None
+request_of (Repair g) = None
+
+abbrev pub set_up_here : LegTable → CallTable → Option SetupRequest → Answer
+set_up_here t c None = nothing
+set_up_here t c (Some w) = setup_here t c w
+
 -- another command does nothing
 abbrev pub setup_answer : LegTable → CallTable → Command → Answer
-setup_answer t c (Setup n from to protected both via backup) =
-    setup_here t c
-    (record { call = n; from = from; egress = to; protected = protected; both = both; via = via; backup = backup })
-setup_answer t c (Release n from) = nothing
-setup_answer t c (Protect n from) = nothing
-setup_answer t c (Retry n from) = nothing
-setup_answer t c (Revert n from) = nothing
-setup_answer t c (Fail g) = nothing
-setup_answer t c (Repair g) = nothing
+setup_answer t c command = set_up_here t c (request_of command)
 
 -- the route is the one that the setup names, where it names one
 abbrev pub IsRouteOf : LegTable → CallTable → Command → Option (List Step) → Type 0
-IsRouteOf t c (Setup n from to protected both via backup) route =
-    IsRouteFor t c
-    (record { call = n; from = from; egress = to; protected = protected; both = both; via = via; backup = backup })
-    route
-IsRouteOf t c (Release n from) route = Unit {0}
-IsRouteOf t c (Protect n from) route = Unit {0}
-IsRouteOf t c (Retry n from) route = Unit {0}
-IsRouteOf t c (Revert n from) route = Unit {0}
-IsRouteOf t c (Fail g) route = Unit {0}
-IsRouteOf t c (Repair g) route = Unit {0}
-
-abbrev pub after_setup : LegTable → CallTable → Command → NodeState
-after_setup t c command = changed (state_of t c) (setup_answer t c command)
+IsRouteOf t c command route = IfSome (request_of command) (λ w. IsRouteFor t c w route)
 
 -- Other commands
 
@@ -85,9 +81,6 @@ sought_by_command t c (Retry n from) = None
 sought_by_command t c (Revert n from) = None
 sought_by_command t c (Fail g) = None
 sought_by_command t c (Repair g) = None
-
-abbrev pub after_command : LegTable → CallTable → Command → NodeState
-after_command t c command = changed (state_of t c) (command_answer t c command)
 
 -- A Resv, a PathErr and a Notify, after what they do to the leg
 
@@ -141,14 +134,10 @@ sought_by_answer t c (Notify l e at k code) = None
 
 -- The tables before
 
-abbrev pub begins_at : Option Neighbour → Bool
-begins_at None = true
-begins_at (Some h) = false
-
 -- the leg gets its labels by the Resv, or is activated by it, and its LSP begins here
 abbrev pub takes_resv : Arrival → ℕ → Option Leg → Bool
 takes_resv a x None = false
-takes_resv a x (Some g) = begins_at (previous g) && (is_expected a x g || is_confirmed a x g)
+takes_resv a x (Some g) = begins_here g && (is_expected a x g || is_confirmed a x g)
 
 -- the PathErr takes the Asked leg away, or makes the Armed one Held
 abbrev pub is_let_go : Bool → Phase → Bool
@@ -158,18 +147,18 @@ is_let_go false q = is_armed q
 -- the leg takes the PathErr, and its LSP begins here
 abbrev pub takes_err : NodeId → Bool → Option Leg → Bool
 takes_err u gone None = false
-takes_err u gone (Some g) = begins_at (previous g) && (is_node (following g) u && is_let_go gone g.phase)
+takes_err u gone (Some g) = begins_here g && (is_node (following g) u && is_let_go gone g.phase)
 
 -- the leg takes the Notify, and its LSP begins here
 abbrev pub takes_notify : NodeId → ErrCode → Option Leg → Bool
 takes_notify u code None = false
 takes_notify u code (Some g) =
-    begins_at (previous g) && ((not (is_closing g.phase) && is_node (following g) u) && is_some (reported code))
+    begins_here g && ((not (is_closing g.phase) && is_node (following g) u) && is_some (reported code))
 
 -- the leg is activated by the Resv, and its LSP begins here
 abbrev pub takes_activation : Arrival → ℕ → Option Leg → Bool
 takes_activation a x None = false
-takes_activation a x (Some g) = begins_at (previous g) && is_confirmed a x g
+takes_activation a x (Some g) = begins_here g && is_confirmed a x g
 
 abbrev pub confirmed_by : CallTable → Arrival → ℕ → Option Leg → Option CallRec
 confirmed_by c a x None = None
@@ -193,7 +182,7 @@ abbrev pub leg_answer : LegTable → NodeId → Msg → Answer
 leg_answer t u m = on_message (local_of t) (legs_state t) u m
 
 -- the rule was for a leg here, and what it does to the legs was carried out on the tables before
-pub record IsCarriedOut (before : LegTable) (is_for : Bool) (a : Answer) (t : LegTable) : Type 0 where
+pub record WasCarriedOut (before : LegTable) (is_for : Bool) (a : Answer) (t : LegTable) : Type 0 where
   pub applies : IsTrue is_for
   pub after : t ≡ legs_after before a
 
@@ -202,14 +191,14 @@ pub record IsCarriedOut (before : LegTable) (is_for : Bool) (a : Answer) (t : Le
 abbrev pub IsAfterLeg : LegTable → NodeId → Msg → LegTable → Type 0
 IsAfterLeg before u (Path l e k route set up r) t = t ≡ before
 IsAfterLeg before u (Resv l e k x) t =
-    IsCarriedOut before (takes_resv (arrival l e u k) x (find_leg l before.legs))
+    WasCarriedOut before (takes_resv (arrival l e u k) x (find_leg l before.legs))
     (leg_answer before u (Resv l e k x)) t
 IsAfterLeg before u (PathTear l e k) t = t ≡ before
 IsAfterLeg before u (PathErr l e at gone code) t =
-    IsCarriedOut before (takes_err u gone (find_leg l before.legs))
+    WasCarriedOut before (takes_err u gone (find_leg l before.legs))
     (leg_answer before u (PathErr l e at gone code)) t
 IsAfterLeg before u (Notify l e at k code) t =
-    IsCarriedOut before (takes_notify u code (find_leg l before.legs)) nothing t
+    WasCarriedOut before (takes_notify u code (find_leg l before.legs)) nothing t
 
 -- before the rule of the message was carried out on the leg, the ingress had these tables, and they fitted
 pub record WereBefore (t : LegTable) (c : CallTable) (u : NodeId) (m : Msg) (before : LegTable) : Type 0 where

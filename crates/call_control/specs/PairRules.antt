@@ -42,14 +42,14 @@ backup_over c w out route primary back = record {
   back = back;
 }
 
-abbrev pub begins_here : LegTable → CallTable → PairRequest → BackupRoute → Answer
-begins_here t c r b = begins_backup (local_of t) (state_of t c) r.call r.work b.out b.rest
+abbrev pub backup_begun_here : LegTable → CallTable → PairRequest → BackupRoute → Answer
+backup_begun_here t c r b = begins_backup (local_of t) (state_of t c) r.call r.work b.out b.rest
 
 -- where a number and room for a leg are left
 abbrev pub labelled_here : LegTable → CallTable → PairRequest → BackupRoute → Answer
 labelled_here t c r b =
     if lacks_first_back (local_of t) (state_of t c) (is_two_way r.work) (guarding (local_of t) r.work) b.out
-    then leaves_bare r.call (Code label_code) else begins_here t c r b
+    then leaves_bare r.call (Code label_code) else backup_begun_here t c r b
 
 abbrev pub admitted_here : LegTable → CallTable → PairRequest → BackupRoute → Answer
 admitted_here t c r b = admitted_backup (local_of t) (state_of t c) r.call r.work b.out b.rest

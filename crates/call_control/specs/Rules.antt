@@ -77,8 +77,8 @@ labelled_here t c w out route =
 abbrev pub admitted_here : LegTable → CallTable → SetupRequest → LinkSpec → List Step → Answer
 admitted_here t c w out route = admitted_setup (local_of t) (state_of t c) w out route
 
-abbrev pub begins_here : LegTable → CallTable → SetupRequest → LinkSpec → List Step → Answer
-begins_here t c w out route = begins (local_of t) (state_of t c) w out route
+abbrev pub begun_here : LegTable → CallTable → SetupRequest → LinkSpec → List Step → Answer
+begun_here t c w out route = begins (local_of t) (state_of t c) w out route
 
 -- Protect
 

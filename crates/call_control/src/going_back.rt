@@ -15,7 +15,7 @@ use crate::call_states::{is_turned, is_turning};
 use crate::reports::{fibre_of, reported};
 use crate::turns::has_any;
 use ason_base::{CallNo, CallRec, ErrCode, Fibre, Fibres, Label, Leg, Lsp, Msg, NodeId};
-use leg_table::one_leg::{following, is_armed, is_closing, is_node, is_over, previous};
+use leg_table::one_leg::{begins_here, following, is_armed, is_closing, is_node, is_over};
 use leg_table::{Calls, NodeTables};
 use mesh_rules::Arrival;
 
@@ -25,7 +25,7 @@ use mesh_rules::Arrival;
 fn takes_activation(arrival: Arrival, label: Label, leg: &Leg) -> bool
     ensures { result ≡ takes_activation arrival label (Some leg.now) }
 {
-    previous(leg).is_none()
+    begins_here(leg)
         && is_armed(leg.phase)
         && is_over(following(leg), arrival.from, arrival.link)
         && leg.out_label == Some(label)
@@ -67,7 +67,7 @@ fn back_by_resv(
 fn takes_notify(from: NodeId, code: ErrCode, leg: &Leg) -> bool
     ensures { result ≡ takes_notify from code (Some leg.now) }
 {
-    previous(leg).is_none()
+    begins_here(leg)
         && !is_closing(leg.phase)
         && is_node(following(leg), from)
         && reported(code).is_some()

@@ -1,15 +1,16 @@
 //! Commands, Resvs, PathErrs and Notifies at an ingress, carried out over its tables, the owner of its
 //! labels, the shares of its backups and its calls.
 
-ghost use Rattle.std.specs.Prelude.{◌≡◌, IfOk, OnErr, OnOk};
+ghost use Rattle.std.specs.Prelude.{◌≡◌, IfOk, OnOk};
 ghost use Rattle.std.specs.Option.{option_copied};
 ghost use Rattle.mesh_rules.specs.Changes.{followed_by};
 ghost use Rattle.mesh_rules.specs.Legs.{find_leg};
 ghost use Rattle.mesh_nodes.specs.LocalNodes.{LocalNodeFits};
+ghost use Rattle.leg_table.specs.Handled.{IsCarriedOut};
 ghost use Rattle.leg_table.specs.LegClaims.{AreOfOneNode};
 ghost use Rattle.leg_table.specs.States.{local_of, state_of};
 ghost use Rattle.leg_table.specs.Tables.{LegTable};
-ghost use Rattle.call_control.specs.Handlers.{AreSentFor, IsKeptAfter, IsRouteOf, WereBefore, after_command, after_setup, answer_here, command_answer, is_activated, resv_here, setup_answer, sought_at, sought_by_answer, sought_by_command};
+ghost use Rattle.call_control.specs.Handlers.{AreSentFor, IsKeptAfter, IsRouteOf, WereBefore, answer_here, command_answer, is_activated, resv_here, setup_answer, sought_at, sought_by_answer, sought_by_command};
 ghost use Rattle.call_control.specs.Ingress.{IngressFits};
 ghost use Rattle.call_control.specs.Searches.{IsBackupFor, RowsAreKnown};
 
@@ -45,33 +46,9 @@ fn setup_change(
     ensures { IfOk result
         (λ c. c ≡ setup_answer parts.now.tables.now parts.now.calls.now command.now) }
 {
-    match command {
-        Command::Setup {
-            call,
-            from,
-            to,
-            protected,
-            both,
-            via,
-            backup,
-        } => {
-            let request = SetupRequest {
-                call: *call,
-                from: *from,
-                egress: *to,
-                protected: *protected,
-                both: *both,
-                via,
-                backup,
-            };
-            set_up(alloc, parts, shares, &request, route)
-        }
-        Command::Release { .. }
-        | Command::Protect { .. }
-        | Command::Retry { .. }
-        | Command::Revert { .. }
-        | Command::Fail { .. }
-        | Command::Repair { .. } => Ok(Change::nothing(alloc)),
+    match SetupRequest::of(command) {
+        None => Ok(Change::nothing(alloc)),
+        Some(request) => set_up(alloc, parts, shares, &request, route),
     }
 }
 
@@ -90,17 +67,10 @@ pub fn setup(
     requires fits { IngressFits tables.old calls.old }
     requires node { AreOfOneNode tables.old owner.old shares.old }
     requires route { IsRouteOf tables.old calls.old command.now (option_copied route) }
-    ensures ok { OnOk result
-        (state_of tables.new calls.new ≡ after_setup tables.old calls.old command.now) }
-    ensures sent { IfOk result
-        (λ outs. outs ≡ (setup_answer tables.old calls.old command.now).sent) }
+    ensures carried { IsCarriedOut result tables.old owner.old shares.old calls.old
+        tables.new owner.new shares.new calls.new
+        (setup_answer tables.old calls.old command.now) }
     ensures fits { IngressFits tables.new calls.new }
-    ensures local { local_of tables.new ≡ local_of tables.old }
-    ensures node { AreOfOneNode tables.new owner.new shares.new }
-    ensures err { OnErr result (tables.new ≡ tables.old) }
-    ensures err_owner { OnErr result (owner.new ≡ owner.old) }
-    ensures err_shares { OnErr result (shares.new ≡ shares.old) }
-    ensures err_calls { OnErr result (calls.new ≡ calls.old) }
 {
     let parts = IngressParts {
         tables,
@@ -159,17 +129,10 @@ pub fn command(
     requires node { AreOfOneNode tables.old owner.old shares.old }
     requires backup { IsBackupFor tables.old
         (sought_by_command tables.old calls.old command.now) (option_copied backup) }
-    ensures ok { OnOk result
-        (state_of tables.new calls.new ≡ after_command tables.old calls.old command.now) }
-    ensures sent { IfOk result
-        (λ outs. outs ≡ (command_answer tables.old calls.old command.now).sent) }
+    ensures carried { IsCarriedOut result tables.old owner.old shares.old calls.old
+        tables.new owner.new shares.new calls.new
+        (command_answer tables.old calls.old command.now) }
     ensures fits { IngressFits tables.new calls.new }
-    ensures local { local_of tables.new ≡ local_of tables.old }
-    ensures node { AreOfOneNode tables.new owner.new shares.new }
-    ensures err { OnErr result (tables.new ≡ tables.old) }
-    ensures err_owner { OnErr result (owner.new ≡ owner.old) }
-    ensures err_shares { OnErr result (shares.new ≡ shares.old) }
-    ensures err_calls { OnErr result (calls.new ≡ calls.old) }
 {
     let parts = IngressParts {
         tables,
@@ -280,16 +243,13 @@ pub fn answer(
     requires node { AreOfOneNode tables.old owner.old shares.old }
     requires backup { IsBackupFor tables.old
         (sought_by_answer tables.old calls.old msg.now) (option_copied backup) }
+    ensures carried { IsCarriedOut result tables.old owner.old shares.old calls.old
+        tables.new owner.new shares.new calls.new
+        (answer_here tables.old calls.old msg.now) }
     ensures ok { OnOk result
         (IsKeptAfter tables.old calls.old from msg.now (state_of tables.new calls.new)) }
     ensures sent { IfOk result (AreSentFor tables.old calls.old from msg.now) }
     ensures fits { OnOk result (IngressFits tables.new calls.new) }
-    ensures local { local_of tables.new ≡ local_of tables.old }
-    ensures node { AreOfOneNode tables.new owner.new shares.new }
-    ensures err { OnErr result (tables.new ≡ tables.old) }
-    ensures err_owner { OnErr result (owner.new ≡ owner.old) }
-    ensures err_shares { OnErr result (shares.new ≡ shares.old) }
-    ensures err_calls { OnErr result (calls.new ≡ calls.old) }
 {
     let _from = from;
     let parts = IngressParts {

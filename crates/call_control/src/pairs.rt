@@ -7,7 +7,7 @@ ghost use Rattle.mesh_rules.specs.Pairs.{is_two_way, leaves_bare, route_from};
 ghost use Rattle.mesh_nodes.specs.LocalNodes.{LocalNodeFits};
 ghost use Rattle.leg_table.specs.LegClaims.{AreOfOneNode};
 ghost use Rattle.leg_table.specs.States.{local_of};
-ghost use Rattle.call_control.specs.PairRules.{IsFoundFor, IsPrimaryOf, admitted_here, backup_over, begins_here, labelled_here, over_here, pair_here};
+ghost use Rattle.call_control.specs.PairRules.{IsFoundFor, IsPrimaryOf, admitted_here, backup_begun_here, backup_over, labelled_here, over_here, pair_here};
 ghost use Rattle.call_control.specs.Rules.{back_here, comes_back};
 ghost use Rattle.call_control.specs.Searches.{RowsAreKnown};
 
@@ -157,7 +157,7 @@ fn begin_backup(
     requires back { back ≡ back_here parts.now.tables.now (is_two_way request.now.work) Back
         route.risks route.out }
     ensures { OnOk result (change.new ≡ followed_by change.old
-        (begins_here parts.now.tables.now parts.now.calls.now request.now route.entry)) }
+        (backup_begun_here parts.now.tables.now parts.now.calls.now request.now route.entry)) }
 {
     let calls = parts.calls;
     let BackupRoute { out, rest, primary } = route;

@@ -7,15 +7,16 @@ ghost use Rattle.mesh_nodes.specs.LocalNodes.{LocalNodeFits};
 ghost use Rattle.ason_base.specs.declared.calls.Role.TheVariants.{Work};
 ghost use Rattle.leg_table.specs.LegClaims.{AreOfOneNode};
 ghost use Rattle.leg_table.specs.States.{local_of, state_of};
-ghost use Rattle.call_control.specs.Rules.{admitted_here, back_here, begins_here, call_here, comes_back, labelled_here, over_here, searched_here, setup_here};
+ghost use Rattle.call_control.specs.Handlers.{request_of};
+ghost use Rattle.call_control.specs.Rules.{admitted_here, back_here, begun_here, comes_back, labelled_here, over_here, searched_here, setup_here};
 ghost use Rattle.call_control.specs.Searches.{IsRouteFor, RowsAreKnown, found_route, seeks_route};
 
 use crate::first_legs::{NewLsp, ask_for, first_back};
 use crate::ingress::{IngressParts, first_link, id_of, is_full};
 use ason_base::codes::LABEL;
 use ason_base::{
-    CallNo, CallRec, CallState, Cause, Copied, Fibres, Label, LinkSpec, Lsp, NodeId, OutOfMemory,
-    PathRole, RiskSet, Role, Steps,
+    CallNo, CallRec, CallState, Cause, Command, Copied, Fibres, Label, LinkSpec, Lsp, NodeId,
+    OutOfMemory, PathRole, RiskSet, Role, Steps,
 };
 use leg_table::{Calls, Change, NodeTables};
 use mesh_rules::NextNumbers;
@@ -52,6 +53,39 @@ impl<'a> Model for SetupRequest<'a> {
       via = r.via.now;
       backup = r.backup.now;
     } };
+}
+
+impl<'a> SetupRequest<'a> {
+    /// What the command asks for, if it is a setup.
+    pub fn of(command: &'a Command) -> Option<SetupRequest<'a>>
+        ensures { result ≡ request_of command.now }
+    {
+        match command {
+            Command::Setup {
+                call,
+                from,
+                to,
+                protected,
+                both,
+                via,
+                backup,
+            } => Some(SetupRequest {
+                call: *call,
+                from: *from,
+                egress: *to,
+                protected: *protected,
+                both: *both,
+                via,
+                backup,
+            }),
+            Command::Release { .. }
+            | Command::Protect { .. }
+            | Command::Retry { .. }
+            | Command::Revert { .. }
+            | Command::Fail { .. }
+            | Command::Repair { .. } => None,
+        }
+    }
 }
 
 fn call_record(
@@ -105,7 +139,7 @@ fn begin(
     requires tunnel { parts.now.calls.now.tunnel ≤ 65535 }
     requires lsp { parts.now.calls.now.lsp ≤ 65535 }
     requires back { back ≡ back_here parts.now.tables.now request.now.both Work [] out.now }
-    ensures { IfOk result (λ c. c ≡ begins_here parts.now.tables.now parts.now.calls.now
+    ensures { IfOk result (λ c. c ≡ begun_here parts.now.tables.now parts.now.calls.now
         request.now out.now route) }
 {
     let next = NextNumbers {

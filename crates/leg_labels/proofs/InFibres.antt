@@ -1,13 +1,11 @@
 -- The fibres by which a node's legs come in, and on which they take what comes back, are its owner's.
-use Rattle.std.proofs.Common.{◌≡◌, Bool, true, false, List, [], ◌∷◌, refl, subst}
-use Rattle.std.specs.Prelude.{◌||◌, ◌&&◌, ◌==◌, Option, Some, IfSome, IsTrue}
-use Rattle.std.specs.List.{list_any}
+use Rattle.std.proofs.Common.{◌≡◌, true, subst}
+use Rattle.std.specs.Prelude.{Option, Some, IfSome, IsTrue}
 use Rattle.ason_base.specs.declared.ids.LinkId.{LinkId}
 use Rattle.ason_base.specs.declared.ids.Lsp.{Lsp}
 use Rattle.ason_base.specs.declared.ids.NodeId.{NodeId}
 use Rattle.ason_base.specs.declared.network.LinkSpec.{LinkSpec}
 use Rattle.ason_base.specs.declared.tables.Leg.{Leg}
-use Rattle.ason_base.specs.Lsps.{same_fibre}
 use Rattle.ason_base.specs.Network.{other_end}
 use Rattle.mesh_rules.specs.declared.neighbours.Neighbour.{Neighbour}
 use Rattle.mesh_rules.specs.Legs.{find_leg, previous, reverse}
@@ -20,22 +18,7 @@ use Rattle.leg_table.specs.Fits.{OwnLegsFit}
 use Rattle.leg_table.specs.LegClaims.{is_fibre_in}
 use Rattle.leg_table.specs.States.{local_of}
 use Rattle.leg_table.specs.Tables.{LegTable}
-use Rattle.leg_table.proofs.OwnFibres.{downstream-fibre_in}
-
-any-right : {X : Type 0} (p q : X → Bool) (xs : List X) → list_any (λ x. p x && q x) xs ≡ true → list_any q xs ≡ true
-any-right p q [] e = e
-any-right p q (x ∷ xs) e = go (p x) (q x) e (any-right p q xs)
-  where
-    go : (a b : Bool) → ((a && b) || list_any (λ y. p y && q y) xs) ≡ true →
-        (list_any (λ y. p y && q y) xs ≡ true → list_any q xs ≡ true) → (b || list_any q xs) ≡ true
-    go a true f later = refl
-    go true false f later = later f
-    go false false f later = later f
-
--- a neighbour's fibre comes in
-pub upstream-fibre_in : (p : LocalNode) (h : Neighbour) → is_upstream p h ≡ true → is_fibre_in p h.fibre ≡ true
-upstream-fibre_in p h e =
-    any-right (λ l. (other_end l p.id).0 == h.node.0) (λ l. same_fibre (fibre_in l p.id) h.fibre) p.own e
+use Rattle.leg_table.proofs.OwnFibres.{downstream-fibre_in, upstream-fibre_in}
 
 if-is : {X : Type 0} (P : X → Type 0) (o : Option X) (x : X) → o ≡ Some x → IfSome o P → P x
 if-is P o x e here = subst (λ y. IfSome y P) e here

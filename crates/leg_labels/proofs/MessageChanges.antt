@@ -36,10 +36,10 @@ use Rattle.mesh_nodes.proofs.LabelPlaces.{at-is, back_in-taken, either, same_fib
 use Rattle.mesh_nodes.proofs.LegList.{found-all}
 use Rattle.mesh_nodes.proofs.Links.{any-found}
 use Rattle.leg_table.specs.LegClaims.{MayBePut, MayTake, OverOwnFibres, TakesNoMore, Took, is_fibre_in, is_own_fibre, takes_of}
-use Rattle.leg_table.proofs.OwnFibres.{over-own}
+use Rattle.leg_table.proofs.OwnFibres.{over-own, upstream-fibre_in}
 use Rattle.leg_labels.proofs.Activated.{contended-calm, path_again-calm, resv_again-calm}
 use Rattle.leg_labels.proofs.CallLegs.{Fine, answered-may, calm-fine, number-absent, put-turns, refused-fine}
-use Rattle.leg_labels.proofs.InFibres.{out-comes_back, upstream-fibre_in}
+use Rattle.leg_labels.proofs.InFibres.{out-comes_back}
 use Rattle.leg_labels.proofs.MayMark.{closed-marks, dark, plain, reserved-plain}
 use Rattle.leg_labels.proofs.MayPut.{back-has, closed-less, connected-less, found-itself, itself, least-has, less-put, met-usable, new-put, one-in, through-has}
 

@@ -1,14 +1,15 @@
 //! Carrying out what a rule changes: the legs with the labels that they take and their marks, the row that is learnt, the
 //! calls and the numbers.
 
-ghost use Rattle.std.specs.Prelude.{◌≡◌, ◌≤◌, ◌<◌, ◌+◌, IfOk, IfSome, None, OnErr, OnOk, Some, length, vec_capacity, vec_len};
+ghost use Rattle.std.specs.Prelude.{◌≡◌, ◌≤◌, ◌<◌, ◌+◌, IfSome, None, OnErr, OnOk, Some, length, vec_capacity, vec_len};
 ghost use Rattle.std.specs.Option.{option_to_list};
 ghost use Rattle.link_owner.specs.Marks.{has_fibre};
-ghost use Rattle.mesh_rules.specs.Changes.{changed, learnt_after};
+ghost use Rattle.mesh_rules.specs.Changes.{learnt_after};
 ghost use Rattle.mesh_rules.specs.declared.changes.LegChange.TheVariants.{Goes, Put};
 ghost use Rattle.mesh_rules.specs.Legs.{find_leg, legs_changed, with_leg, without_leg};
+ghost use Rattle.leg_table.specs.Handled.{IsCarriedOut, MayBeCarriedOut};
 ghost use Rattle.leg_table.specs.LegClaims.{AreOfOneNode, ClaimsFit, LabelsFit, MarksFit, MayAllMark, MayAllStay, MayBeMade, MayMark, MayStay, OwnerFits, SameFibres, SharesStay, is_own_fibre};
-ghost use Rattle.leg_table.specs.States.{local_of, state_of};
+ghost use Rattle.leg_table.specs.States.{local_of};
 ghost use Rattle.leg_table.specs.Tables.{LegsRise};
 ghost use Rattle.leg_labels.specs.LegHolds.{AreLeft, GivesUp, MayGiveUpAll, is_lost};
 
@@ -247,18 +248,9 @@ pub fn carry_out(
     calls: &mut Calls,
 ) -> Result<Outs, OutOfMemory>
     requires node { AreOfOneNode tables.old owner.old shares.old }
-    requires may { MayBeMade (local_of tables.old) tables.old.legs change.legs }
-    requires marks { MayAllMark (is_own_fibre (local_of tables.old)) tables.old.legs change.legs }
-    requires few { length (legs_changed change.legs tables.old.legs) ≤ 4096 }
-    ensures ok { OnOk result
-        (state_of tables.new calls.new ≡ changed (state_of tables.old calls.old) change) }
-    ensures sent { IfOk result (λ outs. outs ≡ change.sent) }
-    ensures err { OnErr result (tables.new ≡ tables.old) }
-    ensures err_owner { OnErr result (owner.new ≡ owner.old) }
-    ensures err_shares { OnErr result (shares.new ≡ shares.old) }
-    ensures err_calls { OnErr result (calls.new ≡ calls.old) }
-    ensures local { local_of tables.new ≡ local_of tables.old }
-    ensures node { AreOfOneNode tables.new owner.new shares.new }
+    requires may { MayBeCarriedOut tables.old change }
+    ensures { IsCarriedOut result tables.old owner.old shares.old calls.old
+        tables.new owner.new shares.new calls.new change }
 {
     let Change {
         legs,

@@ -1,10 +1,7 @@
 //! Carrying out what a rule does to the legs of a node alone, or to legs that keep their labels and to calls.
 
-ghost use Rattle.std.specs.Prelude.{◌≡◌, [], IfOk, None, OnErr, OnOk};
-ghost use Rattle.mesh_rules.specs.Changes.{changed};
-ghost use Rattle.leg_table.specs.Fits.{OwnLegsFit, TablesFit, TablesFitOwner, legs_after};
-ghost use Rattle.leg_table.specs.LegClaims.{MayAllMark, MayAllStay, MayBeMade, SharesStay, is_own_fibre};
-ghost use Rattle.leg_table.specs.States.{local_of, state_of};
+ghost use Rattle.leg_table.specs.Fits.{TablesFit, TablesFitOwner};
+ghost use Rattle.leg_table.specs.Handled.{IsCarriedOutKept, IsHandled, IsHandledKept, MayBeCarriedOutKept, MayBeHandled, MayBeHandledKept};
 
 use crate::carrying::{carry_out_kept, carry_out_tables};
 use ason_base::{OutOfMemory, Outs};
@@ -23,22 +20,15 @@ pub fn handle(
     change: Change,
 ) -> Result<Outs, OutOfMemory>
     requires fits { TablesFit tables.old owner.old shares.old }
-    requires may { MayBeMade (local_of tables.old) tables.old.legs change.legs }
-    requires marks { MayAllMark (is_own_fibre (local_of tables.old)) tables.old.legs change.legs }
-    requires legs { OwnLegsFit (legs_after tables.old change) }
-    ensures ok { OnOk result (tables.new ≡ legs_after tables.old change) }
-    ensures sent { IfOk result (λ outs. outs ≡ change.sent) }
-    ensures none { change.legs ≡ [] → owner.new ≡ owner.old }
-    ensures none_shares { change.legs ≡ [] → shares.new ≡ shares.old }
-    ensures fits { TablesFit tables.new owner.new shares.new }
-    ensures err { OnErr result (tables.new ≡ tables.old) }
-    ensures err_owner { OnErr result (owner.new ≡ owner.old) }
-    ensures err_shares { OnErr result (shares.new ≡ shares.old) }
+    requires may { MayBeHandled tables.old change }
+    ensures { IsHandled result tables.old owner.old shares.old tables.new owner.new shares.new
+        change }
 {
     let Change { legs, sent, .. } = change;
-    if !legs.is_empty() {
-        carry_out_tables(alloc, tables, owner, shares, legs, None)?;
+    if legs.is_empty() {
+        return Ok(sent);
     }
+    carry_out_tables(alloc, tables, owner, shares, legs, None)?;
     Ok(sent)
 }
 
@@ -51,21 +41,14 @@ pub fn handle_kept(
     change: Change,
 ) -> Result<Outs, OutOfMemory>
     requires fits { TablesFitOwner tables.old owner.old }
-    requires may { MayAllStay tables.old.legs change.legs }
-    requires marks { MayAllMark (is_own_fibre (local_of tables.old)) tables.old.legs change.legs }
-    requires legs { OwnLegsFit (legs_after tables.old change) }
-    ensures ok { OnOk result (tables.new ≡ legs_after tables.old change) }
-    ensures sent { IfOk result (λ outs. outs ≡ change.sent) }
-    ensures none { change.legs ≡ [] → owner.new ≡ owner.old }
-    ensures fits { TablesFitOwner tables.new owner.new }
-    ensures shares { SharesStay tables.old owner.old tables.new owner.new }
-    ensures err { OnErr result (tables.new ≡ tables.old) }
-    ensures err_owner { OnErr result (owner.new ≡ owner.old) }
+    requires may { MayBeHandledKept tables.old change }
+    ensures { IsHandledKept result tables.old owner.old tables.new owner.new change }
 {
     let Change { legs, sent, .. } = change;
-    if !legs.is_empty() {
-        carry_out_kept(tables, owner, legs)?;
+    if legs.is_empty() {
+        return Ok(sent);
     }
+    carry_out_kept(tables, owner, legs)?;
     Ok(sent)
 }
 
@@ -79,21 +62,9 @@ pub fn handle_kept_calls(
     change: Change,
 ) -> Result<Outs, OutOfMemory>
     requires fits { TablesFitOwner tables.old owner.old }
-    requires may { MayAllStay tables.old.legs change.legs }
-    requires marks { MayAllMark (is_own_fibre (local_of tables.old)) tables.old.legs change.legs }
-    requires legs { OwnLegsFit (legs_after tables.old change) }
-    requires no_row { change.rows ≡ [] }
-    requires no_down { change.down ≡ None }
-    ensures ok { OnOk result
-        (state_of tables.new calls.new ≡ changed (state_of tables.old calls.old) change) }
-    ensures sent { IfOk result (λ outs. outs ≡ change.sent) }
-    ensures local { local_of tables.new ≡ local_of tables.old }
-    ensures rows { tables.new.rows ≡ tables.old.rows }
-    ensures fits { TablesFitOwner tables.new owner.new }
-    ensures shares { SharesStay tables.old owner.old tables.new owner.new }
-    ensures err { OnErr result (tables.new ≡ tables.old) }
-    ensures err_owner { OnErr result (owner.new ≡ owner.old) }
-    ensures err_calls { OnErr result (calls.new ≡ calls.old) }
+    requires may { MayBeCarriedOutKept tables.old change }
+    ensures { IsCarriedOutKept result tables.old owner.old calls.old
+        tables.new owner.new calls.new change }
 {
     let Change {
         legs,

@@ -35,13 +35,21 @@ second : (a b : Bool) → (a && b) ≡ true → b ≡ true
 second true b e = e
 second false b e = absurd (cc e)
 
+-- where some item passes both tests, some item passes the second
+any-right : {X : Type 0} (p q : X → Bool) (xs : List X) → list_any (λ x. p x && q x) xs ≡ true → list_any q xs ≡ true
+any-right p q [] e = e
+any-right p q (x ∷ xs) e = go (p x) (q x) e (any-right p q xs)
+  where
+    go : (a b : Bool) → ((a && b) || list_any (λ y. p y && q y) xs) ≡ true →
+        (list_any (λ y. p y && q y) xs ≡ true → list_any q xs ≡ true) → (b || list_any q xs) ≡ true
+    go a true f later = refl
+    go true false f later = later f
+    go false false f later = later f
+
 -- a neighbour's fibre comes in
-pub upstream-fibre_in : (p : LocalNode) (h : Neighbour) → LocalNodeFits p → is_upstream p h ≡ true →
-    is_fibre_in p h.fibre ≡ true
-upstream-fibre_in p h links e =
-    any-then (IsOwnLink p.id) (λ l. nat_eq (other_end l p.id).0 h.node.0 && same_fibre (fibre_in l p.id) h.fibre)
-    (λ l. same_fibre (fibre_in l p.id) h.fibre) p.own links
-    (λ l own k. second (nat_eq (other_end l p.id).0 h.node.0) _ k) e
+pub upstream-fibre_in : (p : LocalNode) (h : Neighbour) → is_upstream p h ≡ true → is_fibre_in p h.fibre ≡ true
+upstream-fibre_in p h e =
+    any-right (λ l. nat_eq (other_end l p.id).0 h.node.0) (λ l. same_fibre (fibre_in l p.id) h.fibre) p.own e
 
 -- of the two ends of a node's own link just one is the node
 one-end : (n : NodeId) (l : LinkSpec) → IsOwnLink n l → nat_eq l.low.0 n.0 ≡ not (nat_eq l.high.0 n.0)
@@ -109,7 +117,7 @@ module _ (p : LocalNode) (next : ℕ) (g : Leg) (links : LocalNodeFits p) (fits 
   comes : (f : Fibre) → g.in_fibre ≡ Some f → is_fibre_in p f ≡ true
   comes f is =
       over-some (λ h. IsTrue (is_upstream p h)) (λ k. is_fibre_in p k ≡ true) g.prev g.in_fibre f fits.in_fibre
-      fits.upstream (λ h up. upstream-fibre_in p h links up) is
+      fits.upstream (λ h up. upstream-fibre_in p h up) is
 
   leaves : (f : Fibre) → g.out_fibre ≡ Some f → is_fibre_in p (reverse f) ≡ true
   leaves f is =

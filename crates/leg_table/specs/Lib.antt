@@ -1,6 +1,7 @@
 pub mod CallLists
 pub mod Edits
 pub mod Fits
+pub mod Handled
 pub mod Keyed
 pub mod LegClaims
 pub mod LspIndexes

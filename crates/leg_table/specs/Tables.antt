@@ -1,5 +1,5 @@
 -- What a node keeps in its tables.
-use Rattle.std.specs.Prelude.{ℕ, ◌≡◌, ◌<◌, length, ◌==◌, ◌++◌, nat_lt, Bool, true, false, List, [], ◌∷◌, find, filter, map, Option, Some, None, if◌then◌else◌}
+use Rattle.std.specs.Prelude.{ℕ, ◌≡◌, ◌<◌, length, ◌==◌, ◌++◌, nat_lt, Bool, true, false, List, [], ◌∷◌, find, filter, map, Option, Some, None, IsTrue, is_some, not, if◌then◌else◌}
 use Rattle.ason_base.specs.declared.ids.CallNo.{CallNo}
 use Rattle.ason_base.specs.declared.ids.Fibre.{Fibre}
 use Rattle.ason_base.specs.declared.ids.LinkId.{LinkId}
@@ -20,6 +20,7 @@ use Rattle.leg_table.specs.declared.tables.PutFault.{PutFault}
 use Rattle.leg_table.specs.declared.tables.PutFault.TheVariants.{Full, OutOfMemory}
 use Rattle.ason_base.specs.Lsps.{is_lsp, lsp_before, same_lsp, without_fibre}
 use Rattle.mesh_rules.specs.KnownRows.{has_row}
+use Rattle.mesh_rules.specs.Legs.{previous}
 use Rattle.mesh_rules.specs.Reports.{with_fibre}
 
 -- a node's own links, the links that it knows, the fibres that it knows to be down, and its legs in order of LSP
@@ -49,6 +50,10 @@ LegsRise legs = RisesBy (λ g h. lsp_before g.lsp h.lsp) legs
 
 abbrev pub is_of_lsp : Lsp → Leg → Bool
 is_of_lsp l g = same_lsp g.lsp l
+
+-- its LSP begins here: it has no previous node
+abbrev pub begins_here : Leg → Bool
+begins_here g = not (is_some (previous g))
 
 -- the leg of this LSP changed, all others as they were
 abbrev pub leg_changed : Lsp → (Leg → Leg) → List Leg → List Leg

@@ -2,6 +2,7 @@
 
 ghost use Rattle.std.specs.Prelude.{◌≡◌, IfOk};
 ghost use Rattle.mesh_rules.specs.Legs.{closed, closing_phase, connected, following, is_armed, is_asked, is_beyond_asked, is_closing, is_held, is_in_use, is_node, is_over, is_work, neighbour_over, previous, reserved, with_phase};
+ghost use Rattle.leg_table.specs.Tables.{begins_here};
 
 use ason_base::{Copied, Fibre, Label, Leg, LinkId, NodeId, OutOfMemory, Phase, Role};
 use mesh_rules::Neighbour;
@@ -78,6 +79,13 @@ pub fn previous(leg: &Leg) -> Option<Neighbour>
     ensures { result ≡ previous leg.now }
 {
     neighbour_over(leg.prev, leg.in_fibre)
+}
+
+/// Whether the LSP begins here: the leg has no previous node.
+pub fn begins_here(leg: &Leg) -> bool
+    ensures { result ≡ begins_here leg.now }
+{
+    previous(leg).is_none()
 }
 
 /// The node after, and the fibre that leads to it; none at the egress.

@@ -1,6 +1,6 @@
 -- A node's answer to any input fits, and so does the node after it.
-use Rattle.std.proofs.Common.{◌≡◌, ◌≤◌, ◌∙◌, List, [], length, ap, sym, subst, Result, Ok, Err, arith}
-use Rattle.std.specs.Prelude.{OnErr, OnOk}
+use Rattle.std.proofs.Common.{◌≡◌, ◌≤◌, ◌∙◌, List, [], length, ap, sym, subst, Ok, Err, arith}
+use Rattle.std.specs.Prelude.{OnErr}
 use Rattle.ason_base.specs.Network.{IsTopology, Network}
 use Rattle.ason_base.specs.declared.ids.NodeId.{NodeId}
 use Rattle.link_owner.specs.Owners.{OwnerState, unowned}
@@ -8,6 +8,7 @@ use Rattle.share_check.specs.Guards.{Guard}
 use Rattle.mesh_rules.specs.LocalNodes.{local_node}
 use Rattle.mesh_nodes.proofs.NewNodes.{new-fits}
 use Rattle.leg_table.specs.Fits.{TablesFit}
+use Rattle.leg_table.specs.Handled.{CallsFollow, Handed, MayBeCarriedOut}
 use Rattle.leg_table.specs.LegClaims.{AreOfOneNode}
 use Rattle.leg_table.specs.States.{local_of, no_call, state_of}
 use Rattle.leg_table.specs.Tables.{CallTable, LegTable, new_table}
@@ -63,10 +64,16 @@ answered-fits n a fits (i, may, is) = record {
   rows = subst (λ b. RowsFit n.place (changed n.state b)) (sym is) (rows-fit n i fits may);
 }
 
--- the legs that it changes may be changed so
-pub answered-may : (n : NodeView) (a : Answer) → IsNode n → IsAnswerOf n a → Fine n.place n.state.legs a
-answered-may n a fits (i, may, is) = subst (Fine n.place n.state.legs) (sym is) (by_input i)
+-- it may be carried out
+pub answered-may : (t : LegTable) (c : CallTable) (a : Answer) → IsNode (node_of t c) → IsAnswerOf (node_of t c) a →
+    MayBeCarriedOut t a
+answered-may t c a fits (i, may, is) =
+    let fine = subst (Fine n.place n.state.legs) (sym is) (by_input i) in
+    record { may = fine.0; marks = fine.1; few = (answered-fits n a fits (i, may, is)).state.legs.few }
   where
+    n : NodeView
+    n = node_of t c
+
     by_input : (i : Input) → Fine n.place n.state.legs (answer_to n i)
     by_input (Message u m) =
         message-may n.place n.state u m fits.place fits.state.legs.each
@@ -77,19 +84,23 @@ answered-may n a fits (i, may, is) = subst (Fine n.place n.state.legs) (sym is) 
         if_cases (Fine n.place n.state.legs) (has_row (known_rows n.place n.state) row.link) nothing (learns row)
         (λ known. (tt, tt)) (λ none. (tt, tt))
 
+-- after want of memory the node is as it was
+pub unchanged : (handed : Handed) (t : LegTable) (o : OwnerState) (c : CallTable) (after : LegTable)
+    (claimed : OwnerState) (calls : CallTable) (a : Answer) → CallsFollow handed t o c after claimed calls a →
+    OnErr handed (node_of after calls ≡ node_of t c)
+unchanged (Ok outs) t o c after claimed calls a done = tt
+unchanged (Err e) t o c after claimed calls a done = λ i. node_of (done.err i) (done.err_calls i)
+
 -- it is carried out, or the node is as it was
-pub carried-fits : {X E : Type 0} (t after : LegTable) (c calls : CallTable) (a : Answer) (r : Result X E) →
-    IsNode (node_of t c) →
-    IsAnswerOf (node_of t c) a → local_of after ≡ local_of t →
-    OnOk r (state_of after calls ≡ changed (state_of t c) a) →
-    OnErr r (after ≡ t) → OnErr r (calls ≡ c) → IsNode (node_of after calls)
-carried-fits t after c calls a (Ok x) fits of place done tables same =
+pub carried-fits : (handed : Handed) (t : LegTable) (o : OwnerState) (c : CallTable) (after : LegTable)
+    (claimed : OwnerState) (calls : CallTable) (a : Answer) → IsNode (node_of t c) → IsAnswerOf (node_of t c) a →
+    CallsFollow handed t o c after claimed calls a → IsNode (node_of after calls)
+carried-fits (Ok outs) t o c after claimed calls a fits of done =
     let is : node_of after calls ≡ record { place = local_of t; state = changed (state_of t c) a } =
-    λ i. record { place = place i; state = done i } in
+    λ i. record { place = done.local i; state = done.ok i } in
     subst IsNode (sym is) (answered-fits (node_of t c) a fits of)
-carried-fits t after c calls a (Err e) fits of place done tables same =
-    let is : node_of after calls ≡ node_of t c = λ i. node_of (tables i) (same i) in
-    subst IsNode (sym is) fits
+carried-fits (Err e) t o c after claimed calls a fits of done =
+    subst IsNode (sym (unchanged (Err e) t o c after claimed calls a done)) fits
 
 -- Tables, owner and shares
 

@@ -27,7 +27,7 @@ use Rattle.mesh_nodes.proofs.LegList.{found-lsp}
 use Rattle.leg_table.specs.States.{legs_state, local_of, state_of}
 use Rattle.leg_table.specs.Tables.{CallTable, LegTable}
 use Rattle.activation.specs.Answers.{carries_leg, connected_here}
-use Rattle.resv_state.specs.Answers.{begins_here, connects_leg, err_taken, refuses_leg, resv_taken}
+use Rattle.resv_state.specs.Answers.{connects_leg, err_taken, refuses_leg, resv_taken}
 use Rattle.call_control.specs.Rules as call
 use Rattle.node_core.specs.Followed.{followed_if, removal_followed, resv_at, resv_followed}
 
@@ -62,7 +62,7 @@ module _ (t : LegTable) (c : CallTable) where
           ≡ cond r
           (followed_if ((r && z) && not (is_some o)) (cond (r && z) (confirmed new_node g o) nothing)
           (call.turned_here t c (with_phase Live g)))
-          (followed_if ((e && y) && begins_here o)
+          (followed_if ((e && y) && not (is_some o))
           (cond (e && y) (answered (local_of t) (legs_state t) a x g o) nothing)
           (call.answered_here t c (connected g None x)))
       go true y true z o not_both = absurd (cc (not_both refl))
@@ -91,7 +91,7 @@ module _ (t : LegTable) (c : CallTable) where
 
       go : (r : Bool) → r ≡ true → (b d : Bool) (o : Option Neighbour) →
           cond b (cond r (taken (state_of t c) d o) (contended (state_of t c) g e.msg)) nothing
-          ≡ followed_if ((r && b) && (d && begins_here o)) (cond (r && b) (taken new_node d o) nothing)
+          ≡ followed_if ((r && b) && (d && not (is_some o))) (cond (r && b) (taken new_node d o) nothing)
           (call_refused e.code g (call_with e.lsp c.calls))
       go false is b d o = absurd (cc is)
       go true is false d o = refl

@@ -1,15 +1,11 @@
 //! The rule of each input: orders and other items of the desk, ticks and rows that are learnt; a message's is in `messages`.
 
-ghost use Rattle.std.specs.Prelude.{◌≡◌, IfOk, OnOk};
-ghost use Rattle.std.specs.Option.{option_copied};
-ghost use Rattle.mesh_rules.specs.Changes.{followed_by};
-ghost use Rattle.mesh_nodes.specs.Routes.{AreSearchable};
+ghost use Rattle.std.specs.Prelude.{◌≡◌, IfOk};
 ghost use Rattle.leg_table.specs.Fits.{TablesFit};
-ghost use Rattle.call_control.specs.Rules.{answered_here, protect_here, setup_here};
-ghost use Rattle.call_control.specs.Searches.{IsBackupFor};
+ghost use Rattle.call_control.specs.Rules.{protect_here, setup_here};
 ghost use Rattle.node_rules.specs.Nodes.{answer_to};
 ghost use Rattle.node_core.specs.Nodes.{node_of};
-ghost use Rattle.node_core.specs.Rules.{CanSearch, item_here, message_here, order_here, row_here};
+ghost use Rattle.node_core.specs.Rules.{CanSearch, item_here, order_here, row_here};
 
 use crate::messages::on_message;
 use crate::routes::{backup_beside, least_route};
@@ -108,26 +104,10 @@ fn on_order(alloc: Global, parts: &NodeParts<'_>, command: &Command) -> Result<C
     let tables = parts.tables;
     let calls = parts.calls;
     match command {
-        Command::Setup {
-            call,
-            from,
-            to,
-            protected,
-            both,
-            via,
-            backup,
-        } => {
-            let request = SetupRequest {
-                call: *call,
-                from: *from,
-                egress: *to,
-                protected: *protected,
-                both: *both,
-                via,
-                backup,
-            };
-            on_setup(alloc, parts, &request)
-        }
+        Command::Setup { .. } => match SetupRequest::of(command) {
+            None => Ok(Change::nothing(alloc)),
+            Some(request) => on_setup(alloc, parts, &request),
+        },
         Command::Release { call, from } => release(alloc, tables, calls, *call, *from),
         Command::Protect { call, from } => on_protect(alloc, parts, *call, *from),
         Command::Retry { call, from } => retry(alloc, &ingress_of(parts), *call, *from),

@@ -9,12 +9,12 @@ use Rattle.ason_base.specs.declared.messages.Msg.TheVariants.{Path, Resv, PathTe
 use Rattle.ason_base.specs.declared.tables.Leg.{Leg}
 use Rattle.mesh_rules.specs.declared.neighbours.Neighbour.{Neighbour}
 use Rattle.mesh_rules.specs.Alarms.{on_alarm, on_clear}
-use Rattle.mesh_rules.specs.Changes.{Answer, down_after, nothing, sends, to_node}
+use Rattle.mesh_rules.specs.Changes.{Answer, nothing, sends, to_node}
 use Rattle.mesh_rules.specs.Legs.{find_leg, following, is_closing, is_node, previous}
 use Rattle.mesh_rules.specs.Notifies.{on_notify}
 use Rattle.mesh_rules.specs.Reports.{reported}
 use Rattle.leg_table.specs.States.{legs_state, local_of}
-use Rattle.leg_table.specs.Tables.{LegTable}
+use Rattle.leg_table.specs.Tables.{LegTable, begins_here}
 
 -- Alarms and clears
 
@@ -41,10 +41,6 @@ passed_back g m = passed_to m (previous g)
 abbrev pub passed_here : NodeId → ErrCode → Msg → Option Leg → Answer
 passed_here u code m None = nothing
 passed_here u code m (Some g) = if takes_notify u code g then passed_back g m else nothing
-
--- the LSP begins here
-abbrev pub begins_here : Leg → Bool
-begins_here g = not (is_some (previous g))
 
 -- the leg takes the Notify, and its LSP begins here
 abbrev pub reports_leg : NodeId → ErrCode → Option Leg → Bool
@@ -77,11 +73,3 @@ pass_answer t u (Notify l e at k code) =
       link = k;
       code = code;
     })
-
--- The tables after it
-
-abbrev pub after_alarm : LegTable → Fibre → LegTable
-after_alarm t f = record t { down = down_after (alarm_answer t f).down t.down }
-
-abbrev pub after_clear : LegTable → Fibre → LegTable
-after_clear t f = record t { down = down_after (clear_answer t f).down t.down }

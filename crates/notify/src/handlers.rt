@@ -1,8 +1,8 @@
 //! Alarms, clears and Notifies carried out over a node's tables.
 
-ghost use Rattle.std.specs.Prelude.{◌≡◌, IfOk, OnErr, OnOk};
-ghost use Rattle.leg_table.specs.LegClaims.{StaysOfOneNode};
-ghost use Rattle.notify.specs.Answers.{after_alarm, after_clear, alarm_answer, clear_answer, pass_answer};
+ghost use Rattle.std.specs.Prelude.{◌≡◌};
+ghost use Rattle.leg_table.specs.Handled.{AreFibresHandled};
+ghost use Rattle.notify.specs.Answers.{alarm_answer, clear_answer, pass_answer};
 
 use crate::alarms::{alarm_change, clear_change};
 use crate::notifies::pass_change;
@@ -16,10 +16,7 @@ use std::alloc::Global;
 /// a fibre that doesn't come in here, or that is known to be down, changes nothing. After want of
 /// memory nothing has changed.
 pub fn alarm(alloc: Global, tables: &mut NodeTables, f: Fibre) -> Result<Outs, OutOfMemory>
-    ensures ok { OnOk result (tables.new ≡ after_alarm tables.old f) }
-    ensures sent { IfOk result (λ outs. outs ≡ (alarm_answer tables.old f).sent) }
-    ensures node { StaysOfOneNode tables.old tables.new }
-    ensures err { OnErr result (tables.new ≡ tables.old) }
+    ensures { AreFibresHandled result tables.old tables.new (alarm_answer tables.old f) }
 {
     let change = alarm_change(alloc, tables, f)?;
     Ok(handle_fibres(tables, change))
@@ -29,10 +26,7 @@ pub fn alarm(alloc: Global, tables: &mut NodeTables, f: Fibre) -> Result<Outs, O
 /// told, in order of LSP. Hands back what is to be sent, in order. A clear of a fibre that isn't
 /// known to be down changes nothing. After want of memory nothing has changed.
 pub fn clear(alloc: Global, tables: &mut NodeTables, f: Fibre) -> Result<Outs, OutOfMemory>
-    ensures ok { OnOk result (tables.new ≡ after_clear tables.old f) }
-    ensures sent { IfOk result (λ outs. outs ≡ (clear_answer tables.old f).sent) }
-    ensures node { StaysOfOneNode tables.old tables.new }
-    ensures err { OnErr result (tables.new ≡ tables.old) }
+    ensures { AreFibresHandled result tables.old tables.new (clear_answer tables.old f) }
 {
     let change = clear_change(alloc, tables, f)?;
     Ok(handle_fibres(tables, change))
@@ -47,8 +41,9 @@ pub fn pass(
     from: NodeId,
     msg: &Msg,
 ) -> Result<Outs, OutOfMemory>
-    ensures tables { tables.new ≡ tables.old }
-    ensures sent { IfOk result (λ outs. outs ≡ (pass_answer tables.old from msg.now).sent) }
+    ensures handled { AreFibresHandled result tables.old tables.new
+        (pass_answer tables.old from msg.now) }
+    ensures same { tables.new ≡ tables.old }
 {
     let change = pass_change(alloc, tables, from, msg)?;
     Ok(handle_fibres(tables, change))

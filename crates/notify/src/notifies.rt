@@ -2,12 +2,11 @@
 
 ghost use Rattle.std.specs.Prelude.{◌≡◌, IfOk};
 ghost use Rattle.mesh_rules.specs.Legs.{find_leg};
-ghost use Rattle.mesh_rules.specs.Reports.{reported};
-ghost use Rattle.notify.specs.Answers.{begins_here, pass_answer, passed_back, passed_here, reports, reports_leg, takes_notify};
+ghost use Rattle.notify.specs.Answers.{pass_answer, passed_back, passed_here, reports, reports_leg, takes_notify};
 
 use ason_base::codes::{FIBRE_DOWN, FIBRE_UP};
 use ason_base::{Copied, ErrCode, Leg, Lsp, Msg, NodeId, OutOfMemory};
-use leg_table::one_leg::{following, is_closing, is_node, previous};
+use leg_table::one_leg::{begins_here, following, is_closing, is_node, previous};
 use leg_table::{Change, NodeTables};
 use std::alloc::Global;
 
@@ -53,7 +52,7 @@ fn reports_leg(tables: &NodeTables, from: NodeId, lsp: Lsp, code: ErrCode) -> bo
 {
     match tables.get(&lsp) {
         None => false,
-        Some(leg) => takes_notify(from, code, leg) && previous(leg).is_none(),
+        Some(leg) => takes_notify(from, code, leg) && begins_here(leg),
     }
 }
 

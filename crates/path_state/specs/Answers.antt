@@ -24,7 +24,6 @@ use Rattle.mesh_rules.specs.KnownRows.{known_rows}
 use Rattle.mesh_rules.specs.Legs.{find_leg, reverse}
 use Rattle.mesh_rules.specs.LocalNodes.{fibre_in, fibre_out, own_link}
 use Rattle.mesh_rules.specs.Tears.{on_tear}
-use Rattle.leg_table.specs.Fits.{legs_after}
 use Rattle.leg_table.specs.LegClaims.{is_fibre_in}
 use Rattle.leg_table.specs.States.{legs_state, local_of}
 use Rattle.leg_table.specs.Tables.{LegTable}
@@ -150,11 +149,3 @@ tear_answer t u (Resv l e k x) = nothing
 tear_answer t u (PathTear l e k) = on_tear (local_of t) (legs_state t) (arrival l e u k)
 tear_answer t u (PathErr l e at gone code) = nothing
 tear_answer t u (Notify l e at k code) = nothing
-
--- The tables after it
-
-abbrev pub after_path : LegTable → NodeId → Msg → LegTable
-after_path t u m = legs_after t (path_answer t u m)
-
-abbrev pub after_tear : LegTable → NodeId → Msg → LegTable
-after_tear t u m = legs_after t (tear_answer t u m)

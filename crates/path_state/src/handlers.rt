@@ -1,8 +1,8 @@
 //! A Path and a PathTear carried out over a node's tables, owner and shares.
 
-ghost use Rattle.std.specs.Prelude.{◌≡◌, [], IfOk, OnErr, OnOk};
 ghost use Rattle.leg_table.specs.Fits.{TablesFit};
-ghost use Rattle.path_state.specs.Answers.{after_path, after_tear, path_answer, tear_answer};
+ghost use Rattle.leg_table.specs.Handled.{IsHandled};
+ghost use Rattle.path_state.specs.Answers.{path_answer, tear_answer};
 
 use crate::paths::path_change;
 use crate::tears::tear_change;
@@ -26,15 +26,8 @@ pub fn path(
     msg: &Msg,
 ) -> Result<Outs, OutOfMemory>
     requires { TablesFit tables.old owner.old shares.old }
-    ensures ok { OnOk result (tables.new ≡ after_path tables.old from msg.now) }
-    ensures sent { IfOk result (λ outs. outs ≡ (path_answer tables.old from msg.now).sent) }
-    ensures none { (path_answer tables.old from msg.now).legs ≡ [] → owner.new ≡ owner.old }
-    ensures none_shares { (path_answer tables.old from msg.now).legs ≡ [] →
-        shares.new ≡ shares.old }
-    ensures fits { TablesFit tables.new owner.new shares.new }
-    ensures err { OnErr result (tables.new ≡ tables.old) }
-    ensures err_owner { OnErr result (owner.new ≡ owner.old) }
-    ensures err_shares { OnErr result (shares.new ≡ shares.old) }
+    ensures { IsHandled result tables.old owner.old shares.old tables.new owner.new shares.new
+        (path_answer tables.old from msg.now) }
 {
     let change = path_change(alloc, tables, owner, shares, from, msg)?;
     handle(alloc, tables, owner, shares, change)
@@ -52,15 +45,8 @@ pub fn tear(
     msg: &Msg,
 ) -> Result<Outs, OutOfMemory>
     requires { TablesFit tables.old owner.old shares.old }
-    ensures ok { OnOk result (tables.new ≡ after_tear tables.old from msg.now) }
-    ensures sent { IfOk result (λ outs. outs ≡ (tear_answer tables.old from msg.now).sent) }
-    ensures none { (tear_answer tables.old from msg.now).legs ≡ [] → owner.new ≡ owner.old }
-    ensures none_shares { (tear_answer tables.old from msg.now).legs ≡ [] →
-        shares.new ≡ shares.old }
-    ensures fits { TablesFit tables.new owner.new shares.new }
-    ensures err { OnErr result (tables.new ≡ tables.old) }
-    ensures err_owner { OnErr result (owner.new ≡ owner.old) }
-    ensures err_shares { OnErr result (shares.new ≡ shares.old) }
+    ensures { IsHandled result tables.old owner.old shares.old tables.new owner.new shares.new
+        (tear_answer tables.old from msg.now) }
 {
     let change = tear_change(alloc, tables, from, msg)?;
     handle(alloc, tables, owner, shares, change)

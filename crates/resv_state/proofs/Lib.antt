@@ -1,3 +1,2 @@
 pub mod ByLegs
-pub mod KeptLegs
 pub mod MayResvs

@@ -1,6 +1,6 @@
 -- What a Resv that a leg waits for, and a PathErr with Path_State_Removed, do to the leg at a node of these tables.
 -- What becomes of the call at the ingress isn't told here: it's as at a node without calls.
-use Rattle.std.specs.Prelude.{ℕ, ◌&&◌, Bool, true, false, List, Option, Some, None, if◌then◌else◌}
+use Rattle.std.specs.Prelude.{ℕ, ◌&&◌, Bool, false, List, Option, Some, None, if◌then◌else◌}
 use Rattle.ason_base.specs.declared.ids.NodeId.{NodeId}
 use Rattle.ason_base.specs.declared.messages.Msg.{Msg}
 use Rattle.ason_base.specs.declared.messages.Msg.TheVariants.{Path, Resv, PathTear, PathErr, Notify}
@@ -13,9 +13,8 @@ use Rattle.mesh_rules.specs.Messages.{arrival}
 use Rattle.mesh_rules.specs.PathErrs.{PathFailure, err_passed, removed}
 use Rattle.mesh_rules.specs.Resvs.{answered, is_expected, labels_left}
 use Rattle.mesh_rules.specs.State.{new_node}
-use Rattle.leg_table.specs.Fits.{legs_after}
 use Rattle.leg_table.specs.States.{legs_state, local_of}
-use Rattle.leg_table.specs.Tables.{LegTable}
+use Rattle.leg_table.specs.Tables.{LegTable, begins_here}
 
 -- the labels that may go back to this neighbour
 abbrev pub left_here : LegTable → Leg → Neighbour → List ℕ
@@ -49,19 +48,15 @@ err_here t u e = err_taken u e (find_leg e.lsp t.legs)
 
 -- Where the call follows
 
-abbrev pub begins_here : Option Neighbour → Bool
-begins_here None = true
-begins_here (Some h) = false
-
 -- the leg takes the Resv, and its LSP begins here
 abbrev pub connects_leg : Arrival → ℕ → Option Leg → Bool
 connects_leg a x None = false
-connects_leg a x (Some g) = is_expected a x g && begins_here (previous g)
+connects_leg a x (Some g) = is_expected a x g && begins_here g
 
 -- the PathErr takes the Asked leg away, and its LSP begins here
 abbrev pub refuses_leg : NodeId → PathFailure → Option Leg → Bool
 refuses_leg u e None = false
-refuses_leg u e (Some g) = (e.removed && is_node (following g) u) && (is_asked g.phase && begins_here (previous g))
+refuses_leg u e (Some g) = (e.removed && is_node (following g) u) && (is_asked g.phase && begins_here g)
 
 -- a message of another kind connects none
 abbrev pub connects : LegTable → NodeId → Msg → Bool
@@ -98,11 +93,3 @@ path_err_answer t u (PathTear l e k) = nothing
 path_err_answer t u (PathErr l e at gone code) =
     err_here t u (record { lsp = l; msg = PathErr l e at gone code; removed = gone; code = code })
 path_err_answer t u (Notify l e at k code) = nothing
-
--- The tables after it
-
-abbrev pub after_resv : LegTable → NodeId → Msg → LegTable
-after_resv t u m = legs_after t (resv_answer t u m)
-
-abbrev pub after_path_err : LegTable → NodeId → Msg → LegTable
-after_path_err t u m = legs_after t (path_err_answer t u m)

@@ -1,8 +1,8 @@
 //! A Resv and a PathErr carried out over a node's tables, owner and shares.
 
-ghost use Rattle.std.specs.Prelude.{◌≡◌, [], IfOk, OnErr, OnOk};
 ghost use Rattle.leg_table.specs.Fits.{TablesFit};
-ghost use Rattle.resv_state.specs.Answers.{after_path_err, after_resv, path_err_answer, resv_answer};
+ghost use Rattle.leg_table.specs.Handled.{IsHandled};
+ghost use Rattle.resv_state.specs.Answers.{path_err_answer, resv_answer};
 
 use crate::path_errs::path_err_change;
 use crate::resvs::resv_change;
@@ -25,15 +25,8 @@ pub fn resv(
     msg: &Msg,
 ) -> Result<Outs, OutOfMemory>
     requires { TablesFit tables.old owner.old shares.old }
-    ensures ok { OnOk result (tables.new ≡ after_resv tables.old from msg.now) }
-    ensures sent { IfOk result (λ outs. outs ≡ (resv_answer tables.old from msg.now).sent) }
-    ensures none { (resv_answer tables.old from msg.now).legs ≡ [] → owner.new ≡ owner.old }
-    ensures none_shares { (resv_answer tables.old from msg.now).legs ≡ [] →
-        shares.new ≡ shares.old }
-    ensures fits { TablesFit tables.new owner.new shares.new }
-    ensures err { OnErr result (tables.new ≡ tables.old) }
-    ensures err_owner { OnErr result (owner.new ≡ owner.old) }
-    ensures err_shares { OnErr result (shares.new ≡ shares.old) }
+    ensures { IsHandled result tables.old owner.old shares.old tables.new owner.new shares.new
+        (resv_answer tables.old from msg.now) }
 {
     let change = resv_change(alloc, tables, owner, shares, from, msg)?;
     handle(alloc, tables, owner, shares, change)
@@ -51,15 +44,8 @@ pub fn path_err(
     msg: &Msg,
 ) -> Result<Outs, OutOfMemory>
     requires { TablesFit tables.old owner.old shares.old }
-    ensures ok { OnOk result (tables.new ≡ after_path_err tables.old from msg.now) }
-    ensures sent { IfOk result (λ outs. outs ≡ (path_err_answer tables.old from msg.now).sent) }
-    ensures none { (path_err_answer tables.old from msg.now).legs ≡ [] → owner.new ≡ owner.old }
-    ensures none_shares { (path_err_answer tables.old from msg.now).legs ≡ [] →
-        shares.new ≡ shares.old }
-    ensures fits { TablesFit tables.new owner.new shares.new }
-    ensures err { OnErr result (tables.new ≡ tables.old) }
-    ensures err_owner { OnErr result (owner.new ≡ owner.old) }
-    ensures err_shares { OnErr result (shares.new ≡ shares.old) }
+    ensures { IsHandled result tables.old owner.old shares.old tables.new owner.new shares.new
+        (path_err_answer tables.old from msg.now) }
 {
     let change = path_err_change(alloc, tables, from, msg)?;
     handle(alloc, tables, owner, shares, change)

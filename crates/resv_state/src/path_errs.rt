@@ -4,9 +4,8 @@ ghost use Rattle.std.specs.Prelude.{◌≡◌, IfOk};
 ghost use Rattle.mesh_rules.specs.Legs.{find_leg};
 ghost use Rattle.resv_state.specs.Answers.{err_here, err_passed_here, path_err_answer, refuses, refuses_leg, removed_here};
 
-use crate::resvs::begins_here;
 use ason_base::{Copied, ErrCode, Leg, Lsp, Msg, NodeId, OutOfMemory};
-use leg_table::one_leg::{following, is_asked, is_closing, is_node, previous};
+use leg_table::one_leg::{begins_here, following, is_asked, is_closing, is_node, previous};
 use leg_table::{Change, NodeTables};
 use std::alloc::Global;
 use std::marker::Model;
@@ -85,7 +84,7 @@ fn refuses_leg(tables: &NodeTables, from: NodeId, failure: &PathFailure<'_>) -> 
             failure.removed
                 && is_node(following(leg), from)
                 && is_asked(leg.phase)
-                && begins_here(previous(leg))
+                && begins_here(leg)
         }
     }
 }

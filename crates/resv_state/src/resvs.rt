@@ -7,12 +7,12 @@ ghost use Rattle.mesh_rules.specs.Resvs.{is_expected, label_passed, torn_both_wa
 ghost use Rattle.leg_table.specs.Fits.{TablesFit};
 ghost use Rattle.leg_table.specs.LegClaims.{is_fibre_in};
 ghost use Rattle.leg_table.specs.States.{local_of};
-ghost use Rattle.resv_state.specs.Answers.{answered_here, begins_here, connects, connects_leg, left_here, resv_answer, resv_here};
+ghost use Rattle.resv_state.specs.Answers.{answered_here, connects, connects_leg, left_here, resv_answer, resv_here};
 
 use ason_base::codes::LABEL;
 use ason_base::{Label, LabelSet, Leg, LinkId, Lsp, Msg, NodeId, OutOfMemory};
 use leg_labels::{label_through, usable};
-use leg_table::one_leg::{closed, connected, following, is_asked, is_over, previous};
+use leg_table::one_leg::{begins_here, closed, connected, following, is_asked, is_over, previous};
 use leg_table::{Change, NodeTables};
 use link_owner::Owner;
 use mesh_rules::{Arrival, Neighbour};
@@ -157,19 +157,12 @@ fn on_resv(
     }
 }
 
-/// Whether there is no previous node.
-pub(crate) fn begins_here(back: Option<Neighbour>) -> bool
-    ensures { result ≡ begins_here back }
-{
-    back.is_none()
-}
-
 fn connects_leg(tables: &NodeTables, arrival: Arrival, label: Label) -> bool
     ensures { result ≡ connects_leg arrival label (find_leg arrival.lsp tables.now.legs) }
 {
     match tables.get(&arrival.lsp) {
         None => false,
-        Some(leg) => expects(arrival, label, leg) && begins_here(previous(leg)),
+        Some(leg) => expects(arrival, label, leg) && begins_here(leg),
     }
 }
 

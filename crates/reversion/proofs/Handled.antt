@@ -33,8 +33,7 @@ use Rattle.mesh_nodes.proofs.LegList.{found-all}
 use Rattle.mesh_nodes.proofs.Links.{found-one}
 use Rattle.mesh_nodes.proofs.Messages.{messages-fit}
 use Rattle.mesh_nodes.proofs.Ticks.{ticks-fit}
-use Rattle.leg_table.specs.Fits.{OwnLegsFit, legs_after}
-use Rattle.leg_table.specs.LegClaims.{MayAllStay}
+use Rattle.leg_table.specs.Handled.{MayBeCarriedOutKept}
 use Rattle.leg_table.specs.States.{local_of, state_of}
 use Rattle.leg_table.specs.Tables.{CallTable, LegTable}
 use Rattle.leg_table.proofs.OwnFibres.{over-own}
@@ -42,6 +41,7 @@ use Rattle.leg_labels.proofs.Activated.{confirmed-calm}
 use Rattle.leg_labels.proofs.CallLegs.{Calm, calm-fine}
 use Rattle.leg_labels.proofs.CallOrders.{reported-calm, revert-calm, tick-calm}
 use Rattle.leg_labels.proofs.MayPut.{found-itself}
+use Rattle.leg_labels.proofs.OwnLegs.{calm-handled}
 use Rattle.call_control.specs.GoingBack.{going_back, once_told, once_turned}
 use Rattle.call_control.specs.Handlers.{goes_back}
 use Rattle.call_control.specs.Ingress.{IngressFits, IsArmedAsBackup, NamesByRole, role_at}
@@ -55,9 +55,7 @@ use Rattle.reversion.proofs.Whole.{back-turned, goes-live, is-told, told-back}
 -- what an answer keeps; it changes legs that stand and take no label, and knows of no row or fibre more
 pub record Handled (t : LegTable) (c : CallTable) (a : Answer) : Type 0 where
   pub keeps : Keeps t c a
-  pub stay : MayAllStay t.legs a.legs
-  pub no_row : a.rows ≡ []
-  pub no_down : a.down ≡ None
+  pub may : MayBeCarriedOutKept t a
 
 module _ (t : LegTable) (c : CallTable) (fits : IngressFits t c) where
   abbrev p : LocalNode
@@ -76,6 +74,8 @@ module _ (t : LegTable) (c : CallTable) (fits : IngressFits t c) where
   handled a kept calm no_row leaves =
       let start = at-start p s fits.names fits.armed in
       let stand = leaves.stands s.legs s.calls start in
+      let first = kept.first in
+      let numbers = kept.numbers in
       record {
         keeps = record {
           kept = kept;
@@ -87,9 +87,11 @@ module _ (t : LegTable) (c : CallTable) (fits : IngressFits t c) where
           };
           fine = calm-fine p s.legs s.legs a calm;
         };
-        stay = calm.0;
-        no_row = no_row;
-        no_down = leaves.no_down;
+        may = record {
+          legs = calm-handled t a ((changed s a).lsp, omega arith, kept.legs) calm;
+          no_row = no_row;
+          no_down = leaves.no_down;
+        };
       }
 
   nothing-left : Left nothing
@@ -207,11 +209,3 @@ module _ (t : LegTable) (c : CallTable) (fits : IngressFits t c) where
       (message-calm u m told)
       (message-learns_nothing p s u m) (message-left u m told))
       (λ e. handled nothing fits.kept (tt, tt) refl nothing-left)
-
--- the legs fit after it, with the next number then
-pub legs-after : (t : LegTable) (c : CallTable) (a : Answer) → Handled t c a → OwnLegsFit (legs_after t a)
-legs-after t c a done =
-    let kept = done.keeps.kept in
-    let first = kept.first in
-    let numbers = kept.numbers in
-    ((changed (state_of t c) a).lsp, omega arith, kept.legs)

@@ -15,6 +15,7 @@ use Rattle.ason_base.specs.declared.tables.Leg.{Leg}
 use Rattle.mesh_rules.specs.declared.arrivals.Arrival.{Arrival}
 use Rattle.mesh_rules.specs.ActivationAnswers.{is_confirmed}
 use Rattle.mesh_rules.specs.Calls.{call_with, is_turned}
+use Rattle.mesh_rules.specs.Changes.{Answer, followed_by, nothing}
 use Rattle.mesh_rules.specs.Legs.{find_leg, following, is_armed, is_asked, is_over, previous}
 use Rattle.mesh_rules.specs.LocalNodes.{LocalNode}
 use Rattle.mesh_rules.specs.Messages.{arrival, on_message}
@@ -23,12 +24,14 @@ use Rattle.mesh_rules.specs.Reports.{fibre_into, reported}
 use Rattle.mesh_rules.specs.Resvs.{is_expected, resv_with}
 use Rattle.mesh_rules.specs.State.{NodeState}
 use Rattle.mesh_nodes.proofs.Cases.{both_left, both_right}
+use Rattle.mesh_nodes.proofs.Followed.{later-none}
 use Rattle.leg_table.specs.States.{local_of, state_of}
-use Rattle.leg_table.specs.Tables.{CallTable, LegTable}
+use Rattle.leg_table.specs.Tables.{CallTable, LegTable, begins_here}
 use Rattle.call_control.specs.GoingBack.{going_back, is_going_back, once_told, reported_by, told_by, turned_by}
-use Rattle.call_control.specs.Handlers.{begins_at, confirmed_by, goes_back, takes_notify}
+use Rattle.call_control.specs.Handlers.{confirmed_by, goes_back, takes_notify}
+use Rattle.call_control.specs.Rules.{reported_here, told_here}
 use Rattle.call_control.proofs.AfterLeg.{Tells, begins-is, resv-confirms, tells}
-use Rattle.reversion.specs.Answers.{back_once_live}
+use Rattle.reversion.specs.Answers.{back_once_live, go_back_answer}
 
 armed-unasked : (q : Phase) → is_armed q ≡ true → is_asked q ≡ false
 armed-unasked Asked e = absurd (cc e)
@@ -83,9 +86,9 @@ module _ (t : LegTable) (c : CallTable) (u : NodeId) (l : Lsp) (e : NodeId) wher
         go : (o : Option Leg) → find_leg l t.legs ≡ o → is_some (going_back (confirmed_by c a x o)) ≡ true → GoesLive
         go None found told = absurd (cc told)
         go (Some g) found told =
-            let takes = told-true (begins_at (previous g) && is_confirmed a x g) (turned_by c g) told in
-            let first = begins-is (previous g) (both_left (begins_at (previous g)) _ takes) in
-            let confirmed = both_right (begins_at (previous g)) _ takes in
+            let takes = told-true (begins_here g && is_confirmed a x g) (turned_by c g) told in
+            let first = begins-is (previous g) (both_left (begins_here g) _ takes) in
+            let confirmed = both_right (begins_here g) _ takes in
             record {
               leg = g;
               found = found;
@@ -118,3 +121,32 @@ module _ (t : LegTable) (c : CallTable) (u : NodeId) (l : Lsp) (e : NodeId) wher
         subst (λ o. IsSome (going_back (told_by t c at k (Some here.leg) o))) here.told
         (subst (λ o. IsSome (going_back (told_by t c at k o (reported code)))) here.found
         (ap (λ b. is_some (going_back (cond b (reported_by t c m) None))) (sym takes) ∙ told))
+
+-- The rule of such a message is what is done to the leg and to the call
+
+-- what comes after nothing is the whole answer
+after-nothing : (a : Answer) → followed_by nothing a ≡ a
+after-nothing a = λ i. record a { numbers = later-none a.numbers i; down = later-none a.down i }
+
+by-rule : (t : LegTable) (c : CallTable) (u : NodeId) (m : Msg) → IsSome (goes_back t c u m) →
+    on_message (local_of t) (state_of t c) u m ≡ go_back_answer t c u m
+by-rule t c u m told = sym (ap (λ b. cond b (on_message (local_of t) (state_of t c) u m) nothing) told)
+
+pub resv-by : (t : LegTable) (c : CallTable) (u : NodeId) (m : Msg) → IsSome (goes_back t c u m) →
+    (l : Lsp) (e : NodeId) (k : LinkId) (x : ℕ) (g : Leg) → m ≡ Resv l e k x → Some g ≡ find_leg l t.legs →
+    followed_by nothing (back_once_live t c g) ≡ go_back_answer t c u m
+resv-by t c u m told l e k x g is found =
+    let live = goes-live t c u l e k x (subst (λ n. IsSome (goes_back t c u n)) is told) in
+    let both : Some g ≡ Some live.leg = found ∙ live.found in
+    let same : g ≡ live.leg = cc in
+    after-nothing (back_once_live t c g) ∙ ap (back_once_live t c) same ∙ sym live.whole
+    ∙ ap (on_message (local_of t) (state_of t c) u) (sym is) ∙ by-rule t c u m told
+
+pub notify-by : (t : LegTable) (c : CallTable) (u : NodeId) (m : Msg) → IsSome (goes_back t c u m) →
+    (l : Lsp) (e at : NodeId) (k : LinkId) (code : ErrCode) → m ≡ Notify l e at k code →
+    followed_by nothing (reported_here t c m) ≡ go_back_answer t c u m
+notify-by t c u m told l e at k code is =
+    let here = is-told t c u l e at k code (subst (λ n. IsSome (goes_back t c u n)) is told) in
+    after-nothing (reported_here t c m) ∙ ap (reported_here t c) is
+    ∙ ap (λ o. told_here t c at k o (reported code)) here.found ∙ ap (told_here t c at k (Some here.leg)) here.told
+    ∙ sym here.whole ∙ ap (on_message (local_of t) (state_of t c) u) (sym is) ∙ by-rule t c u m told

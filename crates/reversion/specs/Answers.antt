@@ -8,11 +8,10 @@ use Rattle.ason_base.specs.declared.messages.Msg.{Msg}
 use Rattle.ason_base.specs.declared.tables.CallRec.{CallRec}
 use Rattle.ason_base.specs.declared.tables.Leg.{Leg}
 use Rattle.mesh_rules.specs.Calls.{is_turned}
-use Rattle.mesh_rules.specs.Changes.{Answer, changed, followed_by, nothing, puts}
+use Rattle.mesh_rules.specs.Changes.{Answer, followed_by, nothing, puts}
 use Rattle.mesh_rules.specs.Legs.{with_phase}
 use Rattle.mesh_rules.specs.Messages.{on_message}
 use Rattle.mesh_rules.specs.Reverts.{on_revert}
-use Rattle.mesh_rules.specs.State.{NodeState}
 use Rattle.mesh_rules.specs.Turns.{has_any}
 use Rattle.mesh_rules.specs.Waits.{on_tick}
 use Rattle.leg_table.specs.States.{local_of, state_of}
@@ -48,14 +47,3 @@ back_once_live t c b = followed_by (puts (with_phase Live b) []) (turned_here t 
 abbrev pub go_back_answer : LegTable → CallTable → NodeId → Msg → Answer
 go_back_answer t c u m =
     if is_some (goes_back t c u m) then on_message (local_of t) (state_of t c) u m else nothing
-
--- What is kept then
-
-abbrev pub after_revert : LegTable → CallTable → CallNo → NodeState
-after_revert t c n = changed (state_of t c) (revert_answer t c n)
-
-abbrev pub after_tick : LegTable → CallTable → NodeState
-after_tick t c = changed (state_of t c) (tick_answer t c)
-
-abbrev pub after_go_back : LegTable → CallTable → NodeId → Msg → NodeState
-after_go_back t c u m = changed (state_of t c) (go_back_answer t c u m)

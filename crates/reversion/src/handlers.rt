@@ -1,12 +1,10 @@
 //! Calls that go back, and ticks, carried out over an ingress's tables, the owner of its labels and its
 //! calls.
 
-ghost use Rattle.std.specs.Prelude.{◌≡◌, IfOk, OnErr, OnOk};
 ghost use Rattle.leg_table.specs.Fits.{TablesFitOwner};
-ghost use Rattle.leg_table.specs.LegClaims.{SharesStay};
-ghost use Rattle.leg_table.specs.States.{local_of, state_of};
+ghost use Rattle.leg_table.specs.Handled.{IsCarriedOutKept};
 ghost use Rattle.call_control.specs.Ingress.{IngressFits};
-ghost use Rattle.reversion.specs.Answers.{after_go_back, after_revert, after_tick, go_back_answer, revert_answer, tick_answer};
+ghost use Rattle.reversion.specs.Answers.{go_back_answer, revert_answer, tick_answer};
 
 use crate::messages::go_back_change;
 use crate::reverts::revert_change;
@@ -30,16 +28,9 @@ pub fn revert(
 ) -> Result<Outs, OutOfMemory>
     requires fits { IngressFits tables.old calls.old }
     requires owner { TablesFitOwner tables.old owner.old }
-    ensures ok { OnOk result
-        (state_of tables.new calls.new ≡ after_revert tables.old calls.old call) }
-    ensures sent { IfOk result (λ outs. outs ≡ (revert_answer tables.old calls.old call).sent) }
+    ensures carried { IsCarriedOutKept result tables.old owner.old calls.old
+        tables.new owner.new calls.new (revert_answer tables.old calls.old call) }
     ensures fits { IngressFits tables.new calls.new }
-    ensures fits_owner { TablesFitOwner tables.new owner.new }
-    ensures local { local_of tables.new ≡ local_of tables.old }
-    ensures shares { SharesStay tables.old owner.old tables.new owner.new }
-    ensures err { OnErr result (tables.new ≡ tables.old) }
-    ensures err_owner { OnErr result (owner.new ≡ owner.old) }
-    ensures err_calls { OnErr result (calls.new ≡ calls.old) }
 {
     let change = revert_change(alloc, tables, calls, call, id_of(tables))?;
     handle_kept_calls(alloc, tables, owner, calls, change)
@@ -57,15 +48,9 @@ pub fn tick(
 ) -> Result<Outs, OutOfMemory>
     requires fits { IngressFits tables.old calls.old }
     requires owner { TablesFitOwner tables.old owner.old }
-    ensures ok { OnOk result (state_of tables.new calls.new ≡ after_tick tables.old calls.old) }
-    ensures sent { IfOk result (λ outs. outs ≡ (tick_answer tables.old calls.old).sent) }
+    ensures carried { IsCarriedOutKept result tables.old owner.old calls.old
+        tables.new owner.new calls.new (tick_answer tables.old calls.old) }
     ensures fits { IngressFits tables.new calls.new }
-    ensures fits_owner { TablesFitOwner tables.new owner.new }
-    ensures local { local_of tables.new ≡ local_of tables.old }
-    ensures shares { SharesStay tables.old owner.old tables.new owner.new }
-    ensures err { OnErr result (tables.new ≡ tables.old) }
-    ensures err_owner { OnErr result (owner.new ≡ owner.old) }
-    ensures err_calls { OnErr result (calls.new ≡ calls.old) }
 {
     let _few = calls.count();
     let change = tick_change(alloc, tables, calls)?;
@@ -86,17 +71,9 @@ pub fn go_back(
 ) -> Result<Outs, OutOfMemory>
     requires fits { IngressFits tables.old calls.old }
     requires owner { TablesFitOwner tables.old owner.old }
-    ensures ok { OnOk result
-        (state_of tables.new calls.new ≡ after_go_back tables.old calls.old from msg.now) }
-    ensures sent { IfOk result
-        (λ outs. outs ≡ (go_back_answer tables.old calls.old from msg.now).sent) }
+    ensures carried { IsCarriedOutKept result tables.old owner.old calls.old
+        tables.new owner.new calls.new (go_back_answer tables.old calls.old from msg.now) }
     ensures fits { IngressFits tables.new calls.new }
-    ensures fits_owner { TablesFitOwner tables.new owner.new }
-    ensures local { local_of tables.new ≡ local_of tables.old }
-    ensures shares { SharesStay tables.old owner.old tables.new owner.new }
-    ensures err { OnErr result (tables.new ≡ tables.old) }
-    ensures err_owner { OnErr result (owner.new ≡ owner.old) }
-    ensures err_calls { OnErr result (calls.new ≡ calls.old) }
 {
     let parts = IngressParts {
         tables,

@@ -3,15 +3,8 @@ use Rattle.activation.proofs.handlers.busy.Goals as goal
 
 pub handle_kept-requires-clause-may : goal.handle_kept-requires-clause-may
 handle_kept-requires-clause-may c =
-    let t = c.args.tables.now in
-    rw c.in_ok-change.ensures (busy-keeps t c.args.from c.args.msg.now c.requires.links c.requires.legs).calm.0
+    rw c.in_ok-change.ensures
+    (busy-keeps c.args.tables.now c.args.from c.args.msg.now c.requires.links c.requires.legs)
 
-pub handle_kept-requires-clause-marks : goal.handle_kept-requires-clause-marks
-handle_kept-requires-clause-marks c =
-    let t = c.args.tables.now in
-    rw c.in_ok-change.ensures (busy-keeps t c.args.from c.args.msg.now c.requires.links c.requires.legs).calm.1
-
-pub handle_kept-requires-clause-legs : goal.handle_kept-requires-clause-legs
-handle_kept-requires-clause-legs c =
-    let t = c.args.tables.now in
-    rw c.in_ok-change.ensures (busy-keeps t c.args.from c.args.msg.now c.requires.links c.requires.legs).legs
+pub returns : goal.returns
+returns c = rw c.in_ok-change.ensures at c.handle_kept.ensures

@@ -1,18 +1,10 @@
-use Rattle.resv_state.proofs.KeptLegs.{err-legs}
-use Rattle.resv_state.proofs.MayResvs.{path_err-may}
+use Rattle.resv_state.proofs.MayResvs.{path_err-handled}
 use Rattle.resv_state.proofs.handlers.path_err.Goals as goal
 
 pub handle-requires-clause-may : goal.handle-requires-clause-may
 handle-requires-clause-may c =
-    let t = c.args.tables.now in
-    rw c.in_ok-change.ensures (path_err-may t c.args.from c.args.msg.now).0
+    rw c.in_ok-change.ensures
+    (path_err-handled c.args.tables.now c.args.from c.args.msg.now c.requires.links c.requires.legs)
 
-pub handle-requires-clause-marks : goal.handle-requires-clause-marks
-handle-requires-clause-marks c =
-    let t = c.args.tables.now in
-    rw c.in_ok-change.ensures (path_err-may t c.args.from c.args.msg.now).1
-
-pub handle-requires-clause-legs : goal.handle-requires-clause-legs
-handle-requires-clause-legs c =
-    let t = c.args.tables.now in
-    rw c.in_ok-change.ensures (err-legs t c.args.from c.args.msg.now c.requires.links c.requires.legs)
+pub returns : goal.returns
+returns c = rw c.in_ok-change.ensures at c.handle.ensures
