@@ -19,7 +19,7 @@ use Rattle.mesh_rules.specs.Changes.{nothing, to_node}
 use Rattle.mesh_rules.specs.LocalNodes.{LocalNode}
 use Rattle.mesh_rules.specs.Messages.{on_message}
 use Rattle.mesh_rules.specs.State.{NodeState, new_node}
-use Rattle.mesh_laws.specs.NodeLaw.{NodeInput, Message, after_inputs}
+use Rattle.lsp_laws.specs.NodeLaw.{NodeInput, Message, after_inputs}
 
 abbrev node : ℕ → NodeId
 node n = record { 0 = n }

@@ -14,8 +14,8 @@ use Rattle.ason_base.specs.declared.ids.Lsp.{Lsp}
 use Rattle.mesh_rules.specs.declared.events.MeshEvent.{MeshEvent}
 use Rattle.mesh_rules.specs.Events.{after}
 use Rattle.mesh_rules.specs.Machine.{Mesh, start}
-use Rattle.mesh_laws.specs.HopLaw.{HasShape}
-use Rattle.mesh_laws.specs.HopShapes as row
+use Rattle.lsp_laws.specs.HopLaw.{HasShape}
+use Rattle.lsp_laws.specs.HopShapes as row
 use Rattle.mesh_examples.proofs.Scene.{Seen, all_enabled, desk, joins, learns, lsp, node, over, releases, seen, sets_up, spec, takes}
 
 abbrev square : Network

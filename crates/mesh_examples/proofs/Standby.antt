@@ -10,8 +10,8 @@ use Rattle.ason_base.specs.declared.calls.Role.TheVariants.{Back}
 use Rattle.mesh_rules.specs.declared.events.MeshEvent.{MeshEvent}
 use Rattle.mesh_rules.specs.Events.{after}
 use Rattle.mesh_rules.specs.Machine.{start}
-use Rattle.mesh_laws.specs.HopLaw.{HasShape}
-use Rattle.mesh_laws.specs.HopShapes as row
+use Rattle.lsp_laws.specs.HopLaw.{HasShape}
+use Rattle.lsp_laws.specs.HopShapes as row
 use Rattle.mesh_examples.proofs.Reserved as reserved
 use Rattle.mesh_examples.proofs.Scene.{all_enabled, alone, among, called, leg, lsp, node, Seen, seen, takes}
 

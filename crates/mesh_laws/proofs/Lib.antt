@@ -2,9 +2,8 @@ pub mod EveryRun
 pub mod alone
 pub mod contends
 pub mod crossing
-pub mod hops
 pub mod kept
-pub mod nodes
+pub mod ordered
 pub mod reports
 pub mod restoration
 pub mod rest

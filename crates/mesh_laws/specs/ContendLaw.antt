@@ -19,8 +19,8 @@ use Rattle.mesh_rules.specs.Events.{IsRun, after}
 use Rattle.mesh_rules.specs.Legs.{takes}
 use Rattle.mesh_rules.specs.Machine.{Mesh, start}
 use Rattle.mesh_rules.specs.Quiet.{IsQuiet}
+use Rattle.lsp_laws.specs.HopLaw.{leg_at}
 use Rattle.mesh_laws.specs.AloneLaw.{Calm, NoneRefused, is_on_link}
-use Rattle.mesh_laws.specs.HopLaw.{leg_at}
 use Rattle.mesh_laws.specs.RestorationLaw.{is_guarded}
 
 -- Calls that would contend

@@ -19,8 +19,8 @@ use Rattle.mesh_rules.specs.declared.events.MeshEvent.{MeshEvent}
 use Rattle.mesh_rules.specs.Events.{IsRun, after, or_route, step}
 use Rattle.mesh_rules.specs.Legs.{is_label, sends}
 use Rattle.mesh_rules.specs.Machine.{Mesh, start}
-use Rattle.mesh_laws.specs.HopLaw.{leg_at, lsp_of}
-use Rattle.mesh_laws.specs.RiskLaw.{rows_of}
+use Rattle.lsp_laws.specs.HopLaw.{leg_at, lsp_of}
+use Rattle.lsp_laws.specs.RiskLaw.{rows_of}
 
 -- What is heard
 

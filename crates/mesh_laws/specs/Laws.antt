@@ -6,26 +6,26 @@ use Rattle.ason_base.specs.Network.{IsTopology, Network}
 use Rattle.mesh_rules.specs.declared.events.MeshEvent.{MeshEvent}
 use Rattle.mesh_rules.specs.Machine.{start}
 use Rattle.mesh_rules.specs.Events.{IsRun, after, is_enabled, route_of}
+use Rattle.lsp_laws.specs.BesideLaw.{BackupsGoBeside}
+use Rattle.lsp_laws.specs.CallLaw.{CallsAreTidy, CallsFit}
+use Rattle.lsp_laws.specs.HopLaw.{HasOneLegEach, LspFits}
+use Rattle.lsp_laws.specs.JoinedLaw.{CallsAreJoined}
+use Rattle.lsp_laws.specs.LabelLaw.{LabelsAreShared, LegsHaveBackLabels, LegsKeepLabels, LiveLegsAreLabelled}
+use Rattle.lsp_laws.specs.LabelLaw.{NoneCross, SentLabelsAreShared}
+use Rattle.lsp_laws.specs.LearntLaw.{LearntRowsAreTrue}
+use Rattle.lsp_laws.specs.ReportLaw.{DesksTell, ReportsAreOfRoutes, ReportsTell}
+use Rattle.lsp_laws.specs.RiskLaw.{BackupsRecordRisks}
+use Rattle.lsp_laws.specs.StandLaw.{CallsStand, CallsStandOver}
+use Rattle.lsp_laws.specs.WavelengthLaw.{CallsKeepWavelengths}
 use Rattle.mesh_laws.specs.AloneLaw.{ActivationsAreAdmitted}
-use Rattle.mesh_laws.specs.BesideLaw.{BackupsGoBeside}
-use Rattle.mesh_laws.specs.CallLaw.{CallsAreTidy, CallsFit}
 use Rattle.mesh_laws.specs.ContendLaw.{UncontendedAreAdmitted}
 use Rattle.mesh_laws.specs.HeardLaw.{ListsAreLawful}
-use Rattle.mesh_laws.specs.HopLaw.{HasOneLegEach, LspFits}
-use Rattle.mesh_laws.specs.JoinedLaw.{CallsAreJoined}
 use Rattle.mesh_laws.specs.KnownLaw.{KnownFibresComeIn}
-use Rattle.mesh_laws.specs.LabelLaw.{LabelsAreShared, LegsHaveBackLabels, LegsKeepLabels, LiveLegsAreLabelled}
-use Rattle.mesh_laws.specs.LabelLaw.{NoneCross, SentLabelsAreShared}
-use Rattle.mesh_laws.specs.LearntLaw.{LearntRowsAreTrue}
 use Rattle.mesh_laws.specs.OrderLaw.{CallsAreOrdered}
-use Rattle.mesh_laws.specs.ReportLaw.{DesksTell, ReportsAreOfRoutes, ReportsTell}
 use Rattle.mesh_laws.specs.RestLaw.{RunEnds, added, handled}
 use Rattle.mesh_laws.specs.RestorationLaw.{RestorationHolds}
-use Rattle.mesh_laws.specs.RiskLaw.{BackupsRecordRisks}
 use Rattle.mesh_laws.specs.SafeLaw.{IsSafe}
-use Rattle.mesh_laws.specs.StandLaw.{CallsStand, CallsStandOver}
 use Rattle.mesh_laws.specs.SurveyLaw.{CalmIsShown, ContendsAreListed}
-use Rattle.mesh_laws.specs.WavelengthLaw.{CallsKeepWavelengths}
 
 -- what holds of the state to which these events lead from the start
 pub record LawsHold (t : Network) (events : List MeshEvent) : Type 0 where

@@ -19,8 +19,8 @@ use Rattle.mesh_rules.specs.Legs.{is_beyond_asked, leg_of}
 use Rattle.mesh_rules.specs.Machine.{start}
 use Rattle.mesh_rules.specs.Quiet.{IsQuiet}
 use Rattle.mesh_rules.specs.State.{NodeState}
+use Rattle.lsp_laws.specs.JoinedLaw.{IsJoinedFor, IsLive}
 use Rattle.mesh_laws.specs.AloneLaw.{Alone}
-use Rattle.mesh_laws.specs.JoinedLaw.{IsJoinedFor, IsLive}
 
 -- What is hit
 

@@ -1,26 +1,26 @@
 //! Laws over every run of the mesh.
 
+ghost use Rattle.lsp_laws.specs.BesideLaw.{EveryBackupGoesBeside};
+ghost use Rattle.lsp_laws.specs.CallLaw.{EveryCallFitsItsLegs, EveryCallIsTidy};
+ghost use Rattle.lsp_laws.specs.HopLaw.{EveryHopHasAShape};
+ghost use Rattle.lsp_laws.specs.JoinedLaw.{EveryCallIsJoined};
+ghost use Rattle.lsp_laws.specs.LabelLaw.{EveryLabelIsShared, EveryLegHasBackLabels, EveryLegKeepsLabels, EveryLiveLegIsLabelled, EverySentLabelIsShared, NoBackupsCross};
+ghost use Rattle.lsp_laws.specs.LearntLaw.{EveryLearntRowIsTrue, EveryNodeCanSearch};
+ghost use Rattle.lsp_laws.specs.NodeLaw.{EveryNodeSharesLawfully};
+ghost use Rattle.lsp_laws.specs.ReportLaw.{EveryDeskTellsFailures, EveryReportIsOfItsRoute, EveryReportTellsFailures};
+ghost use Rattle.lsp_laws.specs.RiskLaw.{EveryBackupRecordsItsRisks};
+ghost use Rattle.lsp_laws.specs.StandLaw.{EveryCallStands, EveryCallStandsUntilReleased};
+ghost use Rattle.lsp_laws.specs.WavelengthLaw.{EveryCallKeepsItsWavelengths};
 ghost use Rattle.mesh_laws.specs.AloneLaw.{EveryActivationIsAdmitted, EveryRunStartsCalm};
-ghost use Rattle.mesh_laws.specs.BesideLaw.{EveryBackupGoesBeside};
-ghost use Rattle.mesh_laws.specs.CallLaw.{EveryCallFitsItsLegs, EveryCallIsTidy};
 ghost use Rattle.mesh_laws.specs.ContendLaw.{NoContend};
 ghost use Rattle.mesh_laws.specs.HeardLaw.{EveryListIsLawful};
-ghost use Rattle.mesh_laws.specs.HopLaw.{EveryHopHasAShape};
-ghost use Rattle.mesh_laws.specs.JoinedLaw.{EveryCallIsJoined};
 ghost use Rattle.mesh_laws.specs.KnownLaw.{EveryKnownFibreComesIn};
-ghost use Rattle.mesh_laws.specs.LabelLaw.{EveryLabelIsShared, EveryLegHasBackLabels, EveryLegKeepsLabels, EveryLiveLegIsLabelled, EverySentLabelIsShared, NoBackupsCross};
 ghost use Rattle.mesh_laws.specs.Laws.{EveryRunKeepsTheLaws};
-ghost use Rattle.mesh_laws.specs.LearntLaw.{EveryLearntRowIsTrue, EveryNodeCanSearch};
-ghost use Rattle.mesh_laws.specs.NodeLaw.{EveryNodeSharesLawfully};
 ghost use Rattle.mesh_laws.specs.OrderLaw.{EveryCallIsOrdered};
-ghost use Rattle.mesh_laws.specs.ReportLaw.{EveryDeskTellsFailures, EveryReportIsOfItsRoute, EveryReportTellsFailures};
 ghost use Rattle.mesh_laws.specs.RestLaw.{EveryRestIsQuiet, EveryRunEnds, EveryRunRests};
 ghost use Rattle.mesh_laws.specs.RestorationLaw.{EveryHitCallIsRestored};
-ghost use Rattle.mesh_laws.specs.RiskLaw.{EveryBackupRecordsItsRisks};
 ghost use Rattle.mesh_laws.specs.SafeLaw.{EveryRunIsSafe};
-ghost use Rattle.mesh_laws.specs.StandLaw.{EveryCallStands, EveryCallStandsUntilReleased};
 ghost use Rattle.mesh_laws.specs.SurveyLaw.{NoSurveyedContend};
-ghost use Rattle.mesh_laws.specs.WavelengthLaw.{EveryCallKeepsItsWavelengths};
 
 /// Of every network, every run, and each state to which a run leads:
 ///

@@ -7,8 +7,8 @@ use Rattle.mesh_rules.specs.Events as mesh_runs
 use Rattle.mesh_rules.specs.Machine as mesh
 use Rattle.mesh_rules.specs.Machine.{Mesh}
 use Rattle.mesh_rules.specs.Quiet as mesh_quiet
-use Rattle.mesh_laws.specs.CallLaw.{CallsFit}
-use Rattle.mesh_laws.specs.HopLaw.{HasOneLegEach}
+use Rattle.lsp_laws.specs.CallLaw.{CallsFit}
+use Rattle.lsp_laws.specs.HopLaw.{HasOneLegEach}
 use Rattle.mesh_laws.specs.Laws.{LawsHold}
 use Rattle.world_rules.specs.Images.{IsQuiet, image, mesh_events}
 use Rattle.world_rules.specs.Laws.{EveryImageHasTheLaws, EveryRunIsShown, JoinedKnowTheLinks, JoinedKnowTheSame, QuietIsShown, TopologiesFindEach}

@@ -19,8 +19,8 @@ use Rattle.ason_base.specs.declared.tables.Leg.{Leg}
 use Rattle.ason_base.specs.Network.{Network}
 use Rattle.mesh_rules.specs.Machine.{Mesh}
 use Rattle.mesh_rules.specs.Rows.{all_call_rows, all_leg_rows, call_row, call_rows, leg_row, leg_rows}
-use Rattle.mesh_laws.specs.CallLaw.{CallsFit}
-use Rattle.mesh_laws.specs.HopLaw.{HasOneLegEach, leg_at}
+use Rattle.lsp_laws.specs.CallLaw.{CallsFit}
+use Rattle.lsp_laws.specs.HopLaw.{HasOneLegEach, leg_at}
 use Rattle.script_rules.specs.Tables.{IsTable, call_before, leg_before}
 use Rattle.script_rules.proofs.LegOrder.{call_order, derived_call_order, derived_order, leg_levels, leg_order, number_before, tunnel_before}
 use Rattle.script_rules.proofs.OneOrder.{TiesAreOne, one_order}

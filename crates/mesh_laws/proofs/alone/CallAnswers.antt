@@ -26,12 +26,12 @@ use Rattle.mesh_rules.specs.Pairs.{backup_lsp, backup_route, begins_backup, guar
 use Rattle.mesh_rules.specs.State.{NodeState}
 use Rattle.mesh_rules.specs.Turns.{activating, call_put, decide, has_any}
 use Rattle.mesh_nodes.proofs.Cases.{if_cases}
+use Rattle.lsp_laws.proofs.nodes.Facts.{SharesAll}
 use Rattle.mesh_laws.proofs.alone.Calls.{LegMayTurn, MayTurn, blocked-holds, called-holds, called-knows, decide-fine, in_state, its-backup, may-turn, turned-fine, unbacked-holds}
 use Rattle.mesh_laws.proofs.alone.Facts.{CallKnows, NodeKnows, Routes}
 use Rattle.mesh_laws.proofs.alone.Fine.{CallHolds, Fine, NodeHolds, fine-call, fine-nothing}
 use Rattle.mesh_laws.proofs.alone.Groups.{RoleConcerns, has_one}
 use Rattle.mesh_laws.proofs.alone.Legs.{IsAlone, idle-concerns, not_contended}
-use Rattle.mesh_laws.proofs.nodes.Facts.{SharesAll}
 
 module _ (t : Network) (gs : List Group) (o : Routes) (p : LocalNode) (s : NodeState)
     (knows : NodeKnows t o p s) (holds : NodeHolds t gs o s) where

@@ -29,8 +29,8 @@ use Rattle.mesh_rules.specs.Turns.{activating, activating_path, arms, call_put, 
 use Rattle.mesh_nodes.proofs.CallList.{called-names}
 use Rattle.mesh_nodes.proofs.Cases.{if_cases}
 use Rattle.mesh_nodes.proofs.LegList.{found-lsp, same_lsp-eq}
+use Rattle.lsp_laws.specs.CallLaw.{GuardsWork}
 use Rattle.mesh_laws.specs.AloneLaw.{is_of_busy}
-use Rattle.mesh_laws.specs.CallLaw.{GuardsWork}
 use Rattle.mesh_laws.proofs.alone.Facts.{CallKnows, NodeKnows, Routes}
 use Rattle.mesh_laws.proofs.alone.Fine.{CallHolds, Fine, IsExposed, NodeHolds, OutFine, fine-call}
 use Rattle.mesh_laws.proofs.alone.Groups.{RoleConcerns, are_many, has_one, is_on_route}

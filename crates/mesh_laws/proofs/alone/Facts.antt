@@ -24,9 +24,9 @@ use Rattle.mesh_rules.specs.Pairs.{beside_lsp, route_from}
 use Rattle.mesh_rules.specs.State.{NodeState}
 use Rattle.mesh_rules.specs.Turns.{has_any}
 use Rattle.mesh_nodes.specs.Order.{LegsRise}
-use Rattle.mesh_laws.specs.CallLaw.{GuardsWork}
-use Rattle.mesh_laws.specs.RiskLaw.{rows_of}
-use Rattle.mesh_laws.proofs.nodes.Facts.{SharesAll}
+use Rattle.lsp_laws.specs.CallLaw.{GuardsWork}
+use Rattle.lsp_laws.specs.RiskLaw.{rows_of}
+use Rattle.lsp_laws.proofs.nodes.Facts.{SharesAll}
 
 abbrev pub Routes : Type 0
 Routes = Lsp → Option (List Step)

@@ -31,21 +31,21 @@ use Rattle.mesh_rules.proofs.Topologies.{topology_searchable}
 use Rattle.mesh_nodes.proofs.CallList.{all-calls_found, found-call-all}
 use Rattle.mesh_nodes.proofs.Cases.{both_left, both_right, not-true}
 use Rattle.mesh_nodes.proofs.LegList.{found-all, found-lsp, same_lsp-refl}
-use Rattle.mesh_laws.specs.BesideLaw.{BackupsGoBeside, CallGoesBeside, GoBeside}
-use Rattle.mesh_laws.specs.CallLaw.{FitsLegs, IsNamed, fits_reports}
+use Rattle.lsp_laws.specs.BesideLaw.{BackupsGoBeside, CallGoesBeside, GoBeside}
+use Rattle.lsp_laws.specs.CallLaw.{FitsLegs, IsNamed, fits_reports}
+use Rattle.lsp_laws.specs.HopLaw.{leg_at, mail_between}
+use Rattle.lsp_laws.specs.RiskLaw.{BackupsRecordRisks, RecordsRisks, rows_of}
+use Rattle.lsp_laws.proofs.hops.Chain.{LegFits, OnRoute, RisksFit}
+use Rattle.lsp_laws.proofs.hops.Paired.{no_previous, whole-route}
+use Rattle.lsp_laws.proofs.hops.Planned.{EachFollows, Follows, Planned}
+use Rattle.lsp_laws.proofs.hops.Plans.{Plan, node_at, plan, same_node}
+use Rattle.lsp_laws.proofs.hops.Purposes.{Carries, Guards, Purpose, Tells, role_of}
+use Rattle.lsp_laws.proofs.hops.Rows.{no_active_up}
+use Rattle.lsp_laws.proofs.hops.Taken.{down_hop, mine, up_hop}
+use Rattle.lsp_laws.proofs.nodes.CallParts.{named-lsp}
+use Rattle.lsp_laws.proofs.nodes.Facts.{MeshFacts}
 use Rattle.mesh_laws.specs.HeardLaw.{primary_of}
-use Rattle.mesh_laws.specs.HopLaw.{leg_at, mail_between}
-use Rattle.mesh_laws.specs.RiskLaw.{BackupsRecordRisks, RecordsRisks, rows_of}
 use Rattle.mesh_laws.proofs.alone.Facts.{CallKnows, MeshKnows, MsgKnows, NodeKnows, Records, RoleKnows, Routes}
-use Rattle.mesh_laws.proofs.hops.Chain.{LegFits, OnRoute, RisksFit}
-use Rattle.mesh_laws.proofs.hops.Paired.{no_previous, whole-route}
-use Rattle.mesh_laws.proofs.hops.Planned.{EachFollows, Follows, Planned}
-use Rattle.mesh_laws.proofs.hops.Plans.{Plan, node_at, plan, same_node}
-use Rattle.mesh_laws.proofs.hops.Purposes.{Carries, Guards, Purpose, Tells, role_of}
-use Rattle.mesh_laws.proofs.hops.Rows.{no_active_up}
-use Rattle.mesh_laws.proofs.hops.Taken.{down_hop, mine, up_hop}
-use Rattle.mesh_laws.proofs.nodes.CallParts.{named-lsp}
-use Rattle.mesh_laws.proofs.nodes.Facts.{MeshFacts}
 use Rattle.mesh_laws.proofs.sent.Sound.{Sound}
 use Rattle.mesh_laws.proofs.sent.Uses.{gift-shares, leg-shares}
 

@@ -18,11 +18,11 @@ use Rattle.mesh_nodes.specs.Order.{LegsRise}
 use Rattle.mesh_nodes.proofs.Cases.{both_left}
 use Rattle.mesh_nodes.proofs.LabelPlaces.{is-at, or-first, or-second}
 use Rattle.mesh_nodes.proofs.LegList.{all-found, found-all, found-lsp, same_lsp-eq, same_lsp-refl}
+use Rattle.lsp_laws.proofs.nodes.ClosedLegs.{closed-marked}
+use Rattle.lsp_laws.proofs.nodes.Facts.{SharesAll}
+use Rattle.lsp_laws.proofs.nodes.NewLegs.{reserved-plain}
+use Rattle.lsp_laws.proofs.nodes.Sharing.{back-of}
 use Rattle.mesh_laws.proofs.alone.Groups.{LegConcerns, has_one}
-use Rattle.mesh_laws.proofs.nodes.ClosedLegs.{closed-marked}
-use Rattle.mesh_laws.proofs.nodes.Facts.{SharesAll}
-use Rattle.mesh_laws.proofs.nodes.NewLegs.{reserved-plain}
-use Rattle.mesh_laws.proofs.nodes.Sharing.{back-of}
 
 -- the leg, where it is a backup's, records one of the groups
 abbrev pub Records : List Group → Leg → Type 0

@@ -35,6 +35,7 @@ use Rattle.mesh_rules.specs.State.{NodeState}
 use Rattle.mesh_rules.specs.Tears.{tear_with, torn}
 use Rattle.mesh_nodes.proofs.Cases.{both_left, both_right, if_cases}
 use Rattle.mesh_nodes.proofs.LegList.{found-all, found-lsp}
+use Rattle.lsp_laws.proofs.nodes.Facts.{SharesAll}
 use Rattle.mesh_laws.proofs.alone.CallAnswers.{call_answered-fine, call_refused-fine, call_turned-fine}
 use Rattle.mesh_laws.proofs.alone.Facts.{MsgKnows, NodeKnows, RoleKnows, Routes}
 use Rattle.mesh_laws.proofs.alone.Fine.{Fine, NodeHolds, OutFine, fine-nothing, fine-puts, fine-removes, fine-then}
@@ -43,7 +44,6 @@ use Rattle.mesh_laws.proofs.alone.Groups.{LegConcerns, MsgConcerns, RoleConcerns
 use Rattle.mesh_laws.proofs.alone.Legs.{Apart, IsAlone, MsgApart, Records, armed-records, closed-concerns, idle-concerns, not_contended, records-concerns, reserved-concerns}
 use Rattle.mesh_laws.proofs.alone.Reports.{notice_told-fine}
 use Rattle.mesh_laws.proofs.alone.RouteRisks.{recorded-one}
-use Rattle.mesh_laws.proofs.nodes.Facts.{SharesAll}
 
 module _ (t : Network) (gs : List Group) (o : Routes) (p : LocalNode) (s : NodeState) (knows : NodeKnows t o p s)
     (holds : NodeHolds t gs o s) (apart : Apart gs s.legs) where

@@ -24,6 +24,7 @@ use Rattle.mesh_rules.specs.Legs.{connected}
 use Rattle.mesh_rules.specs.Machine.{Mesh}
 use Rattle.mesh_rules.specs.State.{NodeState}
 use Rattle.mesh_nodes.proofs.LegList.{all-then}
+use Rattle.lsp_laws.proofs.nodes.Facts.{SharesAll}
 use Rattle.mesh_laws.specs.AloneLaw.{AllConcern, is_on_link, is_on_route, risk_of}
 use Rattle.mesh_laws.specs.AloneLaw.{CallConcerns as OneCall}
 use Rattle.mesh_laws.specs.AloneLaw.{FailsOnly as OneFails}
@@ -37,7 +38,6 @@ use Rattle.mesh_laws.proofs.alone.Groups.{CallConcerns, FailsOnly, FibreConcerns
 use Rattle.mesh_laws.proofs.alone.Groups.{is_on_route as is_some_on_route}
 use Rattle.mesh_laws.proofs.alone.Legs.{IsAlone, MsgApart}
 use Rattle.mesh_laws.proofs.alone.RouteRisks.{only-one}
-use Rattle.mesh_laws.proofs.nodes.Facts.{SharesAll}
 
 -- a test of one alone
 pub or-none : (b : Bool) → (b || false) ≡ true → b ≡ true

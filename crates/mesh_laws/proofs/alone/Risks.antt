@@ -22,9 +22,9 @@ use Rattle.ason_base.proofs.RiskUnion.{route_risks-are}
 use Rattle.mesh_rules.specs.Failures.{is_risk_of}
 use Rattle.mesh_nodes.proofs.routes.Lists.{contains-map, contains-unmap}
 use Rattle.mesh_nodes.proofs.routes.Nodes.{find-there, found-link}
+use Rattle.lsp_laws.specs.RiskLaw.{rows_of}
+use Rattle.lsp_laws.proofs.hops.Plans.{same}
 use Rattle.mesh_laws.specs.AloneLaw.{is_on_link, is_on_route, is_risk_there, risk_of}
-use Rattle.mesh_laws.specs.RiskLaw.{rows_of}
-use Rattle.mesh_laws.proofs.hops.Plans.{same}
 
 -- Tests of lists
 

@@ -6,8 +6,8 @@ use Rattle.ason_base.specs.Routes.{routes_share_risk}
 use Rattle.ason_base.specs.declared.commands.Group.{Group}
 use Rattle.ason_base.specs.declared.steps.Step.{Step}
 use Rattle.ason_base.proofs.Ordered.{any-there, contains-cases, contains-none, there-any}
+use Rattle.lsp_laws.specs.RiskLaw.{rows_of}
 use Rattle.mesh_laws.specs.AloneLaw.{is_risk_there, risk_of}
-use Rattle.mesh_laws.specs.RiskLaw.{rows_of}
 use Rattle.mesh_laws.specs.AloneLaw.{is_on_link as is_one_on_link}
 use Rattle.mesh_laws.specs.AloneLaw.{is_on_route as is_one_on_route}
 use Rattle.mesh_laws.proofs.alone.Risks.{not_beside, recorded-risk}

@@ -18,17 +18,17 @@ use Rattle.mesh_rules.specs.Machine.{Mesh}
 use Rattle.mesh_rules.specs.Pairs.{beside_lsp}
 use Rattle.mesh_rules.specs.Quiet.{IsQuiet}
 use Rattle.mesh_rules.specs.LocalNodes.{fibre_out}
-use Rattle.mesh_laws.specs.HopLaw.{LspFits, RouteFits, StepFits, leg_at}
-use Rattle.mesh_laws.specs.HopShapes.{Closes, Falls, IsTorn, LegKind, LiveLeg, NoLeg, leg_kind}
-use Rattle.mesh_laws.specs.ReportLaw.{place_at}
-use Rattle.mesh_laws.specs.RiskLaw.{rows_of}
+use Rattle.lsp_laws.specs.HopLaw.{LspFits, RouteFits, StepFits, leg_at}
+use Rattle.lsp_laws.specs.HopShapes.{Closes, Falls, IsTorn, LegKind, LiveLeg, NoLeg, leg_kind}
+use Rattle.lsp_laws.specs.ReportLaw.{place_at}
+use Rattle.lsp_laws.specs.RiskLaw.{rows_of}
+use Rattle.lsp_laws.proofs.hops.Chain.{Fits, LegFits}
+use Rattle.lsp_laws.proofs.hops.Planned.{EachFollows, Follows, Planned, Routes}
+use Rattle.lsp_laws.proofs.hops.Plans.{node_at, plan, same_node}
+use Rattle.lsp_laws.proofs.hops.Purposes.{Carries, Guards, Purpose, Tells}
+use Rattle.lsp_laws.proofs.hops.Rows.{BothStand, NoneThere, OnlyTorn, Settled}
+use Rattle.lsp_laws.proofs.hops.RowStates.{LiveStands}
 use Rattle.mesh_laws.proofs.alone.Risks.{found-passes}
-use Rattle.mesh_laws.proofs.hops.Chain.{Fits, LegFits}
-use Rattle.mesh_laws.proofs.hops.Planned.{EachFollows, Follows, Planned, Routes}
-use Rattle.mesh_laws.proofs.hops.Plans.{node_at, plan, same_node}
-use Rattle.mesh_laws.proofs.hops.Purposes.{Carries, Guards, Purpose, Tells}
-use Rattle.mesh_laws.proofs.hops.Rows.{BothStand, NoneThere, OnlyTorn, Settled}
-use Rattle.mesh_laws.proofs.hops.RowStates.{LiveStands}
 use Rattle.mesh_laws.proofs.restoration.Steps.{begins-at, ends-at, goes-on}
 use Rattle.mesh_laws.proofs.restoration.Settled.{all-alike, kind_at, leg-in, one-hop, some-kind}
 use Rattle.mesh_laws.proofs.kept.Places.{at_place, is_up}

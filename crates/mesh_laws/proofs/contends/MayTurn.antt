@@ -28,17 +28,17 @@ use Rattle.mesh_rules.specs.Machine.{Mesh}
 use Rattle.mesh_rules.specs.Pairs.{beside_lsp}
 use Rattle.mesh_rules.specs.Quiet.{IsQuiet}
 use Rattle.mesh_nodes.proofs.LegList.{found-all}
+use Rattle.lsp_laws.specs.CallLaw.{FitsLegs, GuardsWork, fits, phase_of}
+use Rattle.lsp_laws.specs.HopLaw.{LspFits, leg_at}
+use Rattle.lsp_laws.proofs.hops.Planned.{EachFollows, Routes}
+use Rattle.lsp_laws.proofs.hops.Purposes.{Guards, Tells}
+use Rattle.lsp_laws.proofs.nodes.CallParts.{named-lsp}
+use Rattle.lsp_laws.proofs.nodes.Facts.{MeshFacts}
 use Rattle.mesh_laws.specs.AloneLaw.{is_on_link, is_on_route, risk_of}
-use Rattle.mesh_laws.specs.CallLaw.{FitsLegs, GuardsWork, fits, phase_of}
-use Rattle.mesh_laws.specs.HopLaw.{LspFits, leg_at}
 use Rattle.mesh_laws.specs.RestorationLaw.{is_guarded}
 use Rattle.mesh_laws.specs.ContendLaw.{IsHitBy, MayTurnTo}
 use Rattle.mesh_laws.proofs.alone.Calls.{is_lsp-eq}
 use Rattle.mesh_laws.proofs.alone.Risks.{risk-recorded}
-use Rattle.mesh_laws.proofs.hops.Planned.{EachFollows, Routes}
-use Rattle.mesh_laws.proofs.hops.Purposes.{Guards, Tells}
-use Rattle.mesh_laws.proofs.nodes.CallParts.{named-lsp}
-use Rattle.mesh_laws.proofs.nodes.Facts.{MeshFacts}
 use Rattle.mesh_laws.proofs.kept.Phases.{IsUp, LegsUp}
 use Rattle.mesh_laws.proofs.contends.Backups.{LiveAt, backup-of, first-leg, live-at}
 

@@ -7,10 +7,10 @@ use Rattle.ason_base.specs.declared.ids.Lsp.{Lsp}
 use Rattle.ason_base.specs.declared.tables.Leg.{Leg}
 use Rattle.mesh_rules.specs.Legs.{find_leg, is_at, is_closing, is_marked, reverse, reverse_of, sends, takes, uses}
 use Rattle.mesh_nodes.proofs.LabelPlaces.{is-at, or-first, or-second}
-use Rattle.mesh_laws.specs.LabelLaw.{HaveOneLabel}
-use Rattle.mesh_laws.proofs.hops.Purposes.{BackMeets, LabelsMeet}
-use Rattle.mesh_laws.proofs.nodes.Facts.{NoTwoMarked}
-use Rattle.mesh_laws.proofs.nodes.LegParts.{taken-used}
+use Rattle.lsp_laws.specs.LabelLaw.{HaveOneLabel}
+use Rattle.lsp_laws.proofs.hops.Purposes.{BackMeets, LabelsMeet}
+use Rattle.lsp_laws.proofs.nodes.Facts.{NoTwoMarked}
+use Rattle.lsp_laws.proofs.nodes.LegParts.{taken-used}
 
 pub twice : (f : Fibre) → reverse (reverse f) ≡ f
 twice f = λ i. record { link = f.link; forward = back f.forward i }

@@ -15,14 +15,14 @@ use Rattle.mesh_rules.specs.Legs.{is_closing, is_held, is_in_use, is_marking, re
 use Rattle.mesh_rules.specs.LocalNodes.{local_node}
 use Rattle.mesh_rules.specs.Machine.{Mesh}
 use Rattle.mesh_rules.specs.Paths.{is_active}
-use Rattle.mesh_laws.specs.HopLaw.{leg_at}
-use Rattle.mesh_laws.specs.LabelLaw.{HaveOneLabel}
+use Rattle.lsp_laws.specs.HopLaw.{leg_at}
+use Rattle.lsp_laws.specs.LabelLaw.{HaveOneLabel}
+use Rattle.lsp_laws.proofs.hops.Chain.{is_or_not}
+use Rattle.lsp_laws.proofs.hops.Planned.{Routes}
+use Rattle.lsp_laws.proofs.hops.Plans.{same_node}
+use Rattle.lsp_laws.proofs.nodes.Facts.{LegFacts}
 use Rattle.mesh_laws.proofs.crossing.Meets.{flip-label, never-cross, twice}
 use Rattle.mesh_laws.proofs.crossing.Upstream.{Upstream, mark-of}
-use Rattle.mesh_laws.proofs.hops.Chain.{is_or_not}
-use Rattle.mesh_laws.proofs.hops.Planned.{Routes}
-use Rattle.mesh_laws.proofs.hops.Plans.{same_node}
-use Rattle.mesh_laws.proofs.nodes.Facts.{LegFacts}
 use Rattle.mesh_laws.proofs.sent.May.{Activated, Arms, Given, InUse, SameIn, WasInUse}
 use Rattle.mesh_laws.proofs.sent.Standing.{Standing, comes-by}
 

@@ -19,14 +19,14 @@ use Rattle.mesh_rules.specs.Legs.{is_held, is_marked, is_marking}
 use Rattle.mesh_rules.specs.Machine.{Mesh}
 use Rattle.mesh_rules.specs.Paths.{is_active}
 use Rattle.mesh_nodes.proofs.LegList.{same_lsp-refl}
-use Rattle.mesh_laws.specs.HopLaw.{is_message_of, is_notice, leg_at, mail_between, messages_of}
-use Rattle.mesh_laws.specs.HopShapes.{LegKind, HeldLeg, ArmedLeg, FallingLeg, ActivePath, MsgKind}
-use Rattle.mesh_laws.specs.HopShapes.{Shape, Activating, TornActivating, leg_kind, msg_kind, phase_kind}
-use Rattle.mesh_laws.proofs.hops.Chain.{Chain, HopAt, LegFits, OnRoute, PhaseFits}
-use Rattle.mesh_laws.proofs.hops.Planned.{Follows, Routes}
-use Rattle.mesh_laws.proofs.hops.Plans.{Plan, distinct, fibre_at, hops, lt_true, node_at, plan, same_node}
-use Rattle.mesh_laws.proofs.hops.Purposes.{BackMeets, Carries, Guards, LabelsMeet, Purpose, role_of}
-use Rattle.mesh_laws.proofs.hops.Rows.{no_active_up}
+use Rattle.lsp_laws.specs.HopLaw.{is_message_of, is_notice, leg_at, mail_between, messages_of}
+use Rattle.lsp_laws.specs.HopShapes.{LegKind, HeldLeg, ArmedLeg, FallingLeg, ActivePath, MsgKind}
+use Rattle.lsp_laws.specs.HopShapes.{Shape, Activating, TornActivating, leg_kind, msg_kind, phase_kind}
+use Rattle.lsp_laws.proofs.hops.Chain.{Chain, HopAt, LegFits, OnRoute, PhaseFits}
+use Rattle.lsp_laws.proofs.hops.Planned.{Follows, Routes}
+use Rattle.lsp_laws.proofs.hops.Plans.{Plan, distinct, fibre_at, hops, lt_true, node_at, plan, same_node}
+use Rattle.lsp_laws.proofs.hops.Purposes.{BackMeets, Carries, Guards, LabelsMeet, Purpose, role_of}
+use Rattle.lsp_laws.proofs.hops.Rows.{no_active_up}
 use Rattle.mesh_laws.proofs.sent.Ends.{sender-at}
 use Rattle.mesh_laws.proofs.sent.May.{gift}
 use Rattle.mesh_laws.proofs.sent.Standing.{Standing, first-of}

@@ -22,12 +22,12 @@ use Rattle.mesh_rules.specs.Machine.{Mesh}
 use Rattle.mesh_rules.specs.Quiet.{IsQuiet}
 use Rattle.mesh_nodes.specs.Order.{LegsRise}
 use Rattle.mesh_nodes.proofs.LegList.{all-found, found-all, same_lsp-refl}
-use Rattle.mesh_laws.specs.HopLaw.{HasShape, IsHop, LspFits, RouteFits, StepFits, leg_at, mail_between, messages_of}
-use Rattle.mesh_laws.specs.HopShapes.{ActivePath, Activating, ArmedLeg, AskedLeg, Asking, ClosingLeg, Deactivating, FallingLeg, HeldLeg, LegKind, LiveLeg, MsgKind, NoLeg, PlainPath, Reactivating, Shape, TornActivating, TornAsking, TornDeactivating, TornReactivating, leg_kind, msg_kind, path_kind, phase_kind}
-use Rattle.mesh_laws.specs.ReportLaw.{place_at}
+use Rattle.lsp_laws.specs.HopLaw.{HasShape, IsHop, LspFits, RouteFits, StepFits, leg_at, mail_between, messages_of}
+use Rattle.lsp_laws.specs.HopShapes.{ActivePath, Activating, ArmedLeg, AskedLeg, Asking, ClosingLeg, Deactivating, FallingLeg, HeldLeg, LegKind, LiveLeg, MsgKind, NoLeg, PlainPath, Reactivating, Shape, TornActivating, TornAsking, TornDeactivating, TornReactivating, leg_kind, msg_kind, path_kind, phase_kind}
+use Rattle.lsp_laws.specs.ReportLaw.{place_at}
+use Rattle.lsp_laws.proofs.hops.Rows.{BothStand, NoneThere, OnlyTorn, Settled, no_active_up, no_path_up}
+use Rattle.lsp_laws.proofs.hops.Taken.{mine}
 use Rattle.mesh_laws.proofs.alone.Facts.{Routes}
-use Rattle.mesh_laws.proofs.hops.Rows.{BothStand, NoneThere, OnlyTorn, Settled, no_active_up, no_path_up}
-use Rattle.mesh_laws.proofs.hops.Taken.{mine}
 use Rattle.mesh_laws.proofs.restoration.Settled.{kind_at, one-hop}
 use Rattle.mesh_laws.proofs.restoration.Steps.{ends-at, goes-on}
 use Rattle.mesh_laws.proofs.kept.Phases.{IsUp, LegsUp}

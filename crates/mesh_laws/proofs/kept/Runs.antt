@@ -23,10 +23,10 @@ use Rattle.mesh_rules.specs.LocalNodes.{local_node}
 use Rattle.mesh_rules.specs.Machine.{Mesh, start, without_first, without_item}
 use Rattle.mesh_rules.specs.Quiet.{IsQuiet}
 use Rattle.mesh_nodes.proofs.LegList.{found-all}
-use Rattle.mesh_laws.specs.HopLaw.{LspFits}
+use Rattle.lsp_laws.specs.HopLaw.{LspFits}
+use Rattle.lsp_laws.proofs.hops.Laws.{every_hop}
 use Rattle.mesh_laws.specs.ContendLaw.{GoesOnWith}
 use Rattle.mesh_laws.proofs.alone.Facts.{Routes}
-use Rattle.mesh_laws.proofs.hops.Laws.{every_hop}
 use Rattle.mesh_laws.proofs.alone.Groups.{FailsOnly, has_one}
 use Rattle.mesh_laws.proofs.alone.Legs.{Apart, MsgApart}
 use Rattle.mesh_laws.proofs.alone.Runs.{after-append, append-one, run-first, StayApart}

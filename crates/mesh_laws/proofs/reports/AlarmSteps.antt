@@ -20,15 +20,15 @@ use Rattle.mesh_rules.specs.Reports.{reported}
 use Rattle.mesh_nodes.specs.Order.{LegsRise}
 use Rattle.mesh_nodes.proofs.Cases.{if_cases}
 use Rattle.mesh_nodes.proofs.LegList.{same_lsp-refl}
-use Rattle.mesh_laws.specs.HopLaw.{leg_at, mail_between, notices_between, notices_of}
-use Rattle.mesh_laws.specs.ReportLaw.{is_standing, on_the_way, reports_of, told, told_by_all}
-use Rattle.mesh_laws.proofs.hops.Chain.{LegFits, is_or_not}
-use Rattle.mesh_laws.proofs.hops.LegChanges.{previous_is}
-use Rattle.mesh_laws.proofs.hops.NoticesTold.{all_notices, still_notified}
-use Rattle.mesh_laws.proofs.hops.Planned.{Planned, Routes}
-use Rattle.mesh_laws.proofs.hops.Plans.{Plan, distinct, fibre_at, hops, link_at, node_at, same_node}
-use Rattle.mesh_laws.proofs.hops.Purposes.{Purpose}
-use Rattle.mesh_laws.proofs.hops.Views.{notices-else, notices-from}
+use Rattle.lsp_laws.specs.HopLaw.{leg_at, mail_between, notices_between, notices_of}
+use Rattle.lsp_laws.specs.ReportLaw.{is_standing, on_the_way, reports_of, told, told_by_all}
+use Rattle.lsp_laws.proofs.hops.Chain.{LegFits, is_or_not}
+use Rattle.lsp_laws.proofs.hops.LegChanges.{previous_is}
+use Rattle.lsp_laws.proofs.hops.NoticesTold.{all_notices, still_notified}
+use Rattle.lsp_laws.proofs.hops.Planned.{Planned, Routes}
+use Rattle.lsp_laws.proofs.hops.Plans.{Plan, distinct, fibre_at, hops, link_at, node_at, same_node}
+use Rattle.lsp_laws.proofs.hops.Purposes.{Purpose}
+use Rattle.lsp_laws.proofs.hops.Views.{notices-else, notices-from}
 use Rattle.mesh_laws.proofs.reports.Alarmed.{elsewhere-told, hit-told, missed-told, none-told, one-told, told-all-append}
 use Rattle.mesh_laws.proofs.reports.GentleWords.{CallOf, PlaceTold, RouteTold, Stands, Untold, gentle-told, has_plain, is_waiting, line_at}
 use Rattle.mesh_laws.proofs.reports.Gentle.{commit-gentle}

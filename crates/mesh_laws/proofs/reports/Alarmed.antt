@@ -24,9 +24,9 @@ use Rattle.mesh_rules.specs.Reports.{reported}
 use Rattle.mesh_nodes.specs.Order.{LegsRise}
 use Rattle.mesh_nodes.proofs.LegList.{before-apart, found-all, found-lsp, same_lsp-eq, same_lsp-refl}
 use Rattle.mesh_nodes.proofs.Cases.{if_cases}
-use Rattle.mesh_laws.specs.HopLaw.{notices_of}
-use Rattle.mesh_laws.specs.ReportLaw.{told_by, told_by_all}
-use Rattle.mesh_laws.proofs.hops.FollowedBy.{sent-then}
+use Rattle.lsp_laws.specs.HopLaw.{notices_of}
+use Rattle.lsp_laws.specs.ReportLaw.{told_by, told_by_all}
+use Rattle.lsp_laws.proofs.hops.FollowedBy.{sent-then}
 
 -- What Notifies of the LSP tell
 

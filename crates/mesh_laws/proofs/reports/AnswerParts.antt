@@ -18,9 +18,9 @@ use Rattle.mesh_rules.specs.Legs.{find_leg, is_asked, is_closing}
 use Rattle.mesh_rules.specs.State.{NodeState}
 use Rattle.mesh_nodes.proofs.CallList.{find-with_call, find-without_call}
 use Rattle.mesh_nodes.proofs.LegList.{same_lsp-eq}
-use Rattle.mesh_laws.specs.HopLaw.{is_notice}
-use Rattle.mesh_laws.specs.ReportLaw.{is_standing, reports_of}
-use Rattle.mesh_laws.proofs.hops.Tables.{find-changed, leg_after}
+use Rattle.lsp_laws.specs.HopLaw.{is_notice}
+use Rattle.lsp_laws.specs.ReportLaw.{is_standing, reports_of}
+use Rattle.lsp_laws.proofs.hops.Tables.{find-changed, leg_after}
 use Rattle.mesh_laws.proofs.reports.GentleWords.{AllMild, CallsKeep, IsGentle, LegKeeps, NoneOf, is_plain, is_waiting, mild-active, mild-quiet}
 
 -- Legs

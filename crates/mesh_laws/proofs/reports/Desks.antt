@@ -33,7 +33,7 @@ use Rattle.mesh_rules.specs.Waits.{all_ticked, on_tick, ticked}
 use Rattle.mesh_rules.proofs.Topologies.{Rises, links-rise}
 use Rattle.mesh_nodes.proofs.Cases.{if_cases}
 use Rattle.mesh_nodes.proofs.LearnsNothing.{message-keeps_down, order-keeps_down}
-use Rattle.mesh_laws.specs.ReportLaw.{DesksTell, EveryDeskTellsFailures, after_item, after_items}
+use Rattle.lsp_laws.specs.ReportLaw.{DesksTell, EveryDeskTellsFailures, after_item, after_items}
 use Rattle.mesh_laws.proofs.reports.KnownFibres.{has-less, has-more, same_bool-refl, same_fibre-is}
 use Rattle.mesh_laws.proofs.reports.LinkNews.{items-after, news-tell}
 use Rattle.mesh_laws.proofs.reports.OwnLinks.{found-own}

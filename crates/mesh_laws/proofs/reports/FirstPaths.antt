@@ -12,9 +12,9 @@ use Rattle.mesh_rules.specs.LocalNodes.{LocalNode, fibre_in, leads, own_link}
 use Rattle.mesh_rules.specs.Paths.{PathRequest, admitted, at_egress, checks, first_failure, first_path, in_transit, is_active, judged, offered_labels, risks_here}
 use Rattle.mesh_rules.specs.State.{NodeState}
 use Rattle.mesh_nodes.proofs.Cases.{if_cases}
-use Rattle.mesh_laws.specs.ReportLaw.{is_standing}
-use Rattle.mesh_laws.proofs.hops.Tables.{leg_after}
-use Rattle.mesh_laws.proofs.nodes.PathKeeps.{none_fails}
+use Rattle.lsp_laws.specs.ReportLaw.{is_standing}
+use Rattle.lsp_laws.proofs.hops.Tables.{leg_after}
+use Rattle.lsp_laws.proofs.nodes.PathKeeps.{none_fails}
 
 -- What the rule of a first Path answers
 

@@ -21,21 +21,21 @@ use Rattle.mesh_nodes.specs.Routes.{AreRowsOf}
 use Rattle.mesh_nodes.proofs.Cases.{both_right}
 use Rattle.mesh_nodes.proofs.LearnsNothing.{message-keeps_down}
 use Rattle.mesh_nodes.proofs.LegList.{same_lsp-refl}
-use Rattle.mesh_laws.specs.HopLaw.{leg_at, mail_between, messages_of, notices_between}
-use Rattle.mesh_laws.specs.HopShapes.{NoLeg, PlainPath, Shape, leg_kind, msg_kind, path_kind}
-use Rattle.mesh_laws.specs.ReportLaw.{is_standing, on_the_way, reports_of, told, told_by_all}
-use Rattle.mesh_laws.proofs.hops.Chain.{IsVacant, below_or_not, is_or_not}
-use Rattle.mesh_laws.proofs.hops.OtherLsps.{sent-plain}
-use Rattle.mesh_laws.proofs.hops.Own.{own-leg_part}
-use Rattle.mesh_laws.proofs.hops.PathRule as path_rule
-use Rattle.mesh_laws.proofs.hops.Planned.{Planned, Routes}
-use Rattle.mesh_laws.proofs.hops.Plans.{Leads, Plan, distinct, fibre_at, hops, link_at, node_at, own_far}
-use Rattle.mesh_laws.proofs.hops.Purposes.{Purpose, has_path, plain_inactive, role_of}
-use Rattle.mesh_laws.proofs.hops.PathTaken.{first_taken}
-use Rattle.mesh_laws.proofs.hops.Sending.{elsewhere-taken, left-taken}
-use Rattle.mesh_laws.proofs.hops.Tables.{leg_after}
-use Rattle.mesh_laws.proofs.hops.Taken.{down_hop}
-use Rattle.mesh_laws.proofs.hops.Views.{leg-here, leg-there, notices-plain, notices-without}
+use Rattle.lsp_laws.specs.HopLaw.{leg_at, mail_between, messages_of, notices_between}
+use Rattle.lsp_laws.specs.HopShapes.{NoLeg, PlainPath, Shape, leg_kind, msg_kind, path_kind}
+use Rattle.lsp_laws.specs.ReportLaw.{is_standing, on_the_way, reports_of, told, told_by_all}
+use Rattle.lsp_laws.proofs.hops.Chain.{IsVacant, below_or_not, is_or_not}
+use Rattle.lsp_laws.proofs.hops.OtherLsps.{sent-plain}
+use Rattle.lsp_laws.proofs.hops.Own.{own-leg_part}
+use Rattle.lsp_laws.proofs.hops.PathRule as path_rule
+use Rattle.lsp_laws.proofs.hops.Planned.{Planned, Routes}
+use Rattle.lsp_laws.proofs.hops.Plans.{Leads, Plan, distinct, fibre_at, hops, link_at, node_at, own_far}
+use Rattle.lsp_laws.proofs.hops.Purposes.{Purpose, has_path, plain_inactive, role_of}
+use Rattle.lsp_laws.proofs.hops.PathTaken.{first_taken}
+use Rattle.lsp_laws.proofs.hops.Sending.{elsewhere-taken, left-taken}
+use Rattle.lsp_laws.proofs.hops.Tables.{leg_after}
+use Rattle.lsp_laws.proofs.hops.Taken.{down_hop}
+use Rattle.lsp_laws.proofs.hops.Views.{leg-here, leg-there, notices-plain, notices-without}
 use Rattle.mesh_laws.proofs.reports.Desks.{same-down}
 use Rattle.mesh_laws.proofs.reports.FirstPaths.{clear-first_path, no_calls-first_path}
 use Rattle.mesh_laws.proofs.reports.GentleWords.{CallOf, IsUnreached, PlaceTold, RouteTold, Stands, Untold, has_plain, is_first, is_waiting, line_at}

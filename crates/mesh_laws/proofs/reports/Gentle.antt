@@ -18,10 +18,10 @@ use Rattle.mesh_rules.specs.Legs.{find_leg}
 use Rattle.mesh_rules.specs.Machine.{Mesh, commit, sent_to, without_first}
 use Rattle.mesh_nodes.proofs.CallList.{found-number}
 use Rattle.mesh_nodes.proofs.Cases.{both_left, both_right}
-use Rattle.mesh_laws.specs.HopLaw.{is_message_of, is_notice, is_notice_of, leg_at, lsp_of, mail_between, messages_of, notices_between, notices_of}
-use Rattle.mesh_laws.specs.ReportLaw.{is_standing, reports_of}
-use Rattle.mesh_laws.proofs.hops.Tables.{find-changed, leg_after}
-use Rattle.mesh_laws.proofs.hops.Views.{leg-here, notices-without}
+use Rattle.lsp_laws.specs.HopLaw.{is_message_of, is_notice, is_notice_of, leg_at, lsp_of, mail_between, messages_of, notices_between, notices_of}
+use Rattle.lsp_laws.specs.ReportLaw.{is_standing, reports_of}
+use Rattle.lsp_laws.proofs.hops.Tables.{find-changed, leg_after}
+use Rattle.lsp_laws.proofs.hops.Views.{leg-here, notices-without}
 use Rattle.mesh_laws.proofs.reports.Desks.{same-down}
 use Rattle.mesh_laws.proofs.reports.GentleWords.{CallOf, Gentle, IsGentle, LegKeeps, NoneOf, Still, has_plain, is_first, is_plain, is_waiting}
 

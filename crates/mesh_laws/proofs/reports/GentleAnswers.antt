@@ -33,9 +33,9 @@ use Rattle.mesh_rules.specs.Paths.{is_active}
 use Rattle.mesh_rules.specs.State.{NodeState}
 use Rattle.mesh_rules.specs.Turns.{activating, activating_path, arms, call_put, decide, decided, disarms, go_back, has_any, taking_back, taking_path, turn}
 use Rattle.mesh_nodes.proofs.Cases.{if_cases}
-use Rattle.mesh_laws.specs.HopLaw.{is_notice}
-use Rattle.mesh_laws.specs.ReportLaw.{reports_of}
-use Rattle.mesh_laws.proofs.hops.Tables.{leg_after}
+use Rattle.lsp_laws.specs.HopLaw.{is_notice}
+use Rattle.lsp_laws.specs.ReportLaw.{reports_of}
+use Rattle.lsp_laws.proofs.hops.Tables.{leg_after}
 use Rattle.mesh_laws.proofs.reports.GentleWords.{AllMild, CallsKeep, IsGentle, NoneOf, is_plain, is_waiting}
 use Rattle.mesh_laws.proofs.reports.AnswerParts.{RepKeeps, calls-gentle, mild-gentle, put-call, put-leg}
 

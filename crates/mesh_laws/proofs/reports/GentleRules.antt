@@ -38,7 +38,7 @@ use Rattle.mesh_rules.specs.Tears.{tear_with, torn}
 use Rattle.mesh_nodes.proofs.CallList.{called-names}
 use Rattle.mesh_nodes.proofs.Cases.{both_left, both_right, if_cases, not-true}
 use Rattle.mesh_nodes.proofs.LegList.{find-with_leg, same_lsp-refl}
-use Rattle.mesh_laws.proofs.nodes.Facts.{NodeFacts}
+use Rattle.lsp_laws.proofs.nodes.Facts.{NodeFacts}
 use Rattle.mesh_laws.proofs.reports.GentleWords.{AllMild, IsGentle, IsMild}
 use Rattle.mesh_laws.proofs.reports.AnswerParts.{both-gentle, mild-gentle, nothing-gentle, other-leg, put-leg, puts-gentle, removes-gentle, same-calls, sends-gentle}
 use Rattle.mesh_laws.proofs.reports.GentleAnswers.{taken_on-active, taken_on-quiet, used-stands}

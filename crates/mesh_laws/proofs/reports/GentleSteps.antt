@@ -47,11 +47,11 @@ use Rattle.mesh_rules.specs.Turns.{has_any}
 use Rattle.mesh_nodes.proofs.CallList.{found-number}
 use Rattle.mesh_nodes.proofs.Cases.{if_cases}
 use Rattle.mesh_nodes.proofs.LegList.{find-with_leg, found-lsp, same_lsp-eq}
-use Rattle.mesh_laws.specs.CallLaw.{FitsLegs}
-use Rattle.mesh_laws.specs.HopLaw.{is_notice_of, lsp_of}
-use Rattle.mesh_laws.proofs.nodes.BackLabels.{closed-closing}
-use Rattle.mesh_laws.proofs.nodes.CallParts.{named-lsp}
-use Rattle.mesh_laws.proofs.nodes.Facts.{NodeFacts}
+use Rattle.lsp_laws.specs.CallLaw.{FitsLegs}
+use Rattle.lsp_laws.specs.HopLaw.{is_notice_of, lsp_of}
+use Rattle.lsp_laws.proofs.nodes.BackLabels.{closed-closing}
+use Rattle.lsp_laws.proofs.nodes.CallParts.{named-lsp}
+use Rattle.lsp_laws.proofs.nodes.Facts.{NodeFacts}
 use Rattle.mesh_laws.proofs.reports.GentleWords.{AllMild, IsGentle, LegKeeps, is_plain}
 use Rattle.mesh_laws.proofs.reports.AnswerParts.{both-gentle, calls-gentle, goes-call, mild-gentle, nothing-gentle, put-other, same-calls}
 use Rattle.mesh_laws.proofs.reports.GentleAnswers.{asks-gentle, go_back-gentle, pair-gentle, turn-gentle}

@@ -20,10 +20,10 @@ use Rattle.mesh_rules.specs.Legs.{find_leg, is_asked}
 use Rattle.mesh_rules.specs.Machine.{Mesh}
 use Rattle.mesh_rules.specs.Paths.{is_active}
 use Rattle.mesh_rules.specs.State.{NodeState}
-use Rattle.mesh_laws.specs.HopLaw.{is_notice, leg_at, lsp_of, mail_between, notices_between}
-use Rattle.mesh_laws.specs.ReportLaw.{is_standing, on_the_way, reports_of, told, told_by_all}
-use Rattle.mesh_laws.proofs.hops.Plans.{Plan, fibre_at, hops, link_at, node_at}
-use Rattle.mesh_laws.proofs.hops.Tables.{leg_after}
+use Rattle.lsp_laws.specs.HopLaw.{is_notice, leg_at, lsp_of, mail_between, notices_between}
+use Rattle.lsp_laws.specs.ReportLaw.{is_standing, on_the_way, reports_of, told, told_by_all}
+use Rattle.lsp_laws.proofs.hops.Plans.{Plan, fibre_at, hops, link_at, node_at}
+use Rattle.lsp_laws.proofs.hops.Tables.{leg_after}
 
 -- What is carried
 

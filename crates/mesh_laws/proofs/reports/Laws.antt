@@ -22,15 +22,15 @@ use Rattle.mesh_rules.specs.Legs.{is_closing}
 use Rattle.mesh_rules.specs.LocalNodes.{fibre_in}
 use Rattle.mesh_rules.specs.Machine.{Mesh, start}
 use Rattle.mesh_nodes.proofs.CallList.{called-found, called-names, not_called}
-use Rattle.mesh_laws.specs.HopLaw.{leg_at, notices_between}
-use Rattle.mesh_laws.specs.ReportLaw.{EveryReportTellsFailures, PlaceTells, RouteTells, StandsTo, is_reported, is_standing, on_the_way, place_at, reports_of, told, told_over}
-use Rattle.mesh_laws.proofs.nodes.Facts.{MeshFacts}
-use Rattle.mesh_laws.proofs.nodes.Runs.{facts-hold, facts-start}
-use Rattle.mesh_laws.proofs.hops.Chain.{LegFits}
-use Rattle.mesh_laws.proofs.hops.Laws.{follows}
-use Rattle.mesh_laws.proofs.hops.Planned.{Follows, Planned, Routes}
-use Rattle.mesh_laws.proofs.hops.Plans.{Plan, fibre_at, fibre_in_is, found_id, hops, link_at, node_at, plan}
-use Rattle.mesh_laws.proofs.hops.Purposes.{Purpose}
+use Rattle.lsp_laws.specs.HopLaw.{leg_at, notices_between}
+use Rattle.lsp_laws.specs.ReportLaw.{EveryReportTellsFailures, PlaceTells, RouteTells, StandsTo, is_reported, is_standing, on_the_way, place_at, reports_of, told, told_over}
+use Rattle.lsp_laws.proofs.nodes.Facts.{MeshFacts}
+use Rattle.lsp_laws.proofs.nodes.Runs.{facts-hold, facts-start}
+use Rattle.lsp_laws.proofs.hops.Chain.{LegFits}
+use Rattle.lsp_laws.proofs.hops.Laws.{follows}
+use Rattle.lsp_laws.proofs.hops.Planned.{Follows, Planned, Routes}
+use Rattle.lsp_laws.proofs.hops.Plans.{Plan, fibre_at, fibre_in_is, found_id, hops, link_at, node_at, plan}
+use Rattle.lsp_laws.proofs.hops.Purposes.{Purpose}
 use Rattle.mesh_laws.proofs.reports.GentleWords.{CallOf, RouteTold, Stands, line_at}
 use Rattle.mesh_laws.proofs.reports.OwnNotices.{LowFirst}
 use Rattle.mesh_laws.proofs.reports.Runs.{told-run}

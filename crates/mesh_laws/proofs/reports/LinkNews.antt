@@ -13,7 +13,7 @@ use Rattle.mesh_rules.specs.Failures.{changed_news, is_cut, link_news, news, new
 use Rattle.mesh_rules.specs.LocalNodes.{fibre_in}
 use Rattle.mesh_rules.proofs.Topologies.{Rises}
 use Rattle.mesh_nodes.proofs.Cases.{if_cases}
-use Rattle.mesh_laws.specs.ReportLaw.{after_item, after_items}
+use Rattle.lsp_laws.specs.ReportLaw.{after_item, after_items}
 use Rattle.mesh_laws.proofs.reports.KnownFibres.{same_bool-is}
 use Rattle.mesh_laws.proofs.reports.OwnLinks.{above-all}
 

@@ -42,7 +42,7 @@ use Rattle.mesh_rules.specs.Turns.{has_any}
 use Rattle.mesh_nodes.specs.Order.{CallsRise}
 use Rattle.mesh_nodes.proofs.CallList.{find-without_call, found-number}
 use Rattle.mesh_nodes.proofs.Cases.{if_cases}
-use Rattle.mesh_laws.specs.ReportLaw.{reports_of}
+use Rattle.lsp_laws.specs.ReportLaw.{reports_of}
 use Rattle.mesh_laws.proofs.reports.Reported.{go_back-puts, turn-puts}
 use Rattle.mesh_laws.proofs.reports.NewParts.{AreNew, IsNew, new-from, new-none, new-put, pair-new}
 

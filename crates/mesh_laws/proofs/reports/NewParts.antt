@@ -29,7 +29,7 @@ use Rattle.mesh_rules.specs.Turns.{decide}
 use Rattle.mesh_nodes.specs.Order.{CallsRise}
 use Rattle.mesh_nodes.proofs.CallList.{called-found, find-with_call}
 use Rattle.mesh_nodes.proofs.Cases.{if_cases}
-use Rattle.mesh_laws.specs.ReportLaw.{reports_of}
+use Rattle.lsp_laws.specs.ReportLaw.{reports_of}
 use Rattle.mesh_laws.proofs.reports.Reported.{decide-puts}
 
 module _ (p : LocalNode) (s : NodeState) (rise : CallsRise s.calls) (l : Lsp)

@@ -10,19 +10,19 @@ use Rattle.ason_base.specs.declared.messages.Msg.{Msg}
 use Rattle.ason_base.specs.declared.messages.Msg.TheVariants.{Notify}
 use Rattle.ason_base.specs.declared.tables.CallRec.{CallRec}
 use Rattle.mesh_rules.specs.Machine.{Mesh, without_first}
-use Rattle.mesh_laws.specs.HopLaw.{notices_between}
-use Rattle.mesh_laws.specs.ReportLaw.{on_the_way, reports_of, told, told_by, told_by_all}
-use Rattle.mesh_laws.proofs.hops.Chain.{is_or_not}
-use Rattle.mesh_laws.proofs.hops.Planned.{Planned, Routes}
-use Rattle.mesh_laws.proofs.hops.Plans.{Plan, fibre_at, hops, link_at, node_at}
-use Rattle.mesh_laws.proofs.hops.Purposes.{Purpose}
+use Rattle.lsp_laws.specs.HopLaw.{notices_between}
+use Rattle.lsp_laws.specs.ReportLaw.{on_the_way, reports_of, told, told_by, told_by_all}
+use Rattle.lsp_laws.proofs.hops.Chain.{is_or_not}
+use Rattle.lsp_laws.proofs.hops.Planned.{Planned, Routes}
+use Rattle.lsp_laws.proofs.hops.Plans.{Plan, fibre_at, hops, link_at, node_at}
+use Rattle.lsp_laws.proofs.hops.Purposes.{Purpose}
+use Rattle.lsp_laws.proofs.hops.Notices.{ComesUp}
 use Rattle.mesh_laws.proofs.reports.GentleWords.{CallOf, RouteTold, Still, line_at, still-then}
 use Rattle.mesh_laws.proofs.reports.Gentle.{taken-still}
 use Rattle.mesh_laws.proofs.reports.KnownFibres.{same_fibre-refl}
 use Rattle.mesh_laws.proofs.reports.OnTheWay.{taken_first, told-append}
 use Rattle.mesh_laws.proofs.reports.Reported.{fibres-apart}
 use Rattle.mesh_laws.proofs.reports.NoticeTaken.{line-else, line-taken, none-before, says-none, says-own, up}
-use Rattle.mesh_laws.proofs.hops.Notices.{ComesUp}
 
 module _ (t : Network) (s : Mesh) (o : Routes) (d u : NodeId) (l : Lsp) (e : NodeId) (at : NodeId) (k : LinkId)
     (code : ErrCode) (rest : List Msg) (was : s.mail u.0 d.0 ≡ Notify l e at k code ∷ rest) (q : Purpose) (p : Plan)

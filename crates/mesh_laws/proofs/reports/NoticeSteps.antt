@@ -17,19 +17,19 @@ use Rattle.mesh_rules.specs.Changes.{changed, sends, to_node}
 use Rattle.mesh_rules.specs.Legs.{find_leg}
 use Rattle.mesh_rules.specs.Machine.{Mesh, commit, sent_to, without_first}
 use Rattle.mesh_nodes.proofs.LegList.{same_lsp-refl}
-use Rattle.mesh_laws.specs.HopLaw.{leg_at, mail_between, messages_of, notices_between, notices_of}
-use Rattle.mesh_laws.specs.ReportLaw.{is_standing, on_the_way, reports_of, told, told_by, told_by_all}
-use Rattle.mesh_laws.proofs.hops.Chain.{below_or_not, is_or_not}
-use Rattle.mesh_laws.proofs.hops.Planned.{Planned, Routes}
-use Rattle.mesh_laws.proofs.hops.Plans.{Plan, distinct, fibre_at, hops, link_at, node_at, same, same_node}
-use Rattle.mesh_laws.proofs.hops.Purposes.{Purpose}
-use Rattle.mesh_laws.proofs.hops.Views.{notices-else, notices-from}
+use Rattle.lsp_laws.specs.HopLaw.{leg_at, mail_between, messages_of, notices_between, notices_of}
+use Rattle.lsp_laws.specs.ReportLaw.{is_standing, on_the_way, reports_of, told, told_by, told_by_all}
+use Rattle.lsp_laws.proofs.hops.Chain.{below_or_not, is_or_not}
+use Rattle.lsp_laws.proofs.hops.Planned.{Planned, Routes}
+use Rattle.lsp_laws.proofs.hops.Plans.{Plan, distinct, fibre_at, hops, link_at, node_at, same, same_node}
+use Rattle.lsp_laws.proofs.hops.Purposes.{Purpose}
+use Rattle.lsp_laws.proofs.hops.Views.{notices-else, notices-from}
+use Rattle.lsp_laws.proofs.hops.Notices.{ComesUp}
 use Rattle.mesh_laws.proofs.reports.Alarmed.{told-all-append}
 use Rattle.mesh_laws.proofs.reports.GentleWords.{CallOf, RouteTold, Still, Untold, has_plain, is_waiting, line_at, still-then}
 use Rattle.mesh_laws.proofs.reports.Gentle.{taken-still}
 use Rattle.mesh_laws.proofs.reports.OnTheWay.{passed_on, same_lines}
 use Rattle.mesh_laws.proofs.reports.NoticeTaken.{line-else, line-taken, none-before, says-none, up}
-use Rattle.mesh_laws.proofs.hops.Notices.{ComesUp}
 
 module _ (t : Network) (s : Mesh) (o : Routes) (d u : NodeId) (l : Lsp) (e : NodeId) (at : NodeId) (k : LinkId)
     (code : ErrCode) (rest : List Msg) (was : s.mail u.0 d.0 ≡ Notify l e at k code ∷ rest) (q : Purpose) (p : Plan)

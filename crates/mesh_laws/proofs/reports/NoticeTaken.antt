@@ -12,13 +12,13 @@ use Rattle.ason_base.specs.declared.messages.Msg.TheVariants.{Notify}
 use Rattle.ason_base.specs.declared.tables.CallRec.{CallRec}
 use Rattle.mesh_rules.specs.Machine.{Mesh, without_first}
 use Rattle.mesh_nodes.proofs.LegList.{same_lsp-refl}
-use Rattle.mesh_laws.specs.HopLaw.{notices_between, notices_of}
-use Rattle.mesh_laws.specs.ReportLaw.{on_the_way, reports_of, told, told_by, told_by_all}
-use Rattle.mesh_laws.proofs.hops.Chain.{below_or_not, is_or_not}
-use Rattle.mesh_laws.proofs.hops.Notices.{ComesUp}
-use Rattle.mesh_laws.proofs.hops.Planned.{Planned, Routes}
-use Rattle.mesh_laws.proofs.hops.Plans.{Plan, distinct, fibre_at, hops, link_at, node_at, other, same, same_node}
-use Rattle.mesh_laws.proofs.hops.Purposes.{Purpose}
+use Rattle.lsp_laws.specs.HopLaw.{notices_between, notices_of}
+use Rattle.lsp_laws.specs.ReportLaw.{on_the_way, reports_of, told, told_by, told_by_all}
+use Rattle.lsp_laws.proofs.hops.Chain.{below_or_not, is_or_not}
+use Rattle.lsp_laws.proofs.hops.Notices.{ComesUp}
+use Rattle.lsp_laws.proofs.hops.Planned.{Planned, Routes}
+use Rattle.lsp_laws.proofs.hops.Plans.{Plan, distinct, fibre_at, hops, link_at, node_at, other, same, same_node}
+use Rattle.lsp_laws.proofs.hops.Purposes.{Purpose}
 use Rattle.mesh_laws.proofs.reports.GentleWords.{PlaceTold, RouteTold, Stands, Untold, line_at}
 use Rattle.mesh_laws.proofs.reports.Gentle.{taken-still}
 use Rattle.mesh_laws.proofs.reports.OnTheWay.{same_lines}

@@ -2,8 +2,8 @@
 use Rattle.std.proofs.Common.{◌≡◌, ◌≢◌, ◌<◌, ◌≤◌, ℕ, zero, suc, Bool, List, [], ◌∷◌, ◌++◌, refl, sym, ap, ◌∙◌, arith, inl, inr}
 use Rattle.std.specs.Prelude.{◌⊎◌}
 use Rattle.std.proofs.lemmas.List.{append_assoc}
-use Rattle.mesh_laws.specs.ReportLaw.{on_the_way, told}
-use Rattle.mesh_laws.proofs.hops.Chain.{is_or_not}
+use Rattle.lsp_laws.specs.ReportLaw.{on_the_way, told}
+use Rattle.lsp_laws.proofs.hops.Chain.{is_or_not}
 
 pub told-last : (known x : Bool) (xs : List Bool) → told known (xs ++ x ∷ []) ≡ x
 told-last known x [] = refl

@@ -25,16 +25,16 @@ use Rattle.mesh_rules.specs.Reports.{call_reported, fibre_into, fibres_after, re
 use Rattle.mesh_rules.specs.State.{NodeState}
 use Rattle.mesh_rules.specs.Turns.{decide}
 use Rattle.mesh_nodes.proofs.CallList.{called-found, called-names, find-with_call, not_called}
-use Rattle.mesh_laws.specs.HopLaw.{leg_at}
-use Rattle.mesh_laws.specs.ReportLaw.{is_standing, reports_of}
-use Rattle.mesh_laws.proofs.nodes.Facts.{NodeFacts}
-use Rattle.mesh_laws.proofs.hops.Chain.{LegFits}
-use Rattle.mesh_laws.proofs.hops.LegChanges.{following_is, previous_is, previous_none}
-use Rattle.mesh_laws.proofs.hops.Paired.{along}
-use Rattle.mesh_laws.proofs.hops.Notices.{ComesUp}
-use Rattle.mesh_laws.proofs.hops.Planned.{Planned, Routes}
-use Rattle.mesh_laws.proofs.hops.Plans.{Plan, fibre_at, hops, link_at, node_at, plan, same, same_node}
-use Rattle.mesh_laws.proofs.hops.Purposes.{Purpose}
+use Rattle.lsp_laws.specs.HopLaw.{leg_at}
+use Rattle.lsp_laws.specs.ReportLaw.{is_standing, reports_of}
+use Rattle.lsp_laws.proofs.nodes.Facts.{NodeFacts}
+use Rattle.lsp_laws.proofs.hops.Chain.{LegFits}
+use Rattle.lsp_laws.proofs.hops.LegChanges.{following_is, previous_is, previous_none}
+use Rattle.lsp_laws.proofs.hops.Paired.{along}
+use Rattle.lsp_laws.proofs.hops.Notices.{ComesUp}
+use Rattle.lsp_laws.proofs.hops.Planned.{Planned, Routes}
+use Rattle.lsp_laws.proofs.hops.Plans.{Plan, fibre_at, hops, link_at, node_at, plan, same, same_node}
+use Rattle.lsp_laws.proofs.hops.Purposes.{Purpose}
 use Rattle.mesh_laws.proofs.reports.GentleWords.{CallOf, IsGentle, RouteTold, Still, gentle-told}
 use Rattle.mesh_laws.proofs.reports.Gentle.{commit-gentle, commit-still, notices-after}
 use Rattle.mesh_laws.proofs.reports.AnswerParts.{nothing-gentle}

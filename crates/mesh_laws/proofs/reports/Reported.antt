@@ -20,8 +20,8 @@ use Rattle.mesh_rules.specs.Changes.{Answer}
 use Rattle.mesh_rules.specs.Legs.{is_contended, is_held, is_in_use}
 use Rattle.mesh_rules.specs.Reports.{fibre_into, fibres_after, first_node, with_report}
 use Rattle.mesh_rules.specs.Turns.{decide, decided, go_back, has_any, turn}
-use Rattle.mesh_laws.specs.ReportLaw.{reports_of}
-use Rattle.mesh_laws.proofs.hops.Plans.{IsRoute, Plan, distinct, fibre_at, hops, is_high, link_at, node_at, plan}
+use Rattle.lsp_laws.specs.ReportLaw.{reports_of}
+use Rattle.lsp_laws.proofs.hops.Plans.{IsRoute, Plan, distinct, fibre_at, hops, is_high, link_at, node_at, plan}
 use Rattle.mesh_laws.proofs.reports.KnownFibres.{has-less, has-more, same_fibre-is}
 
 -- The sets

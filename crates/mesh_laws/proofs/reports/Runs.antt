@@ -22,19 +22,19 @@ use Rattle.mesh_rules.specs.LocalNodes.{local_node}
 use Rattle.mesh_rules.specs.Machine.{Mesh, commit, without_first, without_item}
 use Rattle.mesh_rules.specs.State.{NodeState}
 use Rattle.mesh_rules.specs.Waits.{on_tick}
-use Rattle.mesh_laws.specs.CallLaw.{FitsLegs}
-use Rattle.mesh_laws.specs.HopLaw.{is_notice_of, leg_at, notices_between, notices_of}
-use Rattle.mesh_laws.specs.ReportLaw.{reports_of, told_by_all}
-use Rattle.mesh_laws.proofs.nodes.CallParts.{named-by, named-lsp}
-use Rattle.mesh_laws.proofs.nodes.Facts.{MeshFacts}
-use Rattle.mesh_laws.proofs.nodes.Runs.{facts-step}
-use Rattle.mesh_laws.proofs.hops.Laws.{step_facts}
-use Rattle.mesh_laws.proofs.hops.Notices.{ComesUp}
-use Rattle.mesh_laws.proofs.hops.Planned.{Follows, IsUntouched, Planned, Routes, or_assoc, or_none}
-use Rattle.mesh_laws.proofs.hops.Plans.{Plan, distinct, fibre_at, hops, link_at, node_at, plan, same_node}
-use Rattle.mesh_laws.proofs.hops.Purposes.{Each, Purpose}
-use Rattle.mesh_laws.proofs.hops.Run.{Carried, step_carries, step_routes}
-use Rattle.mesh_laws.proofs.hops.Views.{leg-there, notices-else}
+use Rattle.lsp_laws.specs.CallLaw.{FitsLegs}
+use Rattle.lsp_laws.specs.HopLaw.{is_notice_of, leg_at, notices_between, notices_of}
+use Rattle.lsp_laws.specs.ReportLaw.{reports_of, told_by_all}
+use Rattle.lsp_laws.proofs.nodes.CallParts.{named-by, named-lsp}
+use Rattle.lsp_laws.proofs.nodes.Facts.{MeshFacts}
+use Rattle.lsp_laws.proofs.nodes.Runs.{facts-step}
+use Rattle.lsp_laws.proofs.hops.Laws.{step_facts}
+use Rattle.lsp_laws.proofs.hops.Notices.{ComesUp}
+use Rattle.lsp_laws.proofs.hops.Planned.{Follows, IsUntouched, Planned, Routes, or_assoc, or_none}
+use Rattle.lsp_laws.proofs.hops.Plans.{Plan, distinct, fibre_at, hops, link_at, node_at, plan, same_node}
+use Rattle.lsp_laws.proofs.hops.Purposes.{Each, Purpose}
+use Rattle.lsp_laws.proofs.hops.Run.{Carried, step_carries, step_routes}
+use Rattle.lsp_laws.proofs.hops.Views.{leg-there, notices-else}
 use Rattle.mesh_laws.proofs.reports.GentleWords.{CallOf, RouteTold}
 use Rattle.mesh_laws.proofs.reports.NewCalls.{first-new}
 use Rattle.mesh_laws.proofs.reports.NewOrders.{first_item-new}

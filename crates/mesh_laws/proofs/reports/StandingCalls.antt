@@ -19,9 +19,9 @@ use Rattle.mesh_rules.specs.State.{NodeState}
 use Rattle.mesh_rules.specs.Turns.{activating}
 use Rattle.mesh_nodes.proofs.CallList.{called-found}
 use Rattle.mesh_nodes.proofs.LegList.{found-lsp, same_lsp-eq}
-use Rattle.mesh_laws.specs.CallLaw.{FitsLegs}
-use Rattle.mesh_laws.proofs.nodes.CallParts.{named-lsp}
-use Rattle.mesh_laws.proofs.nodes.Facts.{NodeFacts}
+use Rattle.lsp_laws.specs.CallLaw.{FitsLegs}
+use Rattle.lsp_laws.proofs.nodes.CallParts.{named-lsp}
+use Rattle.lsp_laws.proofs.nodes.Facts.{NodeFacts}
 use Rattle.mesh_laws.proofs.reports.GentleWords.{AllMild}
 use Rattle.mesh_laws.proofs.reports.GentleAnswers.{IfStands}
 use Rattle.mesh_laws.proofs.reports.StoodLegs.{back-activates}

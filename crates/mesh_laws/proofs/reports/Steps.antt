@@ -35,16 +35,16 @@ use Rattle.mesh_rules.specs.State.{NodeState}
 use Rattle.mesh_rules.specs.Waits.{on_tick}
 use Rattle.mesh_nodes.proofs.Cases.{if_cases}
 use Rattle.mesh_nodes.proofs.LegList.{same_lsp-eq, same_lsp-refl}
-use Rattle.mesh_laws.specs.HopLaw.{is_notice_of, leg_at, lsp_of, mail_between, messages_of, notices_of}
-use Rattle.mesh_laws.specs.HopShapes.{PlainPath, path_kind}
-use Rattle.mesh_laws.specs.ReportLaw.{is_standing}
-use Rattle.mesh_laws.proofs.nodes.Facts.{MeshFacts}
-use Rattle.mesh_laws.proofs.hops.Chain.{OnRoute}
-use Rattle.mesh_laws.proofs.hops.Planned.{Planned, Routes}
-use Rattle.mesh_laws.proofs.hops.Plans.{Plan, hops, node_at, plan, same_node}
-use Rattle.mesh_laws.proofs.hops.Purposes.{Purpose, role_of}
-use Rattle.mesh_laws.proofs.hops.Rows.{no_path_up}
-use Rattle.mesh_laws.proofs.hops.Taken.{up_hop}
+use Rattle.lsp_laws.specs.HopLaw.{is_notice_of, leg_at, lsp_of, mail_between, messages_of, notices_of}
+use Rattle.lsp_laws.specs.HopShapes.{PlainPath, path_kind}
+use Rattle.lsp_laws.specs.ReportLaw.{is_standing}
+use Rattle.lsp_laws.proofs.nodes.Facts.{MeshFacts}
+use Rattle.lsp_laws.proofs.hops.Chain.{OnRoute}
+use Rattle.lsp_laws.proofs.hops.Planned.{Planned, Routes}
+use Rattle.lsp_laws.proofs.hops.Plans.{Plan, hops, node_at, plan, same_node}
+use Rattle.lsp_laws.proofs.hops.Purposes.{Purpose, role_of}
+use Rattle.lsp_laws.proofs.hops.Rows.{no_path_up}
+use Rattle.lsp_laws.proofs.hops.Taken.{up_hop}
 use Rattle.mesh_laws.proofs.reports.AlarmSteps.{on_alarm-told, on_clear-told}
 use Rattle.mesh_laws.proofs.reports.FirstSteps.{first_path-told}
 use Rattle.mesh_laws.proofs.reports.GentleWords.{Gentle, IsGentle, RouteTold, gentle-then, gentle-told, has_plain, is_plain, is_waiting}

@@ -27,8 +27,8 @@ use Rattle.mesh_rules.specs.State.{NodeState}
 use Rattle.mesh_rules.specs.Turns.{activating}
 use Rattle.mesh_nodes.proofs.Cases.{if_cases}
 use Rattle.mesh_nodes.proofs.LegList.{same_lsp-refl}
-use Rattle.mesh_laws.specs.ReportLaw.{reports_of}
-use Rattle.mesh_laws.proofs.nodes.CallParts.{lsp-is}
+use Rattle.lsp_laws.specs.ReportLaw.{reports_of}
+use Rattle.lsp_laws.proofs.nodes.CallParts.{lsp-is}
 use Rattle.mesh_laws.proofs.reports.GentleWords.{IsGentle}
 use Rattle.mesh_laws.proofs.reports.AnswerParts.{RepKeeps, nothing-gentle}
 use Rattle.mesh_laws.proofs.reports.GentleAnswers.{BackStands, IfStands, decide-gentle, leaves-gentle, pair-gentle, put-gentle}

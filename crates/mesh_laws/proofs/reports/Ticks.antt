@@ -20,10 +20,10 @@ use Rattle.mesh_rules.specs.Waits.{all_ticked, on_tick, ticked}
 use Rattle.mesh_nodes.proofs.CallList.{all-calls_found, find-with_call, found-number}
 use Rattle.mesh_nodes.proofs.Cases.{if_cases}
 use Rattle.mesh_nodes.proofs.LegList.{same_lsp-eq}
-use Rattle.mesh_laws.specs.HopLaw.{is_notice}
-use Rattle.mesh_laws.specs.ReportLaw.{is_standing, reports_of}
-use Rattle.mesh_laws.proofs.hops.Tables.{leg_after}
-use Rattle.mesh_laws.proofs.nodes.Facts.{NodeFacts}
+use Rattle.lsp_laws.specs.HopLaw.{is_notice}
+use Rattle.lsp_laws.specs.ReportLaw.{is_standing, reports_of}
+use Rattle.lsp_laws.proofs.hops.Tables.{leg_after}
+use Rattle.lsp_laws.proofs.nodes.Facts.{NodeFacts}
 use Rattle.mesh_laws.proofs.reports.GentleWords.{IsGentle, NoneOf, is_plain, is_waiting}
 use Rattle.mesh_laws.proofs.reports.AnswerParts.{after-both, both-none, calls-both}
 use Rattle.mesh_laws.proofs.reports.GentleAnswers.{IfStands, taken_on-active, taken_on-quiet, taking-is, used-stands}

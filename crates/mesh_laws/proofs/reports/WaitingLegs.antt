@@ -7,9 +7,9 @@ use Rattle.ason_base.specs.declared.messages.Msg.{Msg}
 use Rattle.ason_base.specs.declared.messages.Msg.TheVariants.{Path, Resv, PathTear, PathErr, Notify}
 use Rattle.ason_base.specs.declared.tables.Leg.{Leg}
 use Rattle.mesh_rules.specs.Legs.{is_asked, is_closing}
-use Rattle.mesh_laws.specs.HopShapes.{AskedLeg, ClosingLeg, leg_kind, phase_kind}
-use Rattle.mesh_laws.specs.ReportLaw.{is_standing, on_the_way}
-use Rattle.mesh_laws.proofs.hops.Purposes.{has_path}
+use Rattle.lsp_laws.specs.HopShapes.{AskedLeg, ClosingLeg, leg_kind, phase_kind}
+use Rattle.lsp_laws.specs.ReportLaw.{is_standing, on_the_way}
+use Rattle.lsp_laws.proofs.hops.Purposes.{has_path}
 use Rattle.mesh_laws.proofs.reports.GentleWords.{has_plain, is_waiting}
 
 -- where no line tells anything, nothing is on the way

@@ -21,16 +21,16 @@ use Rattle.mesh_rules.specs.Messages.{arrival}
 use Rattle.mesh_rules.specs.Machine.{Mesh, without_first}
 use Rattle.mesh_rules.specs.Paths.{PathRequest, path_with}
 use Rattle.mesh_rules.specs.Activations.{armed_on, busy_to, resv_to}
-use Rattle.mesh_laws.specs.HopLaw.{messages_of, leg_at, mail_between}
+use Rattle.lsp_laws.specs.HopLaw.{messages_of, leg_at, mail_between}
 use Rattle.mesh_nodes.proofs.Cases.{if_cases, both_left}
-use Rattle.mesh_laws.proofs.nodes.PhaseLegs.{held-is}
-use Rattle.mesh_laws.proofs.hops.Plans.{Plan, hops, fibre_at, node_at, IsRoute, distinct}
-use Rattle.mesh_laws.proofs.hops.PathTaken.{active_taken}
-use Rattle.mesh_laws.proofs.hops.Purposes.{Purpose, role_of}
-use Rattle.mesh_laws.proofs.hops.IdleHops.{no_kinds}
-use Rattle.mesh_laws.proofs.hops.Chain.{Chain, LegFits, Hop}
-use Rattle.mesh_laws.proofs.hops.LegChanges.{previous_is}
-use Rattle.mesh_laws.proofs.hops.Views.{leg-there}
+use Rattle.lsp_laws.proofs.nodes.PhaseLegs.{held-is}
+use Rattle.lsp_laws.proofs.hops.Plans.{Plan, hops, fibre_at, node_at, IsRoute, distinct}
+use Rattle.lsp_laws.proofs.hops.PathTaken.{active_taken}
+use Rattle.lsp_laws.proofs.hops.Purposes.{Purpose, role_of}
+use Rattle.lsp_laws.proofs.hops.IdleHops.{no_kinds}
+use Rattle.lsp_laws.proofs.hops.Chain.{Chain, LegFits, Hop}
+use Rattle.lsp_laws.proofs.hops.LegChanges.{previous_is}
+use Rattle.lsp_laws.proofs.hops.Views.{leg-there}
 use Rattle.mesh_laws.specs.Weights.{Routes, hops_back}
 use Rattle.mesh_laws.proofs.rest.Committed.{taken_mesh}
 use Rattle.mesh_laws.proofs.rest.RowKinds.{held-none_up}

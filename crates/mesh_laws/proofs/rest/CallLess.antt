@@ -6,8 +6,8 @@ use Rattle.ason_base.specs.declared.messages.Msg.{Msg}
 use Rattle.mesh_rules.specs.Changes.{Answer}
 use Rattle.mesh_rules.specs.LocalNodes.{local_node}
 use Rattle.mesh_rules.specs.Machine.{Mesh}
-use Rattle.mesh_laws.proofs.hops.InParts.{leg_part}
-use Rattle.mesh_laws.proofs.hops.TakenSteps.{after_leg}
+use Rattle.lsp_laws.proofs.hops.InParts.{leg_part}
+use Rattle.lsp_laws.proofs.hops.TakenSteps.{after_leg}
 use Rattle.mesh_laws.specs.Weights.{Routes, weight}
 use Rattle.mesh_laws.proofs.rest.Committed.{sent_weight}
 use Rattle.mesh_laws.proofs.rest.Expanded.{Expands}

@@ -23,20 +23,20 @@ use Rattle.mesh_rules.specs.Messages.{arrival}
 use Rattle.mesh_rules.specs.PathErrs.{PathFailure}
 use Rattle.mesh_rules.specs.Resvs.{is_expected}
 use Rattle.mesh_rules.specs.State.{NodeState}
-use Rattle.mesh_laws.specs.HopLaw.{is_notice, leg_at}
+use Rattle.lsp_laws.specs.HopLaw.{is_notice, leg_at}
 use Rattle.mesh_nodes.specs.Routes.{AreRowsOf}
 use Rattle.mesh_nodes.proofs.Cases.{both_left, if_cases}
 use Rattle.mesh_nodes.proofs.LegList.{found-lsp, same_lsp-refl}
-use Rattle.mesh_laws.proofs.nodes.PhaseLegs.{armed-is}
-use Rattle.mesh_laws.proofs.hops.InParts.{at_ingress, call_of_err, call_of_failure, call_of_resv, leg_of_resv, leg_part}
-use Rattle.mesh_laws.proofs.hops.NoticeRule.{notice_only}
-use Rattle.mesh_laws.proofs.hops.Paired.{CallsMayPair, armed_backup, no_previous}
-use Rattle.mesh_laws.proofs.hops.Planned.{EachFollows, next_same}
-use Rattle.mesh_laws.proofs.hops.Own.{own-leg_part}
-use Rattle.mesh_laws.proofs.hops.Tables.{leg_after}
-use Rattle.mesh_laws.proofs.hops.TakenSteps.{CallsBackHere, after_leg}
-use Rattle.mesh_laws.proofs.hops.Traced.{leg_follows}
-use Rattle.mesh_laws.proofs.hops.Views.{leg-here}
+use Rattle.lsp_laws.proofs.nodes.PhaseLegs.{armed-is}
+use Rattle.lsp_laws.proofs.hops.InParts.{at_ingress, call_of_err, call_of_failure, call_of_resv, leg_of_resv, leg_part}
+use Rattle.lsp_laws.proofs.hops.NoticeRule.{notice_only}
+use Rattle.lsp_laws.proofs.hops.Paired.{CallsMayPair, armed_backup, no_previous}
+use Rattle.lsp_laws.proofs.hops.Planned.{EachFollows, next_same}
+use Rattle.lsp_laws.proofs.hops.Own.{own-leg_part}
+use Rattle.lsp_laws.proofs.hops.Tables.{leg_after}
+use Rattle.lsp_laws.proofs.hops.TakenSteps.{CallsBackHere, after_leg}
+use Rattle.lsp_laws.proofs.hops.Traced.{leg_follows}
+use Rattle.lsp_laws.proofs.hops.Views.{leg-here}
 use Rattle.mesh_laws.specs.Weights.{Routes, hops_back, phase_weight, weight}
 use Rattle.mesh_laws.proofs.rest.CallRests.{answered-expand, contended-expand, none-expand, refused-expand, turned-expand}
 use Rattle.mesh_laws.proofs.rest.Committed.{sent_weight}

@@ -27,12 +27,12 @@ use Rattle.mesh_rules.specs.Machine.{Mesh}
 use Rattle.mesh_rules.specs.Pairs.{admitted_backup, backup_lsp, backup_route, beside_lsp, guarding, is_two_way, leaves_bare, over_backup, pair, pair_over, route_from}
 use Rattle.mesh_rules.specs.State.{NodeState}
 use Rattle.mesh_rules.specs.Turns.{activating_path, arms, call_put, decide, decided, disarms, go_back, has_any, taking_path, turn}
-use Rattle.mesh_laws.specs.HopLaw.{leg_at}
+use Rattle.lsp_laws.specs.HopLaw.{leg_at}
 use Rattle.mesh_nodes.proofs.Cases.{if_cases}
-use Rattle.mesh_laws.proofs.hops.Moved.{BeginsHere}
-use Rattle.mesh_laws.proofs.hops.Own.{AllSent}
-use Rattle.mesh_laws.proofs.hops.Planned.{EachFollows, Follows, or_none}
-use Rattle.mesh_laws.proofs.hops.Turned.{BackFits, BackStands}
+use Rattle.lsp_laws.proofs.hops.Moved.{BeginsHere}
+use Rattle.lsp_laws.proofs.hops.Own.{AllSent}
+use Rattle.lsp_laws.proofs.hops.Planned.{EachFollows, Follows, or_none}
+use Rattle.lsp_laws.proofs.hops.Turned.{BackFits, BackStands}
 use Rattle.mesh_laws.specs.Weights.{Routes}
 use Rattle.mesh_laws.proofs.rest.BeginRests.{new-blank}
 use Rattle.mesh_laws.proofs.rest.Expanded.{Expands, IsKnown, begins-expand, expands-known, expands-more, expands-quiet, first-short, known-of}

@@ -14,18 +14,18 @@ use Rattle.ason_base.specs.declared.tables.Leg.{Leg}
 use Rattle.mesh_rules.specs.Changes.{Answer, nothing}
 use Rattle.mesh_rules.specs.Legs.{following, is_armed, is_asked, is_closing, is_node, previous, with_phase}
 use Rattle.mesh_rules.specs.Machine.{Mesh, without_first}
-use Rattle.mesh_laws.specs.HopLaw.{messages_of, leg_at, mail_between}
+use Rattle.lsp_laws.specs.HopLaw.{messages_of, leg_at, mail_between}
 use Rattle.mesh_nodes.proofs.LegList.{same_lsp-refl, found-lsp}
 use Rattle.mesh_nodes.proofs.Cases.{if_cases}
-use Rattle.mesh_laws.proofs.hops.Plans.{Plan, hops, node_at, IsRoute}
-use Rattle.mesh_laws.proofs.hops.AnswersTaken.{asked_answers, torn_leaves}
-use Rattle.mesh_laws.proofs.hops.Purposes.{Purpose, role_of, has_path}
-use Rattle.mesh_laws.proofs.hops.IdleHops.{no_path_down}
-use Rattle.mesh_laws.proofs.hops.Chain.{Chain, LegFits, Hop}
-use Rattle.mesh_laws.proofs.hops.LegChanges.{torn_of}
+use Rattle.lsp_laws.proofs.hops.Plans.{Plan, hops, node_at, IsRoute}
+use Rattle.lsp_laws.proofs.hops.AnswersTaken.{asked_answers, torn_leaves}
+use Rattle.lsp_laws.proofs.hops.Purposes.{Purpose, role_of, has_path}
+use Rattle.lsp_laws.proofs.hops.IdleHops.{no_path_down}
+use Rattle.lsp_laws.proofs.hops.Chain.{Chain, LegFits, Hop}
+use Rattle.lsp_laws.proofs.hops.LegChanges.{torn_of}
 use Rattle.mesh_rules.specs.PathErrs.{PathFailure}
-use Rattle.mesh_laws.proofs.hops.InParts.{leg_of_err, leg_failed, leg_removed, leg_refused, leg_disarmed}
-use Rattle.mesh_laws.proofs.hops.Taken.{up_hop}
+use Rattle.lsp_laws.proofs.hops.InParts.{leg_of_err, leg_failed, leg_removed, leg_refused, leg_disarmed}
+use Rattle.lsp_laws.proofs.hops.Taken.{up_hop}
 use Rattle.mesh_laws.specs.Weights.{Routes, hops_back}
 use Rattle.mesh_laws.proofs.rest.Places.{place-is}
 use Rattle.mesh_laws.proofs.rest.RowKinds.{no-way_up, path-kinds}

@@ -16,10 +16,10 @@ use Rattle.mesh_rules.specs.LocalNodes.{LocalNode, local_node, own_link}
 use Rattle.mesh_rules.specs.Machine.{Mesh, commit}
 use Rattle.mesh_rules.specs.State.{NodeState}
 use Rattle.mesh_nodes.proofs.LegList.{same_lsp-eq}
-use Rattle.mesh_laws.proofs.hops.Stepped.{grown}
-use Rattle.mesh_laws.proofs.hops.OtherLsps.{route-other}
-use Rattle.mesh_laws.proofs.hops.Own.{AllSent, IsQuiet}
-use Rattle.mesh_laws.proofs.hops.Planned.{IsUntouched, or_none}
+use Rattle.lsp_laws.proofs.hops.Stepped.{grown}
+use Rattle.lsp_laws.proofs.hops.OtherLsps.{route-other}
+use Rattle.lsp_laws.proofs.hops.Own.{AllSent, IsQuiet}
+use Rattle.lsp_laws.proofs.hops.Planned.{IsUntouched, or_none}
 use Rattle.mesh_laws.specs.Weights.{Routes, path_weight}
 use Rattle.mesh_laws.specs.Work.{WorkIsWithin}
 use Rattle.mesh_laws.proofs.rest.BeginRests.{begins-grow, known-else}

@@ -21,13 +21,13 @@ use Rattle.mesh_rules.specs.Orders.{on_item}
 use Rattle.mesh_rules.specs.Waits.{on_tick}
 use Rattle.mesh_nodes.specs.Kept.{NodeFits}
 use Rattle.mesh_nodes.proofs.CallList.{all-calls_found}
-use Rattle.mesh_laws.proofs.nodes.Facts.{MeshFacts}
-use Rattle.mesh_laws.proofs.hops.Stepped.{grown}
-use Rattle.mesh_laws.proofs.hops.Laws.{step_facts}
-use Rattle.mesh_laws.proofs.hops.Planned.{or_none}
-use Rattle.mesh_laws.proofs.hops.Run.{Carried, StepFacts, backs_here, calls_may_pair, link_quiet, step_routes}
-use Rattle.mesh_laws.proofs.hops.Ticked.{all_ticked_stays}
-use Rattle.mesh_laws.proofs.hops.Turned.{BackFits}
+use Rattle.lsp_laws.proofs.nodes.Facts.{MeshFacts}
+use Rattle.lsp_laws.proofs.hops.Stepped.{grown}
+use Rattle.lsp_laws.proofs.hops.Laws.{step_facts}
+use Rattle.lsp_laws.proofs.hops.Planned.{or_none}
+use Rattle.lsp_laws.proofs.hops.Run.{Carried, StepFacts, backs_here, calls_may_pair, link_quiet, step_routes}
+use Rattle.lsp_laws.proofs.hops.Ticked.{all_ticked_stays}
+use Rattle.lsp_laws.proofs.hops.Turned.{BackFits}
 use Rattle.mesh_laws.specs.Weights.{Routes}
 use Rattle.mesh_laws.specs.Work.{WorkIsWithin}
 use Rattle.mesh_laws.specs.RestLaw.{adds, handles}

@@ -40,15 +40,15 @@ use Rattle.mesh_rules.specs.Setups.{SetupRequest, admitted_setup, call_record, i
 use Rattle.mesh_rules.specs.State.{NodeState}
 use Rattle.mesh_rules.specs.Turns.{has_any}
 use Rattle.mesh_rules.proofs.Conjunctions.{and_first, and_second}
-use Rattle.mesh_laws.specs.HopLaw.{leg_at, messages_of}
+use Rattle.lsp_laws.specs.HopLaw.{leg_at, messages_of}
 use Rattle.mesh_nodes.proofs.Cases.{if_cases}
 use Rattle.mesh_nodes.proofs.LegList.{same_lsp-refl}
-use Rattle.mesh_laws.proofs.hops.NoticesTold.{all_notices, notifies-begin_none}
-use Rattle.mesh_laws.proofs.hops.Planned.{EachFollows, or_none}
-use Rattle.mesh_laws.proofs.hops.Released.{own_tears}
-use Rattle.mesh_laws.proofs.hops.Run.{ItemFits, StepFacts}
-use Rattle.mesh_laws.proofs.hops.Ticked.{turned_is}
-use Rattle.mesh_laws.proofs.hops.Views.{leg-here}
+use Rattle.lsp_laws.proofs.hops.NoticesTold.{all_notices, notifies-begin_none}
+use Rattle.lsp_laws.proofs.hops.Planned.{EachFollows, or_none}
+use Rattle.lsp_laws.proofs.hops.Released.{own_tears}
+use Rattle.lsp_laws.proofs.hops.Run.{ItemFits, StepFacts}
+use Rattle.lsp_laws.proofs.hops.Ticked.{turned_is}
+use Rattle.lsp_laws.proofs.hops.Views.{leg-here}
 use Rattle.ason_base.specs.Codes.{fibre_down_code, fibre_up_code, label_code}
 use Rattle.ason_base.specs.Lsps.{has_fibre}
 use Rattle.ason_base.specs.declared.codes.ErrCode.{ErrCode}

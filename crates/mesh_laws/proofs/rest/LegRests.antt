@@ -16,17 +16,17 @@ use Rattle.mesh_rules.specs.LocalNodes.{local_node, own_link}
 use Rattle.mesh_rules.specs.Machine.{Mesh}
 use Rattle.mesh_rules.specs.Messages.{arrival}
 use Rattle.mesh_rules.specs.Paths.{path_with}
-use Rattle.mesh_laws.specs.HopLaw.{is_message_of, is_notice, leg_at, lsp_of, mail_between, messages_of, notices_between, notices_of}
+use Rattle.lsp_laws.specs.HopLaw.{is_message_of, is_notice, leg_at, lsp_of, mail_between, messages_of, notices_between, notices_of}
 use Rattle.mesh_nodes.proofs.LegList.{same_lsp-refl}
-use Rattle.mesh_laws.proofs.hops.Chain.{OnRoute}
-use Rattle.mesh_laws.proofs.hops.InParts.{leg_part}
-use Rattle.mesh_laws.proofs.hops.Notices.{ComesUp}
-use Rattle.mesh_laws.proofs.hops.Own.{Own, own-leg_part}
-use Rattle.mesh_laws.proofs.hops.Planned.{EachFollows, Follows, Planned}
-use Rattle.mesh_laws.proofs.hops.Plans.{Plan, hops, node_at, plan, same_node}
-use Rattle.mesh_laws.proofs.hops.Purposes.{Purpose, role_of}
-use Rattle.mesh_laws.proofs.hops.Rows.{no_resv_down, no_removal_down, no_contention_down, no_path_up, no_active_up, no_tear_up}
-use Rattle.mesh_laws.proofs.hops.Taken.{down_hop, mine, up_hop}
+use Rattle.lsp_laws.proofs.hops.Chain.{OnRoute}
+use Rattle.lsp_laws.proofs.hops.InParts.{leg_part}
+use Rattle.lsp_laws.proofs.hops.Notices.{ComesUp}
+use Rattle.lsp_laws.proofs.hops.Own.{Own, own-leg_part}
+use Rattle.lsp_laws.proofs.hops.Planned.{EachFollows, Follows, Planned}
+use Rattle.lsp_laws.proofs.hops.Plans.{Plan, hops, node_at, plan, same_node}
+use Rattle.lsp_laws.proofs.hops.Purposes.{Purpose, role_of}
+use Rattle.lsp_laws.proofs.hops.Rows.{no_resv_down, no_removal_down, no_contention_down, no_path_up, no_active_up, no_tear_up}
+use Rattle.lsp_laws.proofs.hops.Taken.{down_hop, mine, up_hop}
 use Rattle.mesh_laws.specs.Weights.{Routes, weight}
 use Rattle.mesh_laws.specs.Work.{WorkIsWithin}
 use Rattle.mesh_laws.proofs.rest.Committed.{sent_weight, taken_mesh}

@@ -16,12 +16,12 @@ use Rattle.ason_base.specs.declared.messages.Msg.TheVariants.{Path, Resv}
 use Rattle.ason_base.specs.declared.tables.Leg.{Leg}
 use Rattle.mesh_rules.specs.Legs.{closing_phase, is_asked, previous, reserved}
 use Rattle.mesh_rules.specs.Machine.{Mesh}
-use Rattle.mesh_laws.specs.HopShapes.{NoLeg, ArmedLeg, FallingLeg, leg_kind, phase_kind}
-use Rattle.mesh_laws.specs.HopLaw.{leg_at}
-use Rattle.mesh_laws.proofs.hops.Plans.{Plan, fibre_at, node_at}
-use Rattle.mesh_laws.proofs.hops.Purposes.{Purpose, role_of}
-use Rattle.mesh_laws.proofs.hops.Chain.{Fits, LegFits}
-use Rattle.mesh_laws.proofs.hops.LegChanges.{previous_is, previous_none}
+use Rattle.lsp_laws.specs.HopShapes.{NoLeg, ArmedLeg, FallingLeg, leg_kind, phase_kind}
+use Rattle.lsp_laws.specs.HopLaw.{leg_at}
+use Rattle.lsp_laws.proofs.hops.Plans.{Plan, fibre_at, node_at}
+use Rattle.lsp_laws.proofs.hops.Purposes.{Purpose, role_of}
+use Rattle.lsp_laws.proofs.hops.Chain.{Fits, LegFits}
+use Rattle.lsp_laws.proofs.hops.LegChanges.{previous_is, previous_none}
 use Rattle.mesh_laws.specs.Weights.{Routes, hops_back, weight, path_weight, asked_weight, phase_weight, resv_weight}
 use Rattle.mesh_laws.proofs.rest.Near.{ResvLight}
 

@@ -10,11 +10,11 @@ use Rattle.ason_base.specs.Lsps.{same_lsp}
 use Rattle.mesh_rules.specs.Changes.{Answer}
 use Rattle.mesh_rules.specs.Legs.{find_leg}
 use Rattle.mesh_rules.specs.Machine.{Mesh, commit}
-use Rattle.mesh_laws.specs.HopLaw.{lsp_of, is_notice, is_message_of, messages_of}
+use Rattle.lsp_laws.specs.HopLaw.{lsp_of, is_notice, is_message_of, messages_of}
 use Rattle.mesh_nodes.proofs.LegList.{same_lsp-eq, same_lsp-refl}
-use Rattle.mesh_laws.proofs.hops.OtherLsps.{leg-other}
-use Rattle.mesh_laws.proofs.hops.Own.{IsOf}
-use Rattle.mesh_laws.proofs.hops.Views.{leg-there}
+use Rattle.lsp_laws.proofs.hops.OtherLsps.{leg-other}
+use Rattle.lsp_laws.proofs.hops.Own.{IsOf}
+use Rattle.lsp_laws.proofs.hops.Views.{leg-there}
 use Rattle.mesh_laws.specs.Weights.{Routes, hops_back, weight, path_weight, resv_weight}
 use Rattle.mesh_laws.proofs.rest.Works.{NoHeavier}
 use Rattle.mesh_laws.proofs.rest.Committed.{StayLight}

@@ -12,15 +12,15 @@ use Rattle.ason_base.specs.declared.tables.Leg.{Leg}
 use Rattle.mesh_rules.specs.Changes.{Answer, nothing}
 use Rattle.mesh_rules.specs.Legs.{find_leg}
 use Rattle.mesh_rules.specs.Machine.{Mesh, commit, without_first}
-use Rattle.mesh_laws.specs.HopLaw.{lsp_of, is_notice, is_message_of, messages_of, leg_at, mail_between}
+use Rattle.lsp_laws.specs.HopLaw.{lsp_of, is_notice, is_message_of, messages_of, leg_at, mail_between}
 use Rattle.mesh_nodes.proofs.Cases.{both_right}
 use Rattle.mesh_nodes.proofs.LegList.{same_lsp-eq}
-use Rattle.mesh_laws.proofs.hops.Plans.{Plan, hops, node_at, IsRoute, same, other}
-use Rattle.mesh_laws.proofs.hops.Purposes.{Purpose, has_path}
-use Rattle.mesh_laws.proofs.hops.Chain.{Chain, OnRoute, is_or_not}
-use Rattle.mesh_laws.proofs.hops.Own.{IsOf}
-use Rattle.mesh_laws.proofs.hops.Tables.{leg_after}
-use Rattle.mesh_laws.proofs.hops.Views.{leg-here}
+use Rattle.lsp_laws.proofs.hops.Plans.{Plan, hops, node_at, IsRoute, same, other}
+use Rattle.lsp_laws.proofs.hops.Purposes.{Purpose, has_path}
+use Rattle.lsp_laws.proofs.hops.Chain.{Chain, OnRoute, is_or_not}
+use Rattle.lsp_laws.proofs.hops.Own.{IsOf}
+use Rattle.lsp_laws.proofs.hops.Tables.{leg_after}
+use Rattle.lsp_laws.proofs.hops.Views.{leg-here}
 use Rattle.mesh_laws.specs.Weights.{Routes, hops_back, weight, path_weight, resv_weight}
 use Rattle.mesh_laws.specs.Work.{WorkIsWithin}
 use Rattle.mesh_laws.proofs.rest.Works.{NoHeavier}

@@ -21,18 +21,18 @@ use Rattle.mesh_rules.specs.Notifies.{Notice}
 use Rattle.mesh_rules.specs.Pairs.{route_from}
 use Rattle.mesh_rules.specs.Reports.{call_reported, fibre_into, reported, reported_on, with_report}
 use Rattle.mesh_rules.specs.State.{NodeState}
-use Rattle.mesh_laws.specs.HopLaw.{is_notice, leg_at}
+use Rattle.lsp_laws.specs.HopLaw.{is_notice, leg_at}
 use Rattle.mesh_nodes.specs.Routes.{AreRowsOf}
 use Rattle.mesh_nodes.proofs.Cases.{if_cases}
-use Rattle.mesh_laws.proofs.hops.InParts.{call_of_notice, leg_of_notice, leg_part, notice_here}
-use Rattle.mesh_laws.proofs.hops.NoticeRule.{notice_only}
-use Rattle.mesh_laws.proofs.hops.Paired.{CallsMayPair}
-use Rattle.mesh_laws.proofs.hops.Planned.{EachFollows}
-use Rattle.mesh_laws.proofs.hops.Tables.{leg_after}
-use Rattle.mesh_laws.proofs.hops.TakenSteps.{CallsBackHere, after_leg, reported_state}
-use Rattle.mesh_laws.proofs.hops.Traced.{leg_follows}
-use Rattle.mesh_laws.proofs.hops.Turned.{BackStands}
-use Rattle.mesh_laws.proofs.hops.Views.{leg-here}
+use Rattle.lsp_laws.proofs.hops.InParts.{call_of_notice, leg_of_notice, leg_part, notice_here}
+use Rattle.lsp_laws.proofs.hops.NoticeRule.{notice_only}
+use Rattle.lsp_laws.proofs.hops.Paired.{CallsMayPair}
+use Rattle.lsp_laws.proofs.hops.Planned.{EachFollows}
+use Rattle.lsp_laws.proofs.hops.Tables.{leg_after}
+use Rattle.lsp_laws.proofs.hops.TakenSteps.{CallsBackHere, after_leg, reported_state}
+use Rattle.lsp_laws.proofs.hops.Traced.{leg_follows}
+use Rattle.lsp_laws.proofs.hops.Turned.{BackStands}
+use Rattle.lsp_laws.proofs.hops.Views.{leg-here}
 use Rattle.mesh_laws.specs.Weights.{Routes, hops_back, weight}
 use Rattle.mesh_laws.proofs.rest.CallRests.{decide-expand, none-expand}
 use Rattle.mesh_laws.proofs.rest.Committed.{sent_weight}

@@ -22,15 +22,15 @@ use Rattle.mesh_rules.specs.LocalNodes.{LocalNode, local_node, own_link}
 use Rattle.mesh_rules.specs.Machine.{Mesh, commit, without_first}
 use Rattle.mesh_rules.specs.Notifies.{Notice}
 use Rattle.mesh_rules.specs.Reports.{reported}
-use Rattle.mesh_laws.specs.HopLaw.{leg_at}
+use Rattle.lsp_laws.specs.HopLaw.{leg_at}
 use Rattle.mesh_nodes.proofs.Cases.{if_cases}
-use Rattle.mesh_laws.proofs.hops.Chain.{LegFits}
-use Rattle.mesh_laws.proofs.hops.InParts.{leg_of_notice, leg_part, notice_back, notice_goes}
-use Rattle.mesh_laws.proofs.hops.NoticesTold.{OnlyNotifies, all_notices, still_notified}
-use Rattle.mesh_laws.proofs.hops.NoticeRule.{notice_only}
-use Rattle.mesh_laws.proofs.hops.Planned.{Planned}
-use Rattle.mesh_laws.proofs.hops.Plans.{Plan, hops, node_at}
-use Rattle.mesh_laws.proofs.hops.Purposes.{Purpose}
+use Rattle.lsp_laws.proofs.hops.Chain.{LegFits}
+use Rattle.lsp_laws.proofs.hops.InParts.{leg_of_notice, leg_part, notice_back, notice_goes}
+use Rattle.lsp_laws.proofs.hops.NoticesTold.{OnlyNotifies, all_notices, still_notified}
+use Rattle.lsp_laws.proofs.hops.NoticeRule.{notice_only}
+use Rattle.lsp_laws.proofs.hops.Planned.{Planned}
+use Rattle.lsp_laws.proofs.hops.Plans.{Plan, hops, node_at}
+use Rattle.lsp_laws.proofs.hops.Purposes.{Purpose}
 use Rattle.mesh_laws.specs.Weights.{Routes, hops_back, place_in, steps_before, weight}
 use Rattle.mesh_laws.specs.Work.{WorkIsWithin}
 use Rattle.mesh_laws.proofs.rest.Works.{total-append}

@@ -24,15 +24,15 @@ use Rattle.mesh_rules.specs.Legs.{following}
 use Rattle.mesh_rules.specs.Messages.{arrival}
 use Rattle.mesh_rules.specs.Machine.{Mesh, without_first}
 use Rattle.mesh_rules.specs.Paths.{PathRequest, is_active, risks_here, first_failure, checks, offered_labels, at_egress, in_transit, admitted, judged, first_path, error_to}
-use Rattle.mesh_laws.specs.HopLaw.{messages_of, leg_at, mail_between}
+use Rattle.lsp_laws.specs.HopLaw.{messages_of, leg_at, mail_between}
 use Rattle.mesh_nodes.proofs.LegList.{same_lsp-refl, found-lsp}
 use Rattle.mesh_nodes.proofs.Cases.{if_cases, both_left, not-true}
-use Rattle.mesh_laws.proofs.hops.Plans.{Plan, hops, node_at, IsRoute, distinct}
-use Rattle.mesh_laws.proofs.hops.Purposes.{Purpose, Carries, Guards, Tells, role_of}
-use Rattle.mesh_laws.proofs.hops.Chain.{Chain, LegFits, Hop, IsVacant, below_or_not}
-use Rattle.mesh_laws.proofs.hops.LegChanges.{following_none}
-use Rattle.mesh_laws.proofs.hops.Taken.{down_hop, down_mine}
-use Rattle.mesh_laws.proofs.hops.Views.{leg-there}
+use Rattle.lsp_laws.proofs.hops.Plans.{Plan, hops, node_at, IsRoute, distinct}
+use Rattle.lsp_laws.proofs.hops.Purposes.{Purpose, Carries, Guards, Tells, role_of}
+use Rattle.lsp_laws.proofs.hops.Chain.{Chain, LegFits, Hop, IsVacant, below_or_not}
+use Rattle.lsp_laws.proofs.hops.LegChanges.{following_none}
+use Rattle.lsp_laws.proofs.hops.Taken.{down_hop, down_mine}
+use Rattle.lsp_laws.proofs.hops.Views.{leg-there}
 use Rattle.mesh_laws.specs.Weights.{Routes, hops_back, weight, path_weight, asked_weight}
 use Rattle.mesh_laws.proofs.rest.Committed.{taken_mesh}
 use Rattle.mesh_laws.proofs.rest.Places.{place-is}

@@ -23,10 +23,10 @@ use Rattle.mesh_nodes.proofs.Items.{items-fit}
 use Rattle.mesh_nodes.proofs.Messages.{messages-fit}
 use Rattle.mesh_nodes.proofs.NewNodes.{new-fits, new-place}
 use Rattle.mesh_nodes.proofs.Ticks.{tick-kept}
-use Rattle.mesh_laws.proofs.nodes.Runs.{facts-start, facts-step}
-use Rattle.mesh_laws.proofs.hops.Laws.{step_facts}
-use Rattle.mesh_laws.proofs.hops.Plans.{same_node}
-use Rattle.mesh_laws.proofs.hops.Run.{step_carries, step_routes}
+use Rattle.lsp_laws.proofs.nodes.Runs.{facts-start, facts-step}
+use Rattle.lsp_laws.proofs.hops.Laws.{step_facts}
+use Rattle.lsp_laws.proofs.hops.Plans.{same_node}
+use Rattle.lsp_laws.proofs.hops.Run.{step_carries, step_routes}
 use Rattle.mesh_laws.specs.Weights.{Routes}
 use Rattle.mesh_laws.specs.Work.{Spot, Desk, Way, amount, WorkIsWithin}
 use Rattle.mesh_laws.specs.RestLaw.{EveryRestIsQuiet, EveryRunEnds, EveryRunRests, added, handled}

@@ -18,19 +18,19 @@ use Rattle.mesh_rules.specs.Legs.{closed, connected, is_armed, is_asked, label_t
 use Rattle.mesh_rules.specs.Messages.{arrival}
 use Rattle.mesh_rules.specs.Machine.{Mesh, without_first}
 use Rattle.mesh_rules.specs.Activations.{resv_to}
-use Rattle.mesh_laws.specs.HopShapes.{ArmedLeg, FallingLeg, leg_kind}
-use Rattle.mesh_laws.specs.HopLaw.{messages_of, leg_at, mail_between}
+use Rattle.lsp_laws.specs.HopShapes.{ArmedLeg, FallingLeg, leg_kind}
+use Rattle.lsp_laws.specs.HopLaw.{messages_of, leg_at, mail_between}
 use Rattle.mesh_nodes.proofs.LegList.{same_lsp-refl, found-lsp}
 use Rattle.mesh_nodes.proofs.Cases.{if_cases, both_left}
-use Rattle.mesh_laws.proofs.nodes.PhaseLegs.{armed-is}
-use Rattle.mesh_laws.proofs.hops.Plans.{Plan, hops, fibre_at, node_at, IsRoute, distinct}
-use Rattle.mesh_laws.proofs.hops.AnswersTaken.{armed_answers}
-use Rattle.mesh_laws.proofs.hops.Purposes.{Purpose, role_of}
-use Rattle.mesh_laws.proofs.hops.Chain.{Chain, LegFits}
+use Rattle.lsp_laws.proofs.nodes.PhaseLegs.{armed-is}
+use Rattle.lsp_laws.proofs.hops.Plans.{Plan, hops, fibre_at, node_at, IsRoute, distinct}
+use Rattle.lsp_laws.proofs.hops.AnswersTaken.{armed_answers}
+use Rattle.lsp_laws.proofs.hops.Purposes.{Purpose, role_of}
+use Rattle.lsp_laws.proofs.hops.Chain.{Chain, LegFits}
 use Rattle.mesh_rules.specs.Resvs.{is_expected, labels_left, label_passed, passed_back, torn_both_ways}
 use Rattle.mesh_rules.specs.ActivationAnswers.{is_confirmed}
-use Rattle.mesh_laws.proofs.hops.InParts.{leg_of_resv, leg_answers, leg_confirmed}
-use Rattle.mesh_laws.proofs.hops.Views.{leg-there}
+use Rattle.lsp_laws.proofs.hops.InParts.{leg_of_resv, leg_answers, leg_confirmed}
+use Rattle.lsp_laws.proofs.hops.Views.{leg-there}
 use Rattle.mesh_laws.specs.Weights.{Routes, hops_back, hops_in, weight, asked_weight, phase_weight}
 use Rattle.mesh_laws.proofs.rest.Committed.{taken_mesh}
 use Rattle.mesh_laws.proofs.rest.Places.{place-is}

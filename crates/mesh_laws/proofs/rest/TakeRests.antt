@@ -13,20 +13,20 @@ use Rattle.mesh_rules.specs.LocalNodes.{LocalNode, local_node}
 use Rattle.mesh_rules.specs.Machine.{Mesh, commit, without_first}
 use Rattle.mesh_rules.specs.Messages.{on_message}
 use Rattle.mesh_rules.specs.State.{NodeState}
-use Rattle.mesh_laws.specs.HopLaw.{is_message_of, is_notice, leg_at, lsp_of}
+use Rattle.lsp_laws.specs.HopLaw.{is_message_of, is_notice, leg_at, lsp_of}
 use Rattle.mesh_nodes.specs.Routes.{AreRowsOf}
 use Rattle.mesh_nodes.proofs.LegList.{same_lsp-refl}
-use Rattle.mesh_laws.proofs.hops.Stepped.{first-append, grown}
-use Rattle.mesh_laws.proofs.hops.FollowedBy.{commit-then}
-use Rattle.mesh_laws.proofs.hops.InParts.{call_part, in-parts, leg_part}
-use Rattle.mesh_laws.proofs.hops.NoticesTold.{notifies-begin_none}
-use Rattle.mesh_laws.proofs.hops.NoticeRule.{notice_only}
-use Rattle.mesh_laws.proofs.hops.Paired.{CallsMayPair}
-use Rattle.mesh_laws.proofs.hops.Planned.{EachFollows, Follows, or_assoc, or_none}
-use Rattle.mesh_laws.proofs.hops.Own.{own-leg_part}
-use Rattle.mesh_laws.proofs.hops.Taken.{mine}
-use Rattle.mesh_laws.proofs.hops.TakenSteps.{CallsBackHere, after_leg}
-use Rattle.mesh_laws.proofs.hops.Traced.{leg_follows}
+use Rattle.lsp_laws.proofs.hops.Stepped.{first-append, grown}
+use Rattle.lsp_laws.proofs.hops.FollowedBy.{commit-then}
+use Rattle.lsp_laws.proofs.hops.InParts.{call_part, in-parts, leg_part}
+use Rattle.lsp_laws.proofs.hops.NoticesTold.{notifies-begin_none}
+use Rattle.lsp_laws.proofs.hops.NoticeRule.{notice_only}
+use Rattle.lsp_laws.proofs.hops.Paired.{CallsMayPair}
+use Rattle.lsp_laws.proofs.hops.Planned.{EachFollows, Follows, or_assoc, or_none}
+use Rattle.lsp_laws.proofs.hops.Own.{own-leg_part}
+use Rattle.lsp_laws.proofs.hops.Taken.{mine}
+use Rattle.lsp_laws.proofs.hops.TakenSteps.{CallsBackHere, after_leg}
+use Rattle.lsp_laws.proofs.hops.Traced.{leg_follows}
 use Rattle.mesh_laws.specs.Weights.{Routes, weight}
 use Rattle.mesh_laws.specs.Work.{WorkIsWithin}
 use Rattle.mesh_laws.proofs.rest.CallRests.{none-expand}

@@ -21,16 +21,16 @@ use Rattle.mesh_rules.specs.Messages.{arrival}
 use Rattle.mesh_rules.specs.Machine.{Mesh, without_first}
 use Rattle.mesh_rules.specs.Paths.{PathRequest, path_with}
 use Rattle.mesh_rules.specs.Activations.{taken_on}
-use Rattle.mesh_laws.specs.HopLaw.{messages_of, leg_at, mail_between}
+use Rattle.lsp_laws.specs.HopLaw.{messages_of, leg_at, mail_between}
 use Rattle.mesh_nodes.proofs.Cases.{if_cases}
-use Rattle.mesh_laws.proofs.hops.Plans.{Plan, hops, fibre_at, node_at, IsRoute, distinct}
-use Rattle.mesh_laws.proofs.hops.PathTaken.{plain_taken}
-use Rattle.mesh_laws.proofs.hops.Rows.{live_upstream}
-use Rattle.mesh_laws.proofs.hops.Purposes.{Purpose, role_of}
-use Rattle.mesh_laws.proofs.hops.Chain.{Chain, LegFits}
-use Rattle.mesh_laws.proofs.hops.LegKinds.{live_leg}
-use Rattle.mesh_laws.proofs.hops.LegChanges.{following_is}
-use Rattle.mesh_laws.proofs.hops.Views.{leg-there}
+use Rattle.lsp_laws.proofs.hops.Plans.{Plan, hops, fibre_at, node_at, IsRoute, distinct}
+use Rattle.lsp_laws.proofs.hops.PathTaken.{plain_taken}
+use Rattle.lsp_laws.proofs.hops.Rows.{live_upstream}
+use Rattle.lsp_laws.proofs.hops.Purposes.{Purpose, role_of}
+use Rattle.lsp_laws.proofs.hops.Chain.{Chain, LegFits}
+use Rattle.lsp_laws.proofs.hops.LegKinds.{live_leg}
+use Rattle.lsp_laws.proofs.hops.LegChanges.{following_is}
+use Rattle.lsp_laws.proofs.hops.Views.{leg-there}
 use Rattle.mesh_laws.specs.Weights.{Routes, weight}
 use Rattle.mesh_laws.proofs.rest.Committed.{taken_mesh}
 use Rattle.mesh_laws.proofs.rest.LegWeights.{path-still, deaf-light, one-less, sent-back, no-leg_kind}

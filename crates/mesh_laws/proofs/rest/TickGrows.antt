@@ -14,9 +14,9 @@ use Rattle.mesh_rules.specs.Machine.{Mesh, commit}
 use Rattle.mesh_rules.specs.Turns.{call_put, go_back, has_any}
 use Rattle.mesh_rules.specs.Waits.{all_ticked, ticked}
 use Rattle.mesh_nodes.proofs.Cases.{both_left, both_right, if_cases}
-use Rattle.mesh_laws.proofs.hops.Planned.{EachFollows}
-use Rattle.mesh_laws.proofs.hops.Ticked.{AreApart, still_fit, ticked_stays, turned_is}
-use Rattle.mesh_laws.proofs.hops.Turned.{BackFits}
+use Rattle.lsp_laws.proofs.hops.Planned.{EachFollows}
+use Rattle.lsp_laws.proofs.hops.Ticked.{AreApart, still_fit, ticked_stays, turned_is}
+use Rattle.lsp_laws.proofs.hops.Turned.{BackFits}
 use Rattle.mesh_laws.specs.Weights.{Routes}
 use Rattle.mesh_laws.specs.Work.{total}
 use Rattle.mesh_laws.proofs.rest.Grown.{GrowsBy, grows-quiet, grows-then}

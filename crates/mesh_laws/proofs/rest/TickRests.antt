@@ -8,7 +8,7 @@ use Rattle.ason_base.specs.declared.tables.CallRec.{CallRec}
 use Rattle.ason_base.specs.declared.tables.Leg.{Leg}
 use Rattle.mesh_rules.specs.Legs.{find_leg, leg_of, without_leg}
 use Rattle.mesh_nodes.proofs.LegList.{find-without_leg, found-lsp}
-use Rattle.mesh_laws.proofs.hops.Ticked.{AreApart, HaveTwo}
+use Rattle.lsp_laws.proofs.hops.Ticked.{AreApart, HaveTwo}
 use Rattle.mesh_laws.specs.Work.{total}
 
 -- a call whose backup has a leg

@@ -22,23 +22,23 @@ use Rattle.mesh_rules.specs.Changes.{Answer}
 use Rattle.mesh_rules.specs.Legs.{following, is_contended, is_held, is_in_use, with_phase}
 use Rattle.mesh_rules.specs.Machine.{Mesh, commit}
 use Rattle.mesh_rules.specs.Turns.{activating, arms, call_put, decide, decided, disarms, go_back, has_any, taking_back, turn}
-use Rattle.mesh_laws.specs.HopLaw.{leg_at, mail_between}
+use Rattle.lsp_laws.specs.HopLaw.{leg_at, mail_between}
 use Rattle.mesh_nodes.proofs.Cases.{if_cases}
 use Rattle.mesh_nodes.proofs.LegList.{same_lsp-refl}
-use Rattle.mesh_laws.proofs.nodes.PhaseLegs.{held-is}
-use Rattle.mesh_laws.proofs.hops.Chain.{LegFits, OnRoute, PhaseFits}
-use Rattle.mesh_laws.proofs.hops.LegKinds.{live_leg}
-use Rattle.mesh_laws.proofs.hops.LegChanges.{following_is}
-use Rattle.mesh_laws.proofs.hops.Moved.{BeginsHere}
-use Rattle.mesh_laws.proofs.hops.Own.{IsOf}
-use Rattle.mesh_laws.proofs.hops.Planned.{Planned, Follows, EachFollows}
-use Rattle.mesh_laws.proofs.hops.Plans.{Plan, plan, hops, fibre_at, node_at, distinct, same_node}
-use Rattle.mesh_laws.proofs.hops.Purposes.{Purpose, Carries, Guards, Tells, role_of}
-use Rattle.mesh_laws.proofs.hops.IdleHops.{no_kinds}
-use Rattle.mesh_laws.proofs.hops.Rows.{live_upstream}
-use Rattle.mesh_laws.proofs.hops.Tables.{leg_after}
-use Rattle.mesh_laws.proofs.hops.Turned.{BackFits, IsLiveBackup, own_arms, own_disarms}
-use Rattle.mesh_laws.proofs.hops.Views.{leg-here, leg-there}
+use Rattle.lsp_laws.proofs.nodes.PhaseLegs.{held-is}
+use Rattle.lsp_laws.proofs.hops.Chain.{LegFits, OnRoute, PhaseFits}
+use Rattle.lsp_laws.proofs.hops.LegKinds.{live_leg}
+use Rattle.lsp_laws.proofs.hops.LegChanges.{following_is}
+use Rattle.lsp_laws.proofs.hops.Moved.{BeginsHere}
+use Rattle.lsp_laws.proofs.hops.Own.{IsOf}
+use Rattle.lsp_laws.proofs.hops.Planned.{Planned, Follows, EachFollows}
+use Rattle.lsp_laws.proofs.hops.Plans.{Plan, plan, hops, fibre_at, node_at, distinct, same_node}
+use Rattle.lsp_laws.proofs.hops.Purposes.{Purpose, Carries, Guards, Tells, role_of}
+use Rattle.lsp_laws.proofs.hops.IdleHops.{no_kinds}
+use Rattle.lsp_laws.proofs.hops.Rows.{live_upstream}
+use Rattle.lsp_laws.proofs.hops.Tables.{leg_after}
+use Rattle.lsp_laws.proofs.hops.Turned.{BackFits, IsLiveBackup, own_arms, own_disarms}
+use Rattle.lsp_laws.proofs.hops.Views.{leg-here, leg-there}
 use Rattle.mesh_laws.specs.Weights.{Routes, weight, path_weight}
 use Rattle.mesh_laws.proofs.rest.Committed.{StayLight}
 use Rattle.mesh_laws.proofs.rest.Grown.{GrowsBy, grows, grows-quiet, grows-more}

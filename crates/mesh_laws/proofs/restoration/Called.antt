@@ -12,8 +12,8 @@ use Rattle.mesh_rules.specs.Legs.{find_leg, is_closing}
 use Rattle.mesh_rules.specs.State.{NodeState}
 use Rattle.mesh_nodes.proofs.LegList.{found-all, found-lsp}
 use Rattle.mesh_nodes.proofs.routes.Lists.{contains-kept}
-use Rattle.mesh_laws.specs.CallLaw.{CallsFit, IsOfOneCall, wants_call}
-use Rattle.mesh_laws.proofs.hops.Plans.{same}
+use Rattle.lsp_laws.specs.CallLaw.{CallsFit, IsOfOneCall, wants_call}
+use Rattle.lsp_laws.proofs.hops.Plans.{same}
 
 none-there : {X : Type 0} (xs : List X) (x : X) → length xs ≡ 0 → Contains xs x → ⊥
 none-there [] x e there = contains-none x there

@@ -29,16 +29,16 @@ use Rattle.mesh_rules.specs.Quiet.{IsQuiet}
 use Rattle.mesh_rules.specs.Turns.{has_any}
 use Rattle.mesh_nodes.proofs.Cases.{both_left, both_right, not-true}
 use Rattle.mesh_nodes.proofs.LegList.{found-all, found-lsp, same_lsp-refl}
+use Rattle.lsp_laws.specs.BesideLaw.{BackupsGoBeside, CallGoesBeside}
+use Rattle.lsp_laws.specs.CallLaw.{CallsFit, FitsLegs, GuardsWork, IsNamed, fits, phase_of}
+use Rattle.lsp_laws.specs.HopLaw.{LspFits, leg_at}
+use Rattle.lsp_laws.specs.JoinedLaw.{CallIsJoined, CallsAreJoined, IsActivated, IsConnected, IsJoined, IsLive, LspIsJoined, goes_both_ways}
+use Rattle.lsp_laws.specs.ReportLaw.{DesksTell, ReportsTell}
+use Rattle.lsp_laws.specs.RiskLaw.{BackupsRecordRisks, RecordsRisks}
+use Rattle.lsp_laws.proofs.nodes.CallParts.{named-lsp}
 use Rattle.mesh_laws.specs.AloneLaw.{AllConcern, CallConcerns, LegConcerns, is_on_route, risk_of}
-use Rattle.mesh_laws.specs.BesideLaw.{BackupsGoBeside, CallGoesBeside}
-use Rattle.mesh_laws.specs.CallLaw.{CallsFit, FitsLegs, GuardsWork, IsNamed, fits, phase_of}
-use Rattle.mesh_laws.specs.HopLaw.{LspFits, leg_at}
-use Rattle.mesh_laws.specs.JoinedLaw.{CallIsJoined, CallsAreJoined, IsActivated, IsConnected, IsJoined, IsLive, LspIsJoined, goes_both_ways}
-use Rattle.mesh_laws.specs.ReportLaw.{DesksTell, ReportsTell}
 use Rattle.mesh_laws.specs.RestorationLaw.{IsRestored, is_guarded, is_hit, is_label_reserved, is_route_cut}
-use Rattle.mesh_laws.specs.RiskLaw.{BackupsRecordRisks, RecordsRisks}
 use Rattle.mesh_laws.proofs.alone.Risks.{not_beside, risk-recorded}
-use Rattle.mesh_laws.proofs.nodes.CallParts.{named-lsp}
 use Rattle.mesh_laws.proofs.restoration.Called.{call-is}
 use Rattle.mesh_laws.proofs.restoration.Cuts.{cut-concerns}
 use Rattle.mesh_laws.proofs.restoration.Reported.{unreported-up}

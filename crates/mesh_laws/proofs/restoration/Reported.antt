@@ -21,11 +21,11 @@ use Rattle.mesh_rules.specs.LocalNodes.{fibre_in}
 use Rattle.mesh_rules.specs.Machine.{Mesh, start}
 use Rattle.mesh_rules.specs.Quiet.{IsQuiet}
 use Rattle.mesh_nodes.proofs.routes.Nodes.{find-there}
-use Rattle.mesh_laws.specs.HopLaw.{leg_at}
-use Rattle.mesh_laws.specs.JoinedLaw.{IsLive, LspIsJoined}
-use Rattle.mesh_laws.specs.ReportLaw.{DesksTell, PlaceTells, ReportsTell, RouteTells, StandsTo, is_reported, is_standing, on_the_way, place_at, reports_of, told_over}
+use Rattle.lsp_laws.specs.HopLaw.{leg_at}
+use Rattle.lsp_laws.specs.JoinedLaw.{IsLive, LspIsJoined}
+use Rattle.lsp_laws.specs.ReportLaw.{DesksTell, PlaceTells, ReportsTell, RouteTells, StandsTo, is_reported, is_standing, on_the_way, place_at, reports_of, told_over}
+use Rattle.lsp_laws.proofs.hops.Law.{step_at}
 use Rattle.mesh_laws.specs.RestorationLaw.{is_hit, is_route_cut}
-use Rattle.mesh_laws.proofs.hops.Law.{step_at}
 use Rattle.mesh_laws.proofs.reports.WaitingLegs.{silent-way}
 use Rattle.mesh_laws.proofs.restoration.Cuts.{cut-at}
 use Rattle.mesh_laws.proofs.restoration.Steps.{goes-on}

@@ -13,12 +13,12 @@ use Rattle.ason_base.specs.declared.tables.Leg.{Leg}
 use Rattle.mesh_rules.specs.Legs.{reserved}
 use Rattle.mesh_rules.specs.Machine.{Mesh}
 use Rattle.mesh_rules.specs.Quiet.{IsQuiet}
-use Rattle.mesh_laws.specs.HopLaw.{RouteFits, StepFits, leg_at}
-use Rattle.mesh_laws.specs.HopShapes.{ArmedLeg, AskedLeg, ClosingLeg, FallingLeg, HeldLeg, LegKind, LiveLeg, NoLeg, leg_kind, phase_kind}
-use Rattle.mesh_laws.specs.ReportLaw.{place_at}
-use Rattle.mesh_laws.proofs.hops.Law.{step_at}
-use Rattle.mesh_laws.proofs.hops.RowStates.{ArmedStands, Stands}
-use Rattle.mesh_laws.proofs.hops.Rows.{BothStand, NoneThere, OnlyTorn, Settled, settled}
+use Rattle.lsp_laws.specs.HopLaw.{RouteFits, StepFits, leg_at}
+use Rattle.lsp_laws.specs.HopShapes.{ArmedLeg, AskedLeg, ClosingLeg, FallingLeg, HeldLeg, LegKind, LiveLeg, NoLeg, leg_kind, phase_kind}
+use Rattle.lsp_laws.specs.ReportLaw.{place_at}
+use Rattle.lsp_laws.proofs.hops.Law.{step_at}
+use Rattle.lsp_laws.proofs.hops.RowStates.{ArmedStands, Stands}
+use Rattle.lsp_laws.proofs.hops.Rows.{BothStand, NoneThere, OnlyTorn, Settled, settled}
 use Rattle.mesh_laws.proofs.restoration.Steps.{begins-at, ends-at, goes-on}
 
 -- beyond a leg that stands is one as it is

@@ -7,8 +7,8 @@ use Rattle.ason_base.specs.Routes.{makes_route}
 use Rattle.ason_base.specs.declared.ids.NodeId.{NodeId}
 use Rattle.ason_base.specs.declared.network.LinkSpec.{LinkSpec}
 use Rattle.ason_base.specs.declared.steps.Step.{Step}
-use Rattle.mesh_laws.specs.ReportLaw.{place_at}
-use Rattle.mesh_laws.proofs.hops.Plans.{IsRoute, distinct, joined, link_at, node_at, plan, route_made}
+use Rattle.lsp_laws.specs.ReportLaw.{place_at}
+use Rattle.lsp_laws.proofs.hops.Plans.{IsRoute, distinct, joined, link_at, node_at, plan, route_made}
 use Rattle.mesh_laws.proofs.reports.Laws.{place-is}
 
 -- a step over a link of the network, at this place of a route to e

@@ -10,15 +10,15 @@ use Rattle.ason_base.specs.declared.tables.Leg.{Leg}
 use Rattle.mesh_rules.specs.Legs.{is_at, reverse, reverse_of, sends, takes}
 use Rattle.mesh_rules.specs.Machine.{Mesh}
 use Rattle.mesh_nodes.proofs.LabelPlaces.{back_in-taken, is-at, or-second}
-use Rattle.mesh_laws.specs.HopLaw.{leg_at, mail_between}
+use Rattle.lsp_laws.specs.HopLaw.{leg_at, mail_between}
+use Rattle.lsp_laws.proofs.hops.Chain.{LegFits}
+use Rattle.lsp_laws.proofs.hops.LegKinds.{live_leg}
+use Rattle.lsp_laws.proofs.hops.Planned.{Routes}
+use Rattle.lsp_laws.proofs.hops.Plans.{distinct, fibre_at, hops, lt_true, node_at}
+use Rattle.lsp_laws.proofs.hops.Purposes.{BackMeets, LabelsMeet, back_in_of, role_of}
+use Rattle.lsp_laws.proofs.hops.Rows.{live_upstream}
+use Rattle.lsp_laws.proofs.nodes.LegParts.{takes-by}
 use Rattle.mesh_laws.proofs.crossing.Meets.{twice}
-use Rattle.mesh_laws.proofs.hops.Chain.{LegFits}
-use Rattle.mesh_laws.proofs.hops.LegKinds.{live_leg}
-use Rattle.mesh_laws.proofs.hops.Planned.{Routes}
-use Rattle.mesh_laws.proofs.hops.Plans.{distinct, fibre_at, hops, lt_true, node_at}
-use Rattle.mesh_laws.proofs.hops.Purposes.{BackMeets, LabelsMeet, back_in_of, role_of}
-use Rattle.mesh_laws.proofs.hops.Rows.{live_upstream}
-use Rattle.mesh_laws.proofs.nodes.LegParts.{takes-by}
 use Rattle.mesh_laws.proofs.sent.Ends.{sender-back}
 use Rattle.mesh_laws.proofs.sent.SendsOver.{SendsBack, SendsOnward, SendsOver, back-place, sends-over}
 use Rattle.mesh_laws.proofs.sent.Standing.{Standing}

@@ -14,12 +14,12 @@ use Rattle.mesh_rules.specs.Legs.{is_at, is_marked, reverse, reverse_of, sends, 
 use Rattle.mesh_rules.specs.Machine.{Mesh, start}
 use Rattle.mesh_nodes.proofs.LabelPlaces.{at-is, either, or-second}
 use Rattle.mesh_nodes.proofs.LegList.{same_lsp-eq, same_lsp-refl}
-use Rattle.mesh_laws.specs.HopLaw.{HasOneLegEach, leg_at}
+use Rattle.lsp_laws.specs.HopLaw.{HasOneLegEach, leg_at}
+use Rattle.lsp_laws.proofs.hops.Laws.{one_leg_each}
+use Rattle.lsp_laws.proofs.hops.Planned.{Routes}
+use Rattle.lsp_laws.proofs.nodes.LegParts.{taken-used}
 use Rattle.mesh_laws.specs.SafeLaw.{EveryRunIsSafe, StandsAt}
 use Rattle.mesh_laws.proofs.crossing.Upstream.{mark-of}
-use Rattle.mesh_laws.proofs.hops.Laws.{one_leg_each}
-use Rattle.mesh_laws.proofs.hops.Planned.{Routes}
-use Rattle.mesh_laws.proofs.nodes.LegParts.{taken-used}
 use Rattle.mesh_laws.proofs.safe.Hops.{Beyond, beyond, returning}
 use Rattle.mesh_laws.proofs.sent.Law.{sent-shared}
 use Rattle.mesh_laws.proofs.sent.Run.{sound}

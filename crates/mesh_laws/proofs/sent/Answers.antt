@@ -15,17 +15,17 @@ use Rattle.ason_base.specs.Lsps.{same_lsp}
 use Rattle.mesh_nodes.proofs.Cases.{both_right}
 use Rattle.mesh_nodes.proofs.LabelPlaces.{either}
 use Rattle.mesh_rules.specs.Legs.{is_closing, is_label}
+use Rattle.lsp_laws.specs.HopLaw.{lsp_of}
+use Rattle.lsp_laws.specs.HopShapes.{LegKind, NoLeg, AskedLeg, MsgKind, Removal, Shape, leg_kind, msg_kind, path_kind}
+use Rattle.lsp_laws.specs.HopShapes.{phase_kind}
+use Rattle.lsp_laws.proofs.hops.GoingUp.{Answers, DownAsked, FirstPath, Gone, NoneUpstream, Stands, StillAsked}
+use Rattle.lsp_laws.proofs.hops.GoingUp.{answers, plain-has_path}
+use Rattle.lsp_laws.proofs.hops.IdleHops.{no_kinds}
+use Rattle.lsp_laws.proofs.hops.Plans.{Plan}
+use Rattle.lsp_laws.proofs.hops.Purposes.{AnswerFits, BackMeets, Each, HasUpstream, LabelsMeet, Purpose, Rest, UpFits}
+use Rattle.lsp_laws.proofs.hops.Purposes.{back_in_of, back_out_of, in_label_of, out_label_of, role_of}
+use Rattle.lsp_laws.proofs.hops.RowStates.{is_reserved}
 use Rattle.mesh_laws.specs.HeardLaw.{brings, heard, heard_one, lets_go}
-use Rattle.mesh_laws.specs.HopLaw.{lsp_of}
-use Rattle.mesh_laws.specs.HopShapes.{LegKind, NoLeg, AskedLeg, MsgKind, Removal, Shape, leg_kind, msg_kind, path_kind}
-use Rattle.mesh_laws.specs.HopShapes.{phase_kind}
-use Rattle.mesh_laws.proofs.hops.GoingUp.{Answers, DownAsked, FirstPath, Gone, NoneUpstream, Stands, StillAsked}
-use Rattle.mesh_laws.proofs.hops.GoingUp.{answers, plain-has_path}
-use Rattle.mesh_laws.proofs.hops.IdleHops.{no_kinds}
-use Rattle.mesh_laws.proofs.hops.Plans.{Plan}
-use Rattle.mesh_laws.proofs.hops.Purposes.{AnswerFits, BackMeets, Each, HasUpstream, LabelsMeet, Purpose, Rest, UpFits}
-use Rattle.mesh_laws.proofs.hops.Purposes.{back_in_of, back_out_of, in_label_of, out_label_of, role_of}
-use Rattle.mesh_laws.proofs.hops.RowStates.{is_reserved}
 
 -- Messages of one LSP
 

@@ -25,15 +25,15 @@ use Rattle.mesh_rules.specs.PathErrs.{PathFailure, err_passed, removed}
 use Rattle.mesh_rules.specs.State.{NodeState}
 use Rattle.mesh_nodes.proofs.Cases.{if_cases}
 use Rattle.mesh_nodes.proofs.LegList.{find-without_leg, found-lsp, same_lsp-refl}
-use Rattle.mesh_laws.specs.HopShapes.{AskedLeg, NoLeg, IsTorn, StillWaits, leg_kind, msg_kind, phase_kind}
+use Rattle.lsp_laws.specs.HopShapes.{AskedLeg, NoLeg, IsTorn, StillWaits, leg_kind, msg_kind, phase_kind}
+use Rattle.lsp_laws.proofs.hops.Plans.{Plan, IsRoute, distinct, fibre_at, hops, lt_true, node_at, same}
+use Rattle.lsp_laws.proofs.hops.AnswersTaken.{RemovalTaken, removal_taken}
+use Rattle.lsp_laws.proofs.hops.RowStates.{nothing_torn}
+use Rattle.lsp_laws.proofs.hops.WayBack.{kind_torn}
+use Rattle.lsp_laws.proofs.hops.Purposes.{DownFits, HasUpstream, Purpose, UpFits, role_of}
+use Rattle.lsp_laws.proofs.hops.Chain.{Chain, HopAt, LegFits}
 use Rattle.mesh_laws.specs.HeardLaw.{brings}
-use Rattle.mesh_laws.proofs.hops.Plans.{Plan, IsRoute, distinct, fibre_at, hops, lt_true, node_at, same}
 use Rattle.mesh_laws.proofs.sent.Ends.{receiver-at, receiver-back, sender-at, sender-back}
-use Rattle.mesh_laws.proofs.hops.AnswersTaken.{RemovalTaken, removal_taken}
-use Rattle.mesh_laws.proofs.hops.RowStates.{nothing_torn}
-use Rattle.mesh_laws.proofs.hops.WayBack.{kind_torn}
-use Rattle.mesh_laws.proofs.hops.Purposes.{DownFits, HasUpstream, Purpose, UpFits, role_of}
-use Rattle.mesh_laws.proofs.hops.Chain.{Chain, HopAt, LegFits}
 use Rattle.mesh_laws.proofs.sent.Takes.{down-link, up-link}
 
 -- A removal

@@ -29,10 +29,10 @@ use Rattle.mesh_rules.specs.Pairs.{pair_over, route_from}
 use Rattle.mesh_rules.specs.State.{NodeState}
 use Rattle.mesh_rules.specs.Turns.{activating_path, call_put, decide, decided, go_back, has_any, taking_path, turn}
 use Rattle.mesh_nodes.proofs.Cases.{if_cases}
-use Rattle.mesh_laws.proofs.hops.NamedPhases.{named_is}
-use Rattle.mesh_laws.proofs.hops.Plans.{same_node}
-use Rattle.mesh_laws.proofs.nodes.Facts.{NodeFacts}
-use Rattle.mesh_laws.proofs.nodes.LegEnds.{leg_of-own}
+use Rattle.lsp_laws.proofs.hops.NamedPhases.{named_is}
+use Rattle.lsp_laws.proofs.hops.Plans.{same_node}
+use Rattle.lsp_laws.proofs.nodes.Facts.{NodeFacts}
+use Rattle.lsp_laws.proofs.nodes.LegEnds.{leg_of-own}
 use Rattle.mesh_laws.proofs.sent.LegsHear.{first-sends}
 use Rattle.mesh_laws.proofs.sent.May.{Calm, Given, May, MayHere, NoneRemoves, SaidFirst, found-may, held-may}
 use Rattle.mesh_laws.proofs.sent.May.{here-may, idle}

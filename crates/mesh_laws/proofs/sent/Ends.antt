@@ -7,7 +7,7 @@ use Rattle.ason_base.specs.declared.ids.NodeId.{NodeId}
 use Rattle.ason_base.specs.declared.network.LinkSpec.{LinkSpec}
 use Rattle.mesh_rules.specs.LocalNodes.{leads}
 use Rattle.mesh_rules.specs.Legs.{reverse}
-use Rattle.mesh_laws.proofs.hops.Plans.{Plan, Leads, fibre_at, joined, link_at, node_at, same_node}
+use Rattle.lsp_laws.proofs.hops.Plans.{Plan, Leads, fibre_at, joined, link_at, node_at, same_node}
 
 some-is : {X : Type 0} (x y : X) → Some x ≡ Some y → x ≡ y
 some-is x y e = cc e

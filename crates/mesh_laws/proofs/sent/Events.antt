@@ -16,14 +16,14 @@ use Rattle.mesh_rules.specs.Legs.{find_leg, legs_changed}
 use Rattle.mesh_rules.specs.Machine.{Mesh, commit, sent_to, without_first}
 use Rattle.mesh_rules.specs.Events.{posted}
 use Rattle.mesh_nodes.proofs.LegList.{same_lsp-eq}
-use Rattle.mesh_laws.specs.HopLaw.{leg_at, lsp_of}
+use Rattle.lsp_laws.specs.HopLaw.{leg_at, lsp_of}
+use Rattle.lsp_laws.proofs.hops.Chain.{is_or_not}
+use Rattle.lsp_laws.proofs.hops.Plans.{same, other, same_node}
 use Rattle.mesh_laws.specs.HeardLaw.{brings, heard_one, lets_go, sends_of}
 use Rattle.mesh_laws.proofs.sent.Heard.{NoneBrings, NoneLetsGo}
 use Rattle.mesh_laws.proofs.sent.Steps.{Hears, HearsNone, HearsOne, LawfulMesh, StepAt, Taken, lawful-step}
 use Rattle.mesh_laws.proofs.sent.After.{after-may}
 use Rattle.mesh_laws.proofs.sent.May.{Calm, Fine, Given, NoneLabels, NoneRemoves, gift, is_labelled, no_gift}
-use Rattle.mesh_laws.proofs.hops.Chain.{is_or_not}
-use Rattle.mesh_laws.proofs.hops.Plans.{same, other, same_node}
 use Rattle.mesh_rules.specs.LocalNodes.{LocalNode}
 
 -- What is sent to one node

@@ -16,14 +16,14 @@ use Rattle.mesh_rules.specs.LocalNodes.{LocalNode}
 use Rattle.mesh_rules.specs.Machine.{Mesh, commit, without_first}
 use Rattle.mesh_rules.specs.Messages.{on_message}
 use Rattle.mesh_nodes.proofs.LegList.{same_lsp-refl}
+use Rattle.lsp_laws.specs.HopLaw.{is_message_of, is_notice, leg_at, lsp_of, mail_between, messages_of}
+use Rattle.lsp_laws.specs.HopShapes.{msg_kind}
+use Rattle.lsp_laws.proofs.hops.Chain.{OnRoute}
+use Rattle.lsp_laws.proofs.hops.Planned.{Follows, Routes}
+use Rattle.lsp_laws.proofs.hops.Plans.{Plan, node_at, plan, same, same_node}
+use Rattle.lsp_laws.proofs.hops.Purposes.{role_of}
+use Rattle.lsp_laws.proofs.hops.Rows.{no_removal_down}
 use Rattle.mesh_laws.specs.HeardLaw.{brings, lets_go}
-use Rattle.mesh_laws.specs.HopLaw.{is_message_of, is_notice, leg_at, lsp_of, mail_between, messages_of}
-use Rattle.mesh_laws.specs.HopShapes.{msg_kind}
-use Rattle.mesh_laws.proofs.hops.Chain.{OnRoute}
-use Rattle.mesh_laws.proofs.hops.Planned.{Follows, Routes}
-use Rattle.mesh_laws.proofs.hops.Plans.{Plan, node_at, plan, same, same_node}
-use Rattle.mesh_laws.proofs.hops.Purposes.{role_of}
-use Rattle.mesh_laws.proofs.hops.Rows.{no_removal_down}
 use Rattle.mesh_laws.proofs.sent.Brought.{down-over, removal-goes, up-over}
 use Rattle.mesh_laws.proofs.sent.Standing.{Standing, first-of}
 

@@ -6,8 +6,8 @@ use Rattle.ason_base.specs.declared.ids.Lsp.{Lsp}
 use Rattle.ason_base.specs.declared.messages.Msg.{Msg}
 use Rattle.ason_base.specs.declared.messages.Msg.TheVariants.{Path, Resv, PathTear, PathErr, Notify}
 use Rattle.ason_base.specs.Lsps.{same_lsp}
+use Rattle.lsp_laws.specs.HopLaw.{is_message_of, lsp_of, messages_of}
 use Rattle.mesh_laws.specs.HeardLaw.{IsLawful, brings, heard, heard_one, lets_go}
-use Rattle.mesh_laws.specs.HopLaw.{is_message_of, lsp_of, messages_of}
 
 -- More before, more after
 

@@ -39,10 +39,10 @@ use Rattle.mesh_rules.specs.State.{NodeState}
 use Rattle.mesh_rules.specs.Turns.{has_any}
 use Rattle.mesh_rules.specs.Waits.{all_ticked, on_tick, ticked}
 use Rattle.mesh_nodes.proofs.Cases.{if_cases}
-use Rattle.mesh_laws.proofs.hops.NamedPhases.{named_is}
-use Rattle.mesh_laws.proofs.hops.Plans.{same_node}
-use Rattle.mesh_laws.proofs.nodes.Facts.{NodeFacts}
-use Rattle.mesh_laws.proofs.nodes.LegEnds.{leg_of-own}
+use Rattle.lsp_laws.proofs.hops.NamedPhases.{named_is}
+use Rattle.lsp_laws.proofs.hops.Plans.{same_node}
+use Rattle.lsp_laws.proofs.nodes.Facts.{NodeFacts}
+use Rattle.lsp_laws.proofs.nodes.LegEnds.{leg_of-own}
 use Rattle.mesh_laws.proofs.sent.CallsHear.{backup-may, first-may, go_back-calm, pair-calm, put-calm, turn-calm}
 use Rattle.mesh_laws.proofs.sent.May.{Calm, Given, May, NoneRemoves, append-removes, both, closed-may, idle, leg_of-may}
 

@@ -11,12 +11,12 @@ use Rattle.mesh_rules.specs.declared.events.MeshEvent.{MeshEvent}
 use Rattle.mesh_rules.specs.Events.{after}
 use Rattle.mesh_rules.specs.Machine.{Mesh, start}
 use Rattle.mesh_rules.proofs.Topologies.{topology_searchable}
+use Rattle.lsp_laws.specs.HopLaw.{leg_at}
+use Rattle.lsp_laws.specs.LabelLaw.{EverySentLabelIsShared, MaySend, SendLawfully}
+use Rattle.lsp_laws.specs.RiskLaw.{rows_of}
+use Rattle.lsp_laws.proofs.hops.Planned.{Routes}
+use Rattle.lsp_laws.proofs.nodes.Laws.{pairs}
 use Rattle.mesh_laws.specs.HeardLaw.{AreApart, EveryListIsLawful, primary_of, sends_of}
-use Rattle.mesh_laws.specs.HopLaw.{leg_at}
-use Rattle.mesh_laws.specs.LabelLaw.{EverySentLabelIsShared, MaySend, SendLawfully}
-use Rattle.mesh_laws.specs.RiskLaw.{rows_of}
-use Rattle.mesh_laws.proofs.hops.Planned.{Routes}
-use Rattle.mesh_laws.proofs.nodes.Laws.{pairs}
 use Rattle.mesh_laws.proofs.sent.Run.{sound}
 use Rattle.mesh_laws.proofs.sent.Sound.{Sound, standing}
 use Rattle.mesh_laws.proofs.sent.Standing.{Guarding, Share, Standing, backs, ends-of, guarding}

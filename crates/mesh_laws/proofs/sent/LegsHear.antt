@@ -18,8 +18,8 @@ use Rattle.mesh_rules.specs.FirstLegs.{NewLsp, first_leg}
 use Rattle.mesh_rules.specs.Legs.{connected, is_at, reverse, reverse_of, sends}
 use Rattle.mesh_rules.specs.Paths.{PathRequest, egress_leg, transit_leg}
 use Rattle.mesh_nodes.proofs.LabelPlaces.{at-is, either, none-at, or-second}
+use Rattle.lsp_laws.proofs.hops.Plans.{same}
 use Rattle.mesh_laws.specs.HeardLaw.{brings}
-use Rattle.mesh_laws.proofs.hops.Plans.{same}
 
 never-at : (o : Option Fibre) (f : Fibre) (x : ℕ) → is_at o None f x ≡ true → ⊥
 never-at o f x e = let none = none-at o f x in cc (none, e)

@@ -24,9 +24,9 @@ use Rattle.mesh_rules.specs.Pairs.{is_two_way}
 use Rattle.mesh_rules.specs.Paths.{is_active}
 use Rattle.mesh_rules.specs.State.{NodeState}
 use Rattle.mesh_nodes.proofs.LegList.{found-lsp}
+use Rattle.lsp_laws.specs.HopLaw.{lsp_of}
+use Rattle.lsp_laws.proofs.nodes.ClosedLegs.{closed-sends}
 use Rattle.mesh_laws.specs.HeardLaw.{brings, lets_go, sends_of}
-use Rattle.mesh_laws.specs.HopLaw.{lsp_of}
-use Rattle.mesh_laws.proofs.nodes.ClosedLegs.{closed-sends}
 
 -- Messages
 

@@ -32,10 +32,10 @@ use Rattle.mesh_rules.specs.Tears.{tear_with, torn}
 use Rattle.mesh_nodes.proofs.Cases.{both_left, both_right, if_cases}
 use Rattle.mesh_nodes.proofs.CallList.{called-found}
 use Rattle.mesh_nodes.proofs.LegList.{found-lsp}
+use Rattle.lsp_laws.proofs.hops.Plans.{same_node}
+use Rattle.lsp_laws.proofs.nodes.Facts.{NodeFacts}
+use Rattle.lsp_laws.proofs.nodes.LegEnds.{no_previous-here}
 use Rattle.mesh_laws.specs.HeardLaw.{brings, sends_of}
-use Rattle.mesh_laws.proofs.hops.Plans.{same_node}
-use Rattle.mesh_laws.proofs.nodes.Facts.{NodeFacts}
-use Rattle.mesh_laws.proofs.nodes.LegEnds.{no_previous-here}
 use Rattle.mesh_laws.proofs.sent.CallsHear.{answered-calm, backup-may, contended-calm, decide-calm, refused-calm}
 use Rattle.mesh_laws.proofs.sent.CallsHear.{turned-calm}
 use Rattle.mesh_laws.proofs.sent.LegsHear.{connected-sends}

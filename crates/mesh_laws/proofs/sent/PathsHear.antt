@@ -25,8 +25,8 @@ use Rattle.mesh_rules.specs.Paths.{in_transit, is_active, judged, offered_labels
 use Rattle.mesh_rules.specs.State.{NodeState}
 use Rattle.mesh_nodes.proofs.Cases.{both_left, if_cases}
 use Rattle.mesh_nodes.proofs.LegList.{found-lsp}
+use Rattle.lsp_laws.proofs.hops.Plans.{found_id}
 use Rattle.mesh_laws.specs.HeardLaw.{brings}
-use Rattle.mesh_laws.proofs.hops.Plans.{found_id}
 use Rattle.mesh_laws.proofs.sent.LegsHear.{egress-sends, transit-sends}
 use Rattle.mesh_laws.proofs.sent.May.{Activated, Calm, Fine, Given, May, NoneRemoves, SaidNow, fine, found-may}
 use Rattle.mesh_laws.proofs.sent.May.{held-may, idle, phased-may, reserved-idle}

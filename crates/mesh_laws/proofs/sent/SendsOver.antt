@@ -9,9 +9,9 @@ use Rattle.ason_base.specs.declared.messages.Msg.{Msg}
 use Rattle.ason_base.specs.declared.tables.Leg.{Leg}
 use Rattle.mesh_rules.specs.Legs.{is_at, reverse, reverse_of, sends}
 use Rattle.mesh_nodes.proofs.LabelPlaces.{at-is, either}
-use Rattle.mesh_laws.proofs.hops.Chain.{Chain, IsPlace, LegFits, below_or_not, in_fibre_at, out_fibre_at}
-use Rattle.mesh_laws.proofs.hops.Plans.{Plan, IsRoute, distinct, fibre_at, hops, lt_false, lt_true, node_at, same_node}
-use Rattle.mesh_laws.proofs.hops.Purposes.{Purpose}
+use Rattle.lsp_laws.proofs.hops.Chain.{Chain, IsPlace, LegFits, below_or_not, in_fibre_at, out_fibre_at}
+use Rattle.lsp_laws.proofs.hops.Plans.{Plan, IsRoute, distinct, fibre_at, hops, lt_false, lt_true, node_at, same_node}
+use Rattle.lsp_laws.proofs.hops.Purposes.{Purpose}
 use Rattle.mesh_laws.proofs.sent.Ends.{receiver-at, receiver-back, sender-at, sender-back}
 
 some-is : {X : Type 0} (x y : X) → Some x ≡ Some y → x ≡ y

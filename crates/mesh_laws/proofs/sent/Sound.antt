@@ -22,14 +22,14 @@ use Rattle.mesh_rules.specs.LocalNodes.{LocalNode, local_node}
 use Rattle.mesh_rules.specs.Machine.{Mesh, commit, without_first}
 use Rattle.mesh_rules.specs.Messages.{on_message}
 use Rattle.mesh_rules.specs.State.{NodeState}
-use Rattle.mesh_laws.specs.HopLaw.{leg_at}
+use Rattle.lsp_laws.specs.HopLaw.{leg_at}
 use Rattle.mesh_nodes.proofs.Cases.{if_cases}
 use Rattle.mesh_nodes.proofs.LegList.{found-lsp}
-use Rattle.mesh_laws.proofs.hops.Laws.{carried}
-use Rattle.mesh_laws.proofs.hops.Planned.{Routes}
-use Rattle.mesh_laws.proofs.hops.Plans.{other, same}
-use Rattle.mesh_laws.proofs.hops.Run.{Carried, step_routes}
-use Rattle.mesh_laws.proofs.nodes.Facts.{MeshFacts, NodeFacts}
+use Rattle.lsp_laws.proofs.hops.Laws.{carried}
+use Rattle.lsp_laws.proofs.hops.Planned.{Routes}
+use Rattle.lsp_laws.proofs.hops.Plans.{other, same}
+use Rattle.lsp_laws.proofs.hops.Run.{Carried, step_routes}
+use Rattle.lsp_laws.proofs.nodes.Facts.{MeshFacts, NodeFacts}
 use Rattle.mesh_laws.proofs.crossing.Steps.{Entered, NoneCrosses, none-crosses}
 use Rattle.mesh_laws.proofs.crossing.Upstream.{upstream-of}
 use Rattle.mesh_laws.proofs.sent.After.{Fits, after-fit}

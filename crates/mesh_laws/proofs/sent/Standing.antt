@@ -16,16 +16,16 @@ use Rattle.ason_base.specs.declared.tables.Leg.{Leg}
 use Rattle.mesh_rules.specs.Commands.{is_searchable}
 use Rattle.mesh_rules.specs.Legs.{is_closing, sends}
 use Rattle.mesh_rules.specs.Machine.{Mesh}
+use Rattle.lsp_laws.specs.HopLaw.{is_message_of, is_notice, leg_at, lsp_of, mail_between, messages_of}
+use Rattle.lsp_laws.specs.LabelLaw.{MayShare}
+use Rattle.lsp_laws.specs.RiskLaw.{rows_of}
+use Rattle.lsp_laws.proofs.hops.Chain.{LegFits, RisksFit}
+use Rattle.lsp_laws.proofs.hops.Planned.{EachFollows, Follows, Routes}
+use Rattle.lsp_laws.proofs.hops.Plans.{distinct, fibre_at, hops, node_at, plan}
+use Rattle.lsp_laws.proofs.hops.Purposes.{Carries, Guards, Purpose, Tells, role_of}
+use Rattle.lsp_laws.proofs.nodes.BackLabels.{torn-back_out}
+use Rattle.lsp_laws.proofs.nodes.Facts.{MeshFacts}
 use Rattle.mesh_laws.specs.HeardLaw.{heard, primary_in, sends_of}
-use Rattle.mesh_laws.specs.HopLaw.{is_message_of, is_notice, leg_at, lsp_of, mail_between, messages_of}
-use Rattle.mesh_laws.specs.LabelLaw.{MayShare}
-use Rattle.mesh_laws.specs.RiskLaw.{rows_of}
-use Rattle.mesh_laws.proofs.hops.Chain.{LegFits, RisksFit}
-use Rattle.mesh_laws.proofs.hops.Planned.{EachFollows, Follows, Routes}
-use Rattle.mesh_laws.proofs.hops.Plans.{distinct, fibre_at, hops, node_at, plan}
-use Rattle.mesh_laws.proofs.hops.Purposes.{Carries, Guards, Purpose, Tells, role_of}
-use Rattle.mesh_laws.proofs.nodes.BackLabels.{torn-back_out}
-use Rattle.mesh_laws.proofs.nodes.Facts.{MeshFacts}
 use Rattle.mesh_laws.proofs.sent.Answers.{AllOf}
 use Rattle.mesh_laws.proofs.sent.Ends.{receiver-at, sender-at}
 use Rattle.mesh_laws.proofs.sent.Heard.{heard-own}

@@ -9,11 +9,11 @@ use Rattle.ason_base.specs.declared.messages.Msg.{Msg}
 use Rattle.ason_base.specs.declared.tables.Leg.{Leg}
 use Rattle.mesh_rules.specs.Legs.{takes}
 use Rattle.mesh_rules.specs.Machine.{Mesh}
-use Rattle.mesh_laws.specs.HopLaw.{leg_at}
+use Rattle.lsp_laws.specs.HopLaw.{leg_at}
+use Rattle.lsp_laws.proofs.hops.Chain.{is_or_not}
+use Rattle.lsp_laws.proofs.hops.Plans.{same_node}
 use Rattle.mesh_laws.specs.HeardLaw.{IsLawful, heard, heard_one, sends_of}
 use Rattle.mesh_laws.proofs.sent.Heard.{NoneBrings, NoneLetsGo, lawful-heard, lawful-less, lawful-sent}
-use Rattle.mesh_laws.proofs.hops.Chain.{is_or_not}
-use Rattle.mesh_laws.proofs.hops.Plans.{same_node}
 
 -- Over each fibre from u to d: at each cut of the list from d to u, the LSPs that may send a label there share it.
 abbrev pub LawfulMesh : Network → (Lsp → Lsp → Type 0) → Mesh → Type 0

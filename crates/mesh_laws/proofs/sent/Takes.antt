@@ -13,14 +13,14 @@ use Rattle.ason_base.specs.declared.tables.Leg.{Leg}
 use Rattle.mesh_rules.specs.Legs.{is_closing, is_label, reverse, reverse_of, sends, takes}
 use Rattle.mesh_nodes.proofs.Cases.{both_left}
 use Rattle.mesh_nodes.proofs.LabelPlaces.{back_in-taken, is-at}
+use Rattle.lsp_laws.specs.HopShapes.{AskedLeg, leg_kind, phase_kind}
+use Rattle.lsp_laws.proofs.hops.Chain.{Chain, HopAt, LegFits, OnRoute, PhaseFits}
+use Rattle.lsp_laws.proofs.hops.Plans.{Plan, IsRoute, fibre_at, hops, link_at, lt_true, node_at, same_node}
+use Rattle.lsp_laws.proofs.hops.Purposes.{Carries, DownFits, Each, Guards, HasUpstream, Purpose, UpFits, back_in_of}
+use Rattle.lsp_laws.proofs.hops.Purposes.{back_out_of, in_label_of, out_label_of}
+use Rattle.lsp_laws.proofs.hops.RowStates.{is_reserved}
+use Rattle.lsp_laws.proofs.nodes.LegParts.{takes-by}
 use Rattle.mesh_laws.specs.HeardLaw.{brings, heard, heard_one, sends_of}
-use Rattle.mesh_laws.specs.HopShapes.{AskedLeg, leg_kind, phase_kind}
-use Rattle.mesh_laws.proofs.hops.Chain.{Chain, HopAt, LegFits, OnRoute, PhaseFits}
-use Rattle.mesh_laws.proofs.hops.Plans.{Plan, IsRoute, fibre_at, hops, link_at, lt_true, node_at, same_node}
-use Rattle.mesh_laws.proofs.hops.Purposes.{Carries, DownFits, Each, Guards, HasUpstream, Purpose, UpFits, back_in_of}
-use Rattle.mesh_laws.proofs.hops.Purposes.{back_out_of, in_label_of, out_label_of}
-use Rattle.mesh_laws.proofs.hops.RowStates.{is_reserved}
-use Rattle.mesh_laws.proofs.nodes.LegParts.{takes-by}
 use Rattle.mesh_laws.proofs.sent.Answers.{AllOf, back-is-back, one, out-is-in}
 use Rattle.mesh_laws.proofs.sent.Ends.{one-fibre}
 use Rattle.mesh_laws.proofs.sent.SendsOver.{SendsBack, SendsOnward, SendsOver, receiver_here, receiver_there}

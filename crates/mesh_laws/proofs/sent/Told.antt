@@ -16,14 +16,14 @@ use Rattle.mesh_rules.specs.Events.{or_route}
 use Rattle.mesh_rules.specs.LocalNodes.{local_node}
 use Rattle.mesh_rules.specs.Machine.{Mesh}
 use Rattle.mesh_nodes.proofs.LegList.{same_lsp-refl}
+use Rattle.lsp_laws.specs.HopLaw.{leg_at, mail_between, messages_of}
+use Rattle.lsp_laws.specs.HopShapes.{ActivePath, LegKind, MsgKind, NoLeg, PlainPath, Shape, leg_kind, path_kind}
+use Rattle.lsp_laws.proofs.hops.Chain.{IsPlace, LegFits, OnRoute, is_or_not}
+use Rattle.lsp_laws.proofs.hops.Planned.{EachFollows, Follows, Planned, Routes}
+use Rattle.lsp_laws.proofs.hops.Plans.{Plan, hops, node_at, plan, same_node}
+use Rattle.lsp_laws.proofs.hops.Purposes.{Carries, Guards, Purpose, Tells, role_of}
+use Rattle.lsp_laws.proofs.hops.Rows.{no_active_up, no_path_up}
 use Rattle.mesh_laws.specs.HeardLaw.{primary_at, primary_in, primary_told}
-use Rattle.mesh_laws.specs.HopLaw.{leg_at, mail_between, messages_of}
-use Rattle.mesh_laws.specs.HopShapes.{ActivePath, LegKind, MsgKind, NoLeg, PlainPath, Shape, leg_kind, path_kind}
-use Rattle.mesh_laws.proofs.hops.Chain.{IsPlace, LegFits, OnRoute, is_or_not}
-use Rattle.mesh_laws.proofs.hops.Planned.{EachFollows, Follows, Planned, Routes}
-use Rattle.mesh_laws.proofs.hops.Plans.{Plan, hops, node_at, plan, same_node}
-use Rattle.mesh_laws.proofs.hops.Purposes.{Carries, Guards, Purpose, Tells, role_of}
-use Rattle.mesh_laws.proofs.hops.Rows.{no_active_up, no_path_up}
 use Rattle.mesh_laws.proofs.sent.May.{Given, SaidBefore, SaidFirst, SaidNow, Says, gift}
 
 -- Each leg tells its LSP's primary; and an LSP that was never sent has none.

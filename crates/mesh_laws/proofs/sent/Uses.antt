@@ -16,15 +16,15 @@ use Rattle.mesh_rules.specs.Machine.{Mesh}
 use Rattle.mesh_nodes.proofs.Cases.{both_left, both_right}
 use Rattle.mesh_nodes.proofs.LabelPlaces.{at-is, back_in-taken, either, none-at, or-second}
 use Rattle.mesh_nodes.proofs.LegList.{same_lsp-refl}
+use Rattle.lsp_laws.specs.HopLaw.{leg_at}
+use Rattle.lsp_laws.specs.LabelLaw.{MayShare, MaySend}
+use Rattle.lsp_laws.proofs.hops.LegChanges.{following_is}
+use Rattle.lsp_laws.proofs.hops.Planned.{Routes}
+use Rattle.lsp_laws.proofs.hops.Plans.{distinct, fibre_at, node_at, same_node}
+use Rattle.lsp_laws.proofs.nodes.Facts.{SharesAll}
+use Rattle.lsp_laws.proofs.nodes.LegParts.{taken-used}
+use Rattle.lsp_laws.proofs.nodes.Marks.{other, used-at}
 use Rattle.mesh_laws.specs.HeardLaw.{heard, sends_of}
-use Rattle.mesh_laws.specs.HopLaw.{leg_at}
-use Rattle.mesh_laws.specs.LabelLaw.{MayShare, MaySend}
-use Rattle.mesh_laws.proofs.hops.LegChanges.{following_is}
-use Rattle.mesh_laws.proofs.hops.Planned.{Routes}
-use Rattle.mesh_laws.proofs.hops.Plans.{distinct, fibre_at, node_at, same_node}
-use Rattle.mesh_laws.proofs.nodes.Facts.{SharesAll}
-use Rattle.mesh_laws.proofs.nodes.LegParts.{taken-used}
-use Rattle.mesh_laws.proofs.nodes.Marks.{other, used-at}
 use Rattle.mesh_laws.proofs.sent.Ends.{receiver-at, receiver-back, sender-at}
 use Rattle.mesh_laws.proofs.sent.Law.{may-send, sent-shared}
 use Rattle.mesh_laws.proofs.sent.SendsOver.{back-place, out-place}

@@ -33,22 +33,22 @@ use Rattle.mesh_nodes.proofs.Cases.{not-true}
 use Rattle.mesh_nodes.proofs.LegList.{all-found, found-all, same_lsp-refl}
 use Rattle.mesh_nodes.proofs.routes.Lists.{contains-unkept}
 use Rattle.mesh_nodes.proofs.routes.Nodes.{find-there}
+use Rattle.lsp_laws.specs.CallLaw.{FitsLegs, IsNamed, fits, fits_reports, phase_of}
+use Rattle.lsp_laws.specs.HopLaw.{LspFits, leg_at}
+use Rattle.lsp_laws.specs.ReportLaw.{AreOf, IsOfRoute, reports_of}
+use Rattle.lsp_laws.proofs.hops.Laws.{every_hop}
+use Rattle.lsp_laws.proofs.hops.ReportedFibres.{every_report_of_route}
+use Rattle.lsp_laws.proofs.nodes.CallParts.{named-lsp}
+use Rattle.lsp_laws.proofs.nodes.Facts.{MeshFacts}
+use Rattle.lsp_laws.proofs.nodes.Laws.{every_call}
+use Rattle.lsp_laws.proofs.nodes.Runs.{facts-hold}
 use Rattle.mesh_laws.specs.AloneLaw.{CallIsCalm, Calm, LegIsCalm, is_idle}
-use Rattle.mesh_laws.specs.CallLaw.{FitsLegs, IsNamed, fits, fits_reports, phase_of}
-use Rattle.mesh_laws.specs.HopLaw.{LspFits, leg_at}
 use Rattle.mesh_laws.specs.KnownLaw.{ComesIn}
-use Rattle.mesh_laws.specs.ReportLaw.{AreOf, IsOfRoute, reports_of}
 use Rattle.mesh_laws.specs.SurveyLaw.{CalmIsShown, IsShownCalm, ShowsAll, is_reserved_row}
 use Rattle.mesh_laws.proofs.alone.Calls.{is_lsp-eq}
 use Rattle.mesh_laws.proofs.alone.Facts.{Routes}
 use Rattle.mesh_laws.proofs.alone.Risks.{found-passes, or-last}
-use Rattle.mesh_laws.proofs.hops.Laws.{every_hop}
-use Rattle.mesh_laws.proofs.hops.Ordered.{every_known}
-use Rattle.mesh_laws.proofs.hops.ReportedFibres.{every_report_of_route}
-use Rattle.mesh_laws.proofs.nodes.CallParts.{named-lsp}
-use Rattle.mesh_laws.proofs.nodes.Facts.{MeshFacts}
-use Rattle.mesh_laws.proofs.nodes.Laws.{every_call}
-use Rattle.mesh_laws.proofs.nodes.Runs.{facts-hold}
+use Rattle.mesh_laws.proofs.ordered.Law.{every_known}
 use Rattle.mesh_laws.proofs.reports.Desks.{every_desk_tells}
 use Rattle.mesh_laws.proofs.reports.KnownFibres.{same_bool-is, same_fibre-refl}
 use Rattle.mesh_laws.proofs.restoration.Called.{call-is}

@@ -14,16 +14,16 @@ use Rattle.mesh_rules.specs.Events.{after, route_of, IsRun}
 use Rattle.mesh_rules.specs.Legs.{takes}
 use Rattle.mesh_rules.specs.Machine.{Mesh, start}
 use Rattle.mesh_rules.specs.Rows.{call_row}
+use Rattle.lsp_laws.specs.HopLaw.{LspFits, leg_at}
+use Rattle.lsp_laws.proofs.hops.Laws.{every_hop}
+use Rattle.lsp_laws.proofs.nodes.Facts.{MeshFacts}
+use Rattle.lsp_laws.proofs.nodes.Runs.{facts-hold}
 use Rattle.mesh_laws.specs.declared.survey.Contend.{Contend as Listed}
 use Rattle.mesh_laws.specs.HeardLaw.{primary_of}
-use Rattle.mesh_laws.specs.HopLaw.{LspFits, leg_at}
 use Rattle.mesh_laws.specs.ContendLaw.{Contend}
 use Rattle.mesh_laws.specs.Survey.{between, end_of, groups_of}
 use Rattle.mesh_laws.specs.SurveyLaw.{ContendsAreListed, NoSurveyedContend, NoneListed, ShowsAll}
 use Rattle.mesh_laws.proofs.alone.Facts.{Routes}
-use Rattle.mesh_laws.proofs.hops.Laws.{every_hop}
-use Rattle.mesh_laws.proofs.nodes.Facts.{MeshFacts}
-use Rattle.mesh_laws.proofs.nodes.Runs.{facts-hold}
 use Rattle.mesh_laws.proofs.contends.Law.{no_contend}
 use Rattle.mesh_laws.proofs.sent.Run.{sound}
 use Rattle.mesh_laws.proofs.sent.Sound.{standing}

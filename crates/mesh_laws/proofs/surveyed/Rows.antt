@@ -23,14 +23,14 @@ use Rattle.mesh_rules.specs.Rows.{call_row, call_rows, leg_row, leg_rows, link_o
 use Rattle.mesh_nodes.proofs.LabelPlaces.{at-is, either, or-first, or-second}
 use Rattle.mesh_nodes.proofs.LegList.{found-lsp, same_lsp-refl}
 use Rattle.mesh_nodes.proofs.routes.Lists.{contains-flat, contains-map}
-use Rattle.mesh_laws.specs.HopLaw.{LspFits, leg_at}
+use Rattle.lsp_laws.specs.HopLaw.{LspFits, leg_at}
+use Rattle.lsp_laws.proofs.hops.Plans.{same}
+use Rattle.lsp_laws.proofs.nodes.CallParts.{named-lsp}
+use Rattle.lsp_laws.proofs.nodes.Facts.{MeshFacts}
 use Rattle.mesh_laws.specs.ContendLaw.{MayTurnTo, TakesLabel}
 use Rattle.mesh_laws.specs.SurveyLaw.{ShowsAll}
 use Rattle.mesh_laws.specs.Survey.{hits, is_guarded_row, is_link_label, labels_at, link_label, may_turn_to, row_labels, row_takes, takes_at}
 use Rattle.mesh_laws.proofs.alone.Facts.{Routes}
-use Rattle.mesh_laws.proofs.hops.Plans.{same}
-use Rattle.mesh_laws.proofs.nodes.CallParts.{named-lsp}
-use Rattle.mesh_laws.proofs.nodes.Facts.{MeshFacts}
 use Rattle.mesh_laws.proofs.restoration.Calls.{backup-there}
 use Rattle.mesh_laws.proofs.surveyed.Stands.{placed}
 

@@ -16,13 +16,13 @@ use Rattle.mesh_rules.specs.Machine.{Mesh}
 use Rattle.mesh_rules.proofs.LinkNews.{HasEnds, all-ends}
 use Rattle.mesh_nodes.proofs.LabelPlaces.{or-first, or-second}
 use Rattle.mesh_nodes.proofs.routes.Nodes.{find-there}
-use Rattle.mesh_laws.specs.HopLaw.{LspFits, RouteFits, StepFits, leg_at}
-use Rattle.mesh_laws.specs.ReportLaw.{place_at}
+use Rattle.lsp_laws.specs.HopLaw.{LspFits, RouteFits, StepFits, leg_at}
+use Rattle.lsp_laws.specs.ReportLaw.{place_at}
+use Rattle.lsp_laws.proofs.hops.Law.{step_at}
+use Rattle.lsp_laws.proofs.hops.Plans.{IsRoute, plan, route_made, same}
 use Rattle.mesh_laws.specs.Survey.{end_of}
 use Rattle.mesh_laws.proofs.alone.Facts.{Routes}
 use Rattle.mesh_laws.proofs.alone.Risks.{found-passes}
-use Rattle.mesh_laws.proofs.hops.Law.{step_at}
-use Rattle.mesh_laws.proofs.hops.Plans.{IsRoute, plan, route_made, same}
 use Rattle.mesh_laws.proofs.restoration.Steps.{begins-at, ends-at, goes-on}
 
 -- the ends of a link are nodes

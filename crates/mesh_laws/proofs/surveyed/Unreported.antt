@@ -22,17 +22,17 @@ use Rattle.mesh_rules.specs.Machine.{Mesh, start}
 use Rattle.mesh_rules.specs.Quiet.{IsQuiet}
 use Rattle.mesh_rules.specs.Reports.{fibre_into, first_node}
 use Rattle.mesh_nodes.proofs.LegList.{found-all}
-use Rattle.mesh_laws.specs.CallLaw.{fits}
-use Rattle.mesh_laws.specs.HopLaw.{LspFits, RouteFits, leg_at}
-use Rattle.mesh_laws.specs.HopShapes.{leg_kind, phase_kind}
-use Rattle.mesh_laws.specs.ReportLaw.{IsOfRoute, StandsTo, is_reported, is_standing, place_at}
+use Rattle.lsp_laws.specs.CallLaw.{fits}
+use Rattle.lsp_laws.specs.HopLaw.{LspFits, RouteFits, leg_at}
+use Rattle.lsp_laws.specs.HopShapes.{leg_kind, phase_kind}
+use Rattle.lsp_laws.specs.ReportLaw.{IsOfRoute, StandsTo, is_reported, is_standing, place_at}
+use Rattle.lsp_laws.proofs.hops.Law.{step_at}
+use Rattle.lsp_laws.proofs.hops.Laws.{every_hop}
+use Rattle.lsp_laws.proofs.hops.Plans.{IsRoute, link_at, node_at, plan, route_made}
+use Rattle.lsp_laws.proofs.hops.RowStates.{ArmedStands, HeldStands, LiveStands, Stands}
+use Rattle.lsp_laws.proofs.nodes.Facts.{MeshFacts}
+use Rattle.lsp_laws.proofs.nodes.Runs.{facts-hold}
 use Rattle.mesh_laws.proofs.alone.Facts.{Routes}
-use Rattle.mesh_laws.proofs.hops.Law.{step_at}
-use Rattle.mesh_laws.proofs.hops.Laws.{every_hop}
-use Rattle.mesh_laws.proofs.hops.Plans.{IsRoute, link_at, node_at, plan, route_made}
-use Rattle.mesh_laws.proofs.hops.RowStates.{ArmedStands, HeldStands, LiveStands, Stands}
-use Rattle.mesh_laws.proofs.nodes.Facts.{MeshFacts}
-use Rattle.mesh_laws.proofs.nodes.Runs.{facts-hold}
 use Rattle.mesh_laws.proofs.reports.Desks.{every_desk_tells}
 use Rattle.mesh_laws.proofs.reports.Laws.{every_report_tells, place-is}
 use Rattle.mesh_laws.proofs.reports.Reported.{first-is, low-first}

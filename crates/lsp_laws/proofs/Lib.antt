@@ -1,0 +1,2 @@
+pub mod hops
+pub mod nodes

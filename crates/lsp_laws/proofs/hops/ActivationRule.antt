@@ -1,0 +1,192 @@
+-- A Path that activates a backup is taken at a node of its route.
+use Rattle.std.proofs.Common.{◌≡◌, ◌<◌, ◌≤◌, ℕ, suc, true, false, List, [], ◌∷◌, refl, sym, ◌∙◌, subst, arith, inl, inr, append-nil, drop, ap, zero}
+use Rattle.std.specs.Prelude.{◌⊎◌, Option, Some, None}
+use Rattle.ason_base.specs.Codes.{busy_code}
+use Rattle.ason_base.specs.Lsps.{same_lsp}
+use Rattle.ason_base.specs.Network.{Network}
+use Rattle.ason_base.specs.declared.ids.Lsp.{Lsp}
+use Rattle.ason_base.specs.declared.ids.NodeId.{NodeId}
+use Rattle.ason_base.specs.declared.ids.LinkId.{LinkId}
+use Rattle.ason_base.specs.declared.steps.Step.{Step}
+use Rattle.ason_base.specs.declared.calls.Phase.TheVariants.{Held, Armed, Live}
+use Rattle.ason_base.specs.declared.messages.PathRole.{PathRole}
+use Rattle.ason_base.specs.declared.messages.PathRole.TheVariants.{Back}
+use Rattle.ason_base.specs.declared.messages.Msg.{Msg}
+use Rattle.ason_base.specs.declared.messages.Msg.TheVariants.{Path, Resv, PathErr}
+use Rattle.ason_base.specs.declared.tables.Leg.{Leg}
+use Rattle.mesh_rules.specs.declared.neighbours.Neighbour.{Neighbour}
+use Rattle.mesh_rules.specs.State.{NodeState}
+use Rattle.mesh_rules.specs.Activations.{armed_on, busy_to, resv_to}
+use Rattle.mesh_rules.specs.Changes.{Answer, puts, sends, to_node}
+use Rattle.mesh_rules.specs.LocalNodes.{LocalNode, local_node}
+use Rattle.mesh_rules.specs.Legs.{following, is_contended, previous, with_phase}
+use Rattle.mesh_rules.specs.Machine.{Mesh}
+use Rattle.mesh_rules.specs.Messages.{arrival}
+use Rattle.mesh_rules.specs.Paths.{PathRequest, path_with}
+use Rattle.lsp_laws.specs.HopShapes.{NoLeg, HeldLeg, leg_kind}
+use Rattle.lsp_laws.specs.HopLaw.{is_message_of, messages_of, leg_at, mail_between}
+use Rattle.mesh_nodes.proofs.Cases.{if_cases}
+use Rattle.mesh_nodes.proofs.LegList.{same_lsp-refl}
+use Rattle.lsp_laws.proofs.hops.Activation.{arms, arms_on, connects, contends}
+use Rattle.lsp_laws.proofs.hops.Chain.{Chain, Hop, LegFits, below_or_not}
+use Rattle.lsp_laws.proofs.hops.LegKinds.{held_leg}
+use Rattle.lsp_laws.proofs.hops.LegChanges.{armed_fits, following_is, following_none, held_live_fits}
+use Rattle.lsp_laws.proofs.hops.LegKinds.{same_of}
+use Rattle.lsp_laws.proofs.hops.LegChanges.{in_label_is, in_use_out, previous_is}
+use Rattle.lsp_laws.proofs.hops.Plans.{Plan, hops, node_at, link_at, fibre_at, IsRoute, same}
+use Rattle.lsp_laws.proofs.hops.Purposes.{Purpose, Tells, role_of}
+use Rattle.lsp_laws.proofs.hops.PathTaken.{active_taken}
+use Rattle.lsp_laws.proofs.hops.Rows.{leg_downstream}
+use Rattle.lsp_laws.proofs.hops.Sending.{sends_back, sends_on}
+use Rattle.lsp_laws.proofs.hops.Taken.{KeepsDown, down_hop, down_taken}
+
+-- the Resv that a leg sends back
+pub resv-is : (g : Leg) (h : Neighbour) (y : ℕ) (o : Option Neighbour) (label : Option ℕ) → o ≡ Some h →
+    label ≡ Some y → resv_to g o label ≡ to_node h.node (Resv g.lsp g.egress h.fibre.link y) ∷ []
+resv-is g h y None label before is = absurd (cc before)
+resv-is g h y (Some k) None before is = absurd (cc is)
+resv-is g h y (Some k) (Some z) before is = let a : k ≡ h = cc before in let b : z ≡ y = cc is in rw (a, b) refl
+
+-- the rest of a route, from the next step on
+pub drop-next : {X : Type 0} (j : ℕ) (xs : List X) → drop 1 (drop j xs) ≡ drop (suc j) xs
+drop-next zero [] = refl
+drop-next zero (x ∷ xs) = refl
+drop-next (suc j) [] = refl
+drop-next (suc j) (x ∷ xs) = drop-next j xs
+
+module _ (t : Network) (q : Purpose) (s : Mesh) (l : Lsp) (p : Plan) (i : ℕ) (route : IsRoute t l.ingress p)
+    (chain : Chain t q l p (leg_at s l) (mail_between s l)) (below : i < hops p)
+    (e : NodeId) (k : LinkId) (r : List Step) (set : List ℕ) (label : Option ℕ) (work : ℕ) (primary : List Step)
+    (rest : List Msg)
+    (was : s.mail (node_at p i).0 (node_at p (suc i)).0 ≡ Path l e k r set label (Back true work primary) ∷ rest)
+  where
+    abbrev u : NodeId
+    u = node_at p i
+
+    abbrev d : NodeId
+    d = node_at p (suc i)
+
+    abbrev next : NodeId
+    next = node_at p (suc (suc i))
+
+    abbrev place : LocalNode
+    place = local_node t d
+
+    abbrev state : NodeState
+    state = s.nodes d.0
+
+    abbrev role : PathRole
+    role = Back true work primary
+
+    abbrev message : Msg
+    message = Path l e k r set label (Back true work primary)
+
+    abbrev asks : PathRequest
+    asks = record { arrival = arrival l e u k; route = r; set = set; upstream = label; role = role }
+
+    pub own : is_message_of l message ≡ true
+    own = same_lsp-refl l
+
+    abbrev Keeps : Answer → Type 0
+    Keeps a = KeepsDown t q s l p i route chain below message rest was own a
+
+    hop : Hop q p i (leg_at s l u) (leg_at s l d) (message ∷ messages_of l rest) (mail_between s l d u)
+    hop = down_hop t q s l p i route chain below message rest was own
+
+    over : k ≡ link_at p i
+    over = hop.rest.going_down.0.1
+
+    -- the steps that are left from the next node on
+    left : drop 1 r ≡ drop (suc (suc i)) p.route
+    left = ap (drop 1) hop.rest.going_down.0.2 ∙ drop-next (suc i) p.route
+
+    tells : Tells q (Back true work primary)
+    tells = hop.rest.going_down.0.3
+
+    module _ (g : Leg) (here : leg_at s l (node_at p (suc i)) ≡ Some g) (fits : LegFits t q l p (suc i) g)
+        (held : g.phase ≡ Held) where
+      mine : same_lsp g.lsp l ≡ true
+      mine = same_of g.lsp l fits.own
+
+      hop_in : Hop q p i (leg_at s l u) (Some g) (message ∷ messages_of l rest) (mail_between s l d u)
+      hop_in = rw here at hop
+
+      hop_out : suc i < hops p → Hop q p (suc i) (Some g) (leg_at s l next) (mail_between s l d next)
+          (mail_between s l next d)
+      hop_out small = rw here at (chain.each (suc i) small)
+
+      into : (y : ℕ) × (g.in_label ≡ Some y)
+      into = in_label_is t q l p i g fits (rw held refl)
+
+      -- it is refused
+      refuses : Keeps (sends (busy_to place g u ∷ []))
+      refuses =
+          down_taken t q s l p i route chain below message rest was own
+          (sends (busy_to place g u ∷ [])) (Some g) (PathErr g.lsp g.egress d false busy_code ∷ []) []
+          here (sends_back t l l.ingress p route i (PathErr g.lsp g.egress d false busy_code) below mine)
+          fits
+          (contends q p i (leg_at s l u) g message (messages_of l rest) _ held refl hop_in g.lsp g.egress d busy_code)
+          (λ small. rw append-nil (hop_out small))
+          (λ none. absurd cc)
+          (λ small gone path. chain.fresh (suc i) small (record { gone = gone; path = rw append-nil at path }))
+
+      -- at the egress the leg is Live, and its label goes back
+      ends : hops p ≤ suc i → Keeps (armed_on g (drop 1 r) role None)
+      ends end =
+          subst (λ outs. Keeps (puts (with_phase Live g) outs))
+          (sym (resv-is g (record { node = u; fibre = fibre_at t p i }) into.0 (previous g) g.in_label
+          (previous_is t q l p i g fits) into.1))
+          (down_taken t q s l p i route chain below message rest was own
+          (puts (with_phase Live g) (to_node u (Resv g.lsp g.egress (link_at p i) into.0) ∷ []))
+          (Some (with_phase Live g)) (Resv g.lsp g.egress (link_at p i) into.0 ∷ []) []
+          (rw mine refl) (sends_back t l l.ingress p route i (Resv g.lsp g.egress (link_at p i) into.0) below mine)
+          (held_live_fits t q l p (suc i) g fits held)
+          (connects q p i (leg_at s l u) g message (messages_of l rest) _ held refl hop_in g.lsp g.egress (link_at p i)
+          into.0 refl into.1 (in_use_out t q l p i (leg_at s l u) (chain.fits i (omega arith)) below))
+          (λ small. absurd (omega arith))
+          (λ none. absurd cc)
+          (λ small. absurd (omega arith)))
+
+      -- elsewhere it is Armed, and the Path goes on
+      goes_on : suc i < hops p →
+          Keeps (armed_on g (drop 1 r) role (Some (record { node = next; fibre = fibre_at t p (suc i) })))
+      goes_on small =
+          let m : Msg = Path g.lsp g.egress (link_at p (suc i)) (drop 1 r) g.sent g.back_in (Back true work primary) in
+          down_taken t q s l p i route chain below message rest was own
+          (puts (with_phase Armed g) (to_node next m ∷ [])) (Some (with_phase Armed g)) [] (m ∷ [])
+          (rw mine refl) (sends_on t l l.ingress p route (suc i) m small mine)
+          (armed_fits t q l p (suc i) g fits held small)
+          (rw append-nil (arms q p i (leg_at s l u) g message (messages_of l rest) _ held refl hop_in))
+          (λ _. arms_on q p (suc i) g (leg_at s l next) m _ _ held refl (fits.egress, refl, left, tells) refl refl
+          (λ gone. absurd (never gone)) (hop_out small))
+          (λ none. absurd cc)
+          (λ _ gone. absurd (never (rw gone refl)))
+        where
+          never : leg_kind (leg_at s l (node_at p (suc (suc i)))) ≡ NoLeg → ⊥
+          never gone = leg_downstream (role_of q) _ _ _ _ (hop_out small).shape (rw held refl) gone
+
+      onward : (suc i < hops p) ⊎ (hops p ≤ suc i) → Keeps (armed_on g (drop 1 r) role (following g))
+      onward (inl small) = rw (following_is t q l p (suc i) g fits small) (goes_on small)
+      onward (inr end) = rw (following_none t q l p (suc i) g fits end) (ends end)
+
+      taken : Keeps (path_with place state asks (Some g))
+      taken =
+          rw (held, previous_is t q l p i g fits, over, same (node_at p i).0, same (link_at p i).0)
+          (if_cases Keeps (is_contended state.legs g) (sends (busy_to place g u ∷ []))
+          (armed_on g (drop 1 r) role (following g)) (λ c. refuses) (λ c. onward (below_or_not (suc i) (hops p))))
+
+    is_held : leg_kind (leg_at s l d) ≡ HeldLeg
+    is_held = (active_taken (role_of q) _ _ _ _ hop.shape).held
+
+    pub activation_keeps : (o : Option Leg) → leg_at s l (node_at p (suc i)) ≡ o →
+        Keeps (path_with (local_node t (node_at p (suc i))) (s.nodes (node_at p (suc i)).0)
+        (record {
+          arrival = arrival l e (node_at p i) k;
+          route = r;
+          set = set;
+          upstream = label;
+          role = Back true work primary;
+        }) o)
+    activation_keeps o here =
+        let leg = held_leg (leg_at s l (node_at p (suc i))) is_held in
+        rw (sym here ∙ leg.1) (taken leg.0 leg.1 (rw (leg.1) at (chain.fits (suc i) below)) leg.2)

@@ -1,0 +1,263 @@
+-- The rows to which a Resv or a PathErr that is taken leads, at the leg upstream.
+use Rattle.std.proofs.Common.{◌≡◌, List, [], ◌∷◌, refl, inl, inr}
+use Rattle.std.specs.Prelude.{◌⊎◌}
+use Rattle.ason_base.specs.declared.calls.Role.{Role}
+use Rattle.ason_base.specs.declared.calls.Role.TheVariants.{Work, Back}
+use Rattle.lsp_laws.specs.HopShapes.{LegKind, NoLeg, AskedLeg, HeldLeg, ArmedLeg, LiveLeg, ClosingLeg, FallingLeg}
+use Rattle.lsp_laws.specs.HopShapes.{MsgKind, Tear, Label, Removal, Contention}
+use Rattle.lsp_laws.specs.HopShapes.{IsTorn, Closes, Falls, HasLetGo, NothingLeft}
+use Rattle.lsp_laws.specs.HopShapes.{WorkCloses, BackFalls, NoResv, OneResv}
+use Rattle.lsp_laws.specs.HopShapes.{NoAnswer, ResvAnswer, ContentionAnswer}
+use Rattle.lsp_laws.specs.HopShapes.{AtOnce, AfterResv, AfterContention}
+use Rattle.lsp_laws.specs.HopShapes.{Shape, Idle, Asking, Passed, Refused, Answered, Connected, Reserved, Standby}
+use Rattle.lsp_laws.specs.HopShapes.{Activating, BothArmed, Activated, Contended, Deactivating, Reactivating}
+use Rattle.lsp_laws.specs.HopShapes.{TornAsking, TornPassed, TornRefused, TornConnected, TornStandby, TornActivating}
+use Rattle.lsp_laws.specs.HopShapes.{TornArmed, TornDeactivating, TornReactivating, LetGo, Left, Ahead}
+use Rattle.lsp_laws.proofs.hops.RowStates.{ArmedStands, AskedStands, HeldStands, LiveStands, left_behind, no_torn, not_let_go, reserved_leg, was_torn}
+
+-- An Asked leg answers with its label, or lets go.
+pub record AskedAnswers (r : Role) (u : LegKind) (down up : List MsgKind) : Type 0 where
+  pub bare : (u ≡ AskedLeg) ⊎ (u ≡ ClosingLeg)
+  pub quiet : up ≡ []
+  -- no Path is under way to it
+  pub down_is : (down ≡ []) ⊎ (down ≡ Tear ∷ [])
+  pub answered : Shape r u (reserved_leg r) down (Label ∷ [])
+  pub let_go : (d : LegKind) → HasLetGo r d → Shape r u d down (Removal ∷ [])
+
+pub asked_answers : (r : Role) (u : LegKind) (down up : List MsgKind) → Shape r u AskedLeg down up →
+    AskedAnswers r u down up
+asked_answers Work _ _ _ Passed = record {
+  bare = inl refl;
+  quiet = refl;
+  down_is = inl refl;
+  answered = Answered;
+  let_go = λ d gone. Refused gone;
+}
+asked_answers Back _ _ _ Passed = record {
+  bare = inl refl;
+  quiet = refl;
+  down_is = inl refl;
+  answered = Reserved;
+  let_go = λ d gone. Refused gone;
+}
+asked_answers Work _ _ _ TornPassed = record {
+  bare = inr refl;
+  quiet = refl;
+  down_is = inr refl;
+  answered = TornConnected WorkCloses OneResv;
+  let_go = λ d gone. TornRefused gone;
+}
+asked_answers Back _ _ _ TornPassed = record {
+  bare = inr refl;
+  quiet = refl;
+  down_is = inr refl;
+  answered = TornStandby Closes ResvAnswer;
+  let_go = λ d gone. TornRefused gone;
+}
+asked_answers r u _ _ (Refused gone) = absurd (not_let_go r AskedLeg AskedStands gone)
+asked_answers r u _ _ (TornRefused gone) = absurd (not_let_go r AskedLeg AskedStands gone)
+asked_answers r u _ up (LetGo torn gone confirms) = absurd (not_let_go r AskedLeg AskedStands gone)
+asked_answers r u _ _ (Left gone) = absurd (not_let_go r AskedLeg AskedStands gone)
+asked_answers r u _ _ (Ahead torn) = absurd (no_torn r AskedLeg AskedStands torn)
+
+-- An Armed leg becomes Live, or is Held again.
+pub record ArmedAnswers (r : Role) (u : LegKind) (down up : List MsgKind) : Type 0 where
+  pub backup : r ≡ Back
+  pub marked : (u ≡ ArmedLeg) ⊎ (u ≡ FallingLeg)
+  pub quiet : up ≡ []
+  pub activated : Shape r u LiveLeg down (Label ∷ [])
+  pub contended : Shape r u HeldLeg down (Contention ∷ [])
+
+pub armed_answers : (r : Role) (u : LegKind) (down up : List MsgKind) → Shape r u ArmedLeg down up →
+    ArmedAnswers r u down up
+armed_answers _ _ _ _ BothArmed = record {
+  backup = refl;
+  marked = inl refl;
+  quiet = refl;
+  activated = Activated;
+  contended = Contended;
+}
+armed_answers _ _ _ _ TornArmed = record {
+  backup = refl;
+  marked = inr refl;
+  quiet = refl;
+  activated = TornConnected BackFalls OneResv;
+  contended = TornStandby Falls ContentionAnswer;
+}
+armed_answers r u _ _ (Refused gone) = absurd (not_let_go r ArmedLeg ArmedStands gone)
+armed_answers r u _ _ (TornRefused gone) = absurd (not_let_go r ArmedLeg ArmedStands gone)
+armed_answers r u _ up (LetGo torn gone confirms) = absurd (not_let_go r ArmedLeg ArmedStands gone)
+armed_answers r u _ _ (Left gone) = absurd (not_let_go r ArmedLeg ArmedStands gone)
+armed_answers r u _ _ (Ahead torn) = absurd (no_torn r ArmedLeg ArmedStands torn)
+
+-- A torn leg goes. No Path is under way to it.
+pub record TornLeaves (r : Role) (u : LegKind) (down up : List MsgKind) : Type 0 where
+  pub down_is : (down ≡ []) ⊎ (down ≡ Tear ∷ [])
+  pub gone : Shape r u NoLeg down up
+
+pub torn_leaves : (r : Role) (u d : LegKind) (down up : List MsgKind) → IsTorn r d → Shape r u d down up →
+    TornLeaves r u down up
+torn_leaves r _ _ _ _ torn (Refused gone) = record { down_is = inl refl; gone = Refused NothingLeft }
+torn_leaves r _ _ _ _ torn (TornRefused gone) = record { down_is = inr refl; gone = TornRefused NothingLeft }
+torn_leaves r u _ _ up torn (LetGo waits gone confirms) =
+    record { down_is = inl refl; gone = LetGo waits NothingLeft confirms }
+torn_leaves r _ _ _ _ torn (Left gone) = record { down_is = inr refl; gone = Left NothingLeft }
+torn_leaves r _ _ _ _ torn (Ahead waits) = record { down_is = inl refl; gone = Idle }
+torn_leaves r _ _ _ _ torn Passed = absurd (no_torn r AskedLeg AskedStands torn)
+torn_leaves r _ _ _ _ torn Answered = absurd (no_torn r LiveLeg LiveStands torn)
+torn_leaves r _ _ _ _ torn Connected = absurd (no_torn r LiveLeg LiveStands torn)
+torn_leaves r _ _ _ _ torn Reserved = absurd (no_torn r HeldLeg HeldStands torn)
+torn_leaves r _ _ _ _ torn Standby = absurd (no_torn r HeldLeg HeldStands torn)
+torn_leaves r _ _ _ _ torn Activating = absurd (no_torn r HeldLeg HeldStands torn)
+torn_leaves r _ _ _ _ torn BothArmed = absurd (no_torn r ArmedLeg ArmedStands torn)
+torn_leaves r _ _ _ _ torn Activated = absurd (no_torn r LiveLeg LiveStands torn)
+torn_leaves r _ _ _ _ torn Contended = absurd (no_torn r HeldLeg HeldStands torn)
+torn_leaves r _ _ _ _ torn Deactivating = absurd (no_torn r LiveLeg LiveStands torn)
+torn_leaves r _ _ _ _ torn Reactivating = absurd (no_torn r LiveLeg LiveStands torn)
+torn_leaves r _ _ _ _ torn TornPassed = absurd (no_torn r AskedLeg AskedStands torn)
+torn_leaves r u _ _ up torn (TornConnected was may) = absurd (no_torn r LiveLeg LiveStands torn)
+torn_leaves r u _ _ up torn (TornStandby waits may) = absurd (no_torn r HeldLeg HeldStands torn)
+torn_leaves r _ _ _ _ torn TornActivating = absurd (no_torn r HeldLeg HeldStands torn)
+torn_leaves r _ _ _ _ torn TornArmed = absurd (no_torn r ArmedLeg ArmedStands torn)
+torn_leaves r _ _ _ _ torn TornDeactivating = absurd (no_torn r LiveLeg LiveStands torn)
+torn_leaves r _ _ _ _ torn TornReactivating = absurd (no_torn r LiveLeg LiveStands torn)
+torn_leaves r _ _ _ _ torn Idle = elim torn [ ]
+torn_leaves r _ _ _ _ torn Asking = elim torn [ ]
+torn_leaves r _ _ _ _ torn TornAsking = elim torn [ ]
+
+-- A step at the upstream node
+
+-- A Resv comes to an Asked leg, to an Armed one, or to a torn one.
+pub data TakesResv : Role → LegKind → Type 0 where
+  ByAsked : {r : Role} → TakesResv r AskedLeg
+  ByArmed : TakesResv Back ArmedLeg
+  ByTorn : {r : Role} {u : LegKind} → IsTorn r u → TakesResv r u
+
+pub takes_resv : (r : Role) (u d : LegKind) (down up : List MsgKind) → Shape r u d down (Label ∷ up) → TakesResv r u
+takes_resv r _ _ _ _ Answered = ByAsked
+takes_resv r _ _ _ _ Reserved = ByAsked
+takes_resv r _ _ _ _ Activated = ByArmed
+takes_resv r u _ _ _ (TornConnected was may) = ByTorn (was_torn r u was)
+takes_resv r u _ _ _ (TornStandby torn may) = ByTorn torn
+takes_resv r u d _ _ (LetGo torn gone confirms) = ByTorn torn
+
+-- The Asked leg has its label, or closes.
+pub record ResvTaken (r : Role) (d : LegKind) (down up : List MsgKind) : Type 0 where
+  pub far : d ≡ reserved_leg r
+  pub none : down ≡ []
+  pub last : up ≡ []
+  pub connected : Shape r (reserved_leg r) d [] []
+  pub torn : Shape r ClosingLeg d (Tear ∷ []) []
+
+pub resv_asked : (r : Role) (d : LegKind) (down up : List MsgKind) → Shape r AskedLeg d down (Label ∷ up) →
+    ResvTaken r d down up
+resv_asked _ _ _ _ Answered = record {
+  far = refl;
+  none = refl;
+  last = refl;
+  connected = Connected;
+  torn = TornConnected WorkCloses NoResv;
+}
+resv_asked _ _ _ _ Reserved = record {
+  far = refl;
+  none = refl;
+  last = refl;
+  connected = Standby;
+  torn = TornStandby Closes NoAnswer;
+}
+resv_asked r _ down up (TornConnected was may) = elim was [ ]
+resv_asked r _ down up (TornStandby torn may) = elim torn [ ]
+resv_asked r d down up (LetGo torn gone confirms) = elim torn [ ]
+
+-- The Armed leg is Live.
+pub record ResvArmed (r : Role) (d : LegKind) (down up : List MsgKind) : Type 0 where
+  pub backup : r ≡ Back
+  pub live : d ≡ LiveLeg
+  pub none : down ≡ []
+  pub last : up ≡ []
+  pub connected : Shape r LiveLeg d [] []
+
+pub resv_armed : (r : Role) (d : LegKind) (down up : List MsgKind) → Shape r ArmedLeg d down (Label ∷ up) →
+    ResvArmed r d down up
+resv_armed _ _ _ _ Activated = record { backup = refl; live = refl; none = refl; last = refl; connected = Connected }
+resv_armed r _ down up (TornConnected was may) = elim was [ ]
+resv_armed r _ down up (TornStandby torn may) = elim torn [ ]
+resv_armed r d down up (LetGo torn gone confirms) = elim torn [ ]
+
+-- A torn leg stays as it is.
+pub resv_torn : (r : Role) (u d : LegKind) (down up : List MsgKind) →
+    IsTorn r u → Shape r u d down (Label ∷ up) → Shape r u d down up
+resv_torn r u _ _ _ torn (TornConnected was OneResv) = TornConnected was NoResv
+resv_torn r u _ _ _ torn (TornStandby waits ResvAnswer) = TornStandby waits NoAnswer
+resv_torn r u d _ _ torn (LetGo waits gone AfterResv) = LetGo waits gone AtOnce
+resv_torn r _ _ _ _ torn Answered = elim torn [ ]
+resv_torn r _ _ _ _ torn Reserved = elim torn [ ]
+resv_torn r _ _ _ _ torn Activated = elim torn [ ]
+
+-- A PathErr that removes is the last message up. It comes to an Asked or a torn leg, which goes.
+pub record RemovalTaken (r : Role) (u d : LegKind) (down up : List MsgKind) : Type 0 where
+  pub which : (u ≡ AskedLeg) ⊎ IsTorn r u
+  pub last : up ≡ []
+  pub let_go : HasLetGo r d
+  pub down_is : (down ≡ []) ⊎ (down ≡ Tear ∷ [])
+  pub gone : Shape r NoLeg d down up
+
+pub removal_taken : (r : Role) (u d : LegKind) (down up : List MsgKind) → Shape r u d down (Removal ∷ up) →
+    RemovalTaken r u d down up
+removal_taken r _ d _ _ (Refused gone) = record {
+  which = inl refl;
+  last = refl;
+  let_go = gone;
+  down_is = inl refl;
+  gone = left_behind r d gone;
+}
+removal_taken r _ d _ _ (TornRefused gone) = record {
+  which = inr Closes;
+  last = refl;
+  let_go = gone;
+  down_is = inr refl;
+  gone = Left gone;
+}
+removal_taken r u d _ _ (LetGo torn gone AtOnce) = record {
+  which = inr torn;
+  last = refl;
+  let_go = gone;
+  down_is = inl refl;
+  gone = left_behind r d gone;
+}
+removal_taken r u _ down up (TornConnected was may) = elim may [ ]
+removal_taken r u _ down up (TornStandby torn may) = elim may [ ]
+
+-- One that removes nothing comes to an Armed backup, which is Held again, or to a torn one, which stays.
+pub data ContentionTaken : Role → LegKind → LegKind → List MsgKind → List MsgKind → Type 0 where
+  HeldAgain : ContentionTaken Back ArmedLeg HeldLeg [] []
+  Ignored : {u d : LegKind} {down up : List MsgKind} → IsTorn Back u → ContentionTaken Back u d down up
+
+pub contention_taken : (r : Role) (u d : LegKind) (down up : List MsgKind) → Shape r u d down (Contention ∷ up) →
+    ContentionTaken r u d down up
+contention_taken r _ _ _ _ Contended = HeldAgain
+contention_taken r u _ _ _ (TornStandby torn may) = Ignored torn
+contention_taken r u d _ _ (LetGo torn gone AfterContention) = Ignored torn
+contention_taken r u _ down up (TornConnected was may) = elim may [ ]
+
+-- so to an Armed leg, or to a torn one
+pub contention_to : (r : Role) (u d : LegKind) (down up : List MsgKind) → Shape r u d down (Contention ∷ up) →
+    (u ≡ ArmedLeg) ⊎ IsTorn r u
+contention_to r _ _ _ _ Contended = inl refl
+contention_to r u _ _ _ (TornStandby torn may) = inr torn
+contention_to r u d _ _ (LetGo torn gone AfterContention) = inr torn
+contention_to r u _ down up (TornConnected was may) = elim may [ ]
+
+pub contention_armed : (d : LegKind) (down up : List MsgKind) → Shape Back ArmedLeg d down (Contention ∷ up) →
+    Shape Back HeldLeg d down up
+contention_armed _ _ _ Contended = Standby
+contention_armed _ down up (TornConnected was may) = elim may [ ]
+contention_armed _ down up (TornStandby torn may) = elim torn [ ]
+contention_armed d down up (LetGo torn gone confirms) = elim torn [ ]
+
+pub contention_torn : (r : Role) (u d : LegKind) (down up : List MsgKind) →
+    IsTorn r u → Shape r u d down (Contention ∷ up) → Shape r u d down up
+contention_torn r u _ _ _ torn (TornStandby waits ContentionAnswer) = TornStandby waits NoAnswer
+contention_torn r u d _ _ torn (LetGo waits gone AfterContention) = LetGo waits gone AtOnce
+contention_torn r u _ down up torn (TornConnected was may) = elim may [ ]
+contention_torn r _ _ _ _ torn Contended = elim torn [ ]

@@ -1,0 +1,51 @@
+-- A post changes desks alone, and an item of a desk changes no message.
+use Rattle.std.proofs.Common.{refl, arith}
+use Rattle.ason_base.specs.Network.{Network}
+use Rattle.ason_base.specs.declared.ids.Lsp.{Lsp}
+use Rattle.ason_base.specs.declared.ids.NodeId.{NodeId}
+use Rattle.ason_base.specs.declared.commands.Command.{Command}
+use Rattle.ason_base.specs.declared.commands.Command.TheVariants.{Setup, Release, Protect, Retry, Revert, Fail, Repair}
+use Rattle.mesh_rules.specs.Changes.{Answer}
+use Rattle.mesh_rules.specs.Machine.{Mesh, commit, without_item}
+use Rattle.mesh_rules.specs.Events.{posted}
+use Rattle.lsp_laws.proofs.hops.Planned.{SameOf}
+
+-- Every event
+
+pub posted_same : (t : Network) (s : Mesh) (c : Command) (l : Lsp) → SameOf s (posted t s c) l
+posted_same t s (Setup k from to protected both via backup) l = record {
+  still = record { legs = λ n. refl; mail = λ a b. refl; next = omega arith };
+  notices = λ a b. refl;
+}
+posted_same t s (Release k from) l = record {
+  still = record { legs = λ n. refl; mail = λ a b. refl; next = omega arith };
+  notices = λ a b. refl;
+}
+posted_same t s (Protect k from) l = record {
+  still = record { legs = λ n. refl; mail = λ a b. refl; next = omega arith };
+  notices = λ a b. refl;
+}
+posted_same t s (Retry k from) l = record {
+  still = record { legs = λ n. refl; mail = λ a b. refl; next = omega arith };
+  notices = λ a b. refl;
+}
+posted_same t s (Revert k from) l = record {
+  still = record { legs = λ n. refl; mail = λ a b. refl; next = omega arith };
+  notices = λ a b. refl;
+}
+posted_same t s (Fail g) l = record {
+  still = record { legs = λ n. refl; mail = λ a b. refl; next = omega arith };
+  notices = λ a b. refl;
+}
+posted_same t s (Repair g) l = record {
+  still = record { legs = λ n. refl; mail = λ a b. refl; next = omega arith };
+  notices = λ a b. refl;
+}
+
+-- an item less on a desk leaves the legs and messages
+pub desk_same : (t : Network) (s : Mesh) (n : NodeId) (a : Answer) (l : Lsp) →
+    SameOf (commit s n.0 a) (commit (without_item s n.0) n.0 a) l
+desk_same t s n a l = record {
+  still = record { legs = λ m. refl; mail = λ x b. refl; next = omega arith };
+  notices = λ x b. refl;
+}

@@ -1,0 +1,294 @@
+-- The backup route that a call was given stands beside the route of its working LSP, in every state of every run.
+use Rattle.std.proofs.Common.{◌≡◌, inl, ℕ, Bool, true, false, cond, nat_eq, nat_le, List, [], ◌∷◌, ◌++◌, refl, sym, ap, subst, arith}
+use Rattle.std.specs.Prelude.{◌+◌, ◌&&◌, not, Option, Some, None}
+use Rattle.std.specs.List.{AllByRecursion}
+use Rattle.ason_base.specs.Codes.{busy_code, fibre_down_code, fibre_up_code}
+use Rattle.ason_base.specs.Lsps.{has_fibre, without_fibre}
+use Rattle.ason_base.specs.declared.calls.Cause.TheVariants.{Code}
+use Rattle.ason_base.specs.Network.{Network, find_link, row_of}
+use Rattle.ason_base.specs.declared.codes.ErrCode.{ErrCode}
+use Rattle.ason_base.specs.declared.ids.CallNo.{CallNo}
+use Rattle.ason_base.specs.declared.ids.Fibre.{Fibre}
+use Rattle.ason_base.specs.declared.ids.LinkId.{LinkId}
+use Rattle.ason_base.specs.declared.ids.Lsp.{Lsp}
+use Rattle.ason_base.specs.declared.ids.NodeId.{NodeId}
+use Rattle.ason_base.specs.declared.network.LinkSpec.{LinkSpec}
+use Rattle.ason_base.specs.declared.commands.Command.{Command}
+use Rattle.ason_base.specs.declared.commands.Command.TheVariants.{Setup, Release, Protect, Retry, Revert, Fail, Repair}
+use Rattle.ason_base.specs.declared.commands.DeskItem.{DeskItem}
+use Rattle.ason_base.specs.declared.commands.DeskItem.TheVariants.{Order, Alarm, Clear}
+use Rattle.ason_base.specs.declared.messages.Msg.{Msg}
+use Rattle.ason_base.specs.declared.tables.CallRec.{CallRec}
+use Rattle.ason_base.specs.declared.tables.Leg.{Leg}
+use Rattle.mesh_rules.specs.declared.events.MeshEvent.{MeshEvent}
+use Rattle.mesh_rules.specs.declared.events.MeshEvent.TheVariants.{Take, Desk, Tick, Learn, Post}
+use Rattle.mesh_rules.specs.Alarms.{enters, knows_down}
+use Rattle.mesh_rules.specs.Calls.{find_call, guarded, is_stuck, is_turned, stuck, turning}
+use Rattle.mesh_rules.specs.Changes.{Answer, learns, nothing}
+use Rattle.mesh_rules.specs.Commands.{has_backup_way, is_valid}
+use Rattle.mesh_rules.specs.Events.{first_route, on_first, on_first_item, or_route, posted, sent_at_ingress, step}
+use Rattle.mesh_rules.specs.KnownRows.{has_row, known_rows}
+use Rattle.mesh_rules.specs.Learnt.{on_link}
+use Rattle.mesh_rules.specs.Legs.{find_leg, is_contended, is_held, is_in_use, leg_of, previous}
+use Rattle.mesh_rules.specs.Pairs.{route_from}
+use Rattle.mesh_rules.specs.Reports.{fibre_into}
+use Rattle.mesh_rules.specs.Retries.{retries, retry_with}
+use Rattle.mesh_rules.specs.Reverts.{revert_with, reverts}
+use Rattle.mesh_rules.specs.Turns.{arms, call_put, disarms, go_back, has_any, turn, turn_to}
+use Rattle.mesh_rules.specs.Waits.{all_ticked, on_tick, ticked, waits}
+use Rattle.mesh_rules.specs.LocalNodes.{LocalNode, local_node, own_link}
+use Rattle.mesh_rules.specs.Machine.{Mesh, without_first, without_item}
+use Rattle.mesh_rules.specs.Orders.{on_item}
+use Rattle.mesh_rules.specs.Setups.{SetupRequest, is_order_here, next_lsp, setup_with}
+use Rattle.mesh_rules.specs.State.{NodeState}
+use Rattle.mesh_nodes.specs.Order.{CallsRise}
+use Rattle.mesh_nodes.proofs.Alarms.{all-append}
+use Rattle.mesh_nodes.proofs.CallList.{all-calls_found}
+use Rattle.mesh_nodes.proofs.Cases.{both_left, both_right, if_cases}
+use Rattle.lsp_laws.specs.ReportLaw.{IsOfRoute}
+use Rattle.lsp_laws.proofs.nodes.CallMoves.{IsSameCall, to-guarded, to-stuck, to-turning, waits-more}
+use Rattle.lsp_laws.proofs.nodes.CallChanges.{ArePut, EachCall, MayGo}
+use Rattle.lsp_laws.proofs.nodes.CallsHold.{message-holds, protect-holds, release-holds}
+use Rattle.lsp_laws.proofs.nodes.SetupsHold.{setup-holds}
+use Rattle.lsp_laws.proofs.hops.Plans.{same_node}
+use Rattle.lsp_laws.proofs.hops.Planned.{Routes, EachFollows, Grow}
+use Rattle.lsp_laws.proofs.hops.Paired.{no_previous, whole-made, whole-route}
+use Rattle.lsp_laws.proofs.hops.Stepped.{grown, grown-grow}
+use Rattle.lsp_laws.proofs.hops.GivenRoutes.{EachGivenBeside, IsGiven, begun-beside, committed, grown-beside, same-call, still-beside}
+
+module _ (t : Network) (s : Mesh) (n : NodeId) (o : Routes) (f : EachFollows t s o) where
+  abbrev place : LocalNode
+  place = local_node t n
+
+  abbrev next : Lsp
+  next = next_lsp (local_node t n) (s.nodes n.0)
+
+  -- An item of a desk
+
+  module _ (rise : CallsRise (s.nodes n.0).calls) (each : EachGivenBeside t s o) where
+    -- a fibre that a Notify reports at the ingress is of the route
+    rep-here : (g : Leg) (m : NodeId) (k : LinkId) (x : Fibre) → find_leg g.lsp (s.nodes n.0).legs ≡ Some g →
+        previous g ≡ None → fibre_into (route_from (local_node t n) g) g.egress m k ≡ Some x → IsOfRoute t o g.lsp x
+    rep-here g m k x found first into =
+        let here : g.lsp.ingress ≡ n = no_previous t s o g.lsp n g (o g.lsp) (f g.lsp) found first in
+        record {
+          route = route_from (local_node t n) g;
+          sent = whole-route t s o g.lsp n g (o g.lsp) (f g.lsp) here found;
+          to = g.egress;
+          made = whole-made t s o g.lsp n g (o g.lsp) (f g.lsp) here found;
+          at = m;
+          link = k;
+          into = into;
+        }
+
+    abbrev Puts : Answer → Type 0
+    Puts a = ArePut (IsGiven t (grown n o a) n) a.calls
+
+    keeps : (a : Answer) (c d : CallRec) → IsSameCall (IsOfRoute t o) c d → IsGiven t o n c →
+        IsGiven t (grown n o a) n d
+    keeps a c d is here = still-beside t o (grown n o a) n (grown-grow n o a) c d is here
+
+    setup-puts : (w : SetupRequest) → has_backup_way t w.from w.egress w.protected w.via w.backup ≡ true →
+        (known : Option CallRec) → Puts (setup_with (local_node t n) (s.nodes n.0) w known)
+    setup-puts w way known =
+        setup-holds MayGo place (s.nodes n.0) w (λ a. IsGiven t (grown n o a) n)
+        (λ a cause known. record {
+          beside = λ l backup work given. absurd (cc work);
+          told = record { work = tt; back = tt };
+        })
+        (λ route out over first ordered has. record {
+          beside = begun-beside t s n o f w (here ordered) way route out over first;
+          told = record { work = tt; back = tt };
+        }) known
+      where
+        here : is_order_here (local_node t n) w ≡ true → w.from ≡ n
+        here ordered =
+            let test : nat_eq w.from.0 n.0 ≡ true = both_left _ _ ordered in
+            let number : w.from.0 ≡ n.0 = grind arith in
+            same_node w.from n number
+
+    same-puts : (a : Answer) (c d : CallRec) → IsSameCall (IsOfRoute t o) c d → IsGiven t o n c →
+        IsGiven t (grown n o a) n d × Unit {0}
+    same-puts a c d is here = (keeps a c d is here, tt)
+
+    turn-puts : (legs : List Leg) (c : CallRec) (b : Option Leg) → IsGiven t o n c → Puts (turn legs c b)
+    turn-puts legs c None here = same-puts (turn legs c None) c c (same-call t o c) here
+    turn-puts legs c (Some b) here =
+        if_cases Puts (is_held b.phase) (turn_to legs c b) (call_put c)
+        (λ h. if_cases Puts (is_contended legs b) (call_put (stuck c (Code busy_code))) (arms c b)
+        (λ busy. same-puts (call_put (stuck c (Code busy_code))) c (stuck c (Code busy_code))
+        (record {
+          egress = refl;
+          protected = refl;
+          backup = refl;
+          work = inl refl;
+          moves = to-stuck (IsOfRoute t o) c (Code busy_code) refl;
+        }) here)
+        (λ free. same-puts (arms c b) c (turning c)
+        (record {
+          egress = refl;
+          protected = refl;
+          backup = refl;
+          work = inl refl;
+          moves = to-turning (IsOfRoute t o) c;
+        }) here))
+        (λ h. same-puts (call_put c) c c (same-call t o c) here)
+
+    back-puts : (a : Answer) (c : CallRec) (b : Option Leg) → IsGiven t o n c →
+        ArePut (IsGiven t (grown n o a) n) (go_back c b).calls
+    back-puts a c None here = same-puts a c c (same-call t o c) here
+    back-puts a c (Some b) here =
+        if_cases (λ x. ArePut (IsGiven t (grown n o a) n) x.calls) (is_in_use b.phase) (disarms c b) (call_put c)
+        (λ h. same-puts a c (guarded c)
+        (record {
+          egress = refl;
+          protected = refl;
+          backup = refl;
+          work = inl refl;
+          moves = to-guarded (IsOfRoute t o) c;
+        }) here)
+        (λ h. same-puts a c c (same-call t o c) here)
+
+    retry-puts : (from : NodeId) (k : CallNo) (c : Option CallRec) → find_call k (s.nodes n.0).calls ≡ c →
+        Puts (retry_with (local_node t n) (s.nodes n.0) from c)
+    retry-puts from k None is = tt
+    retry-puts from k (Some c) is =
+        if_cases Puts (nat_eq from.0 n.0) (retries (s.nodes n.0) c) nothing
+        (λ h. if_cases Puts (is_stuck c.state && (has_any c.work_reports && not (has_any c.back_reports)))
+        (turn (s.nodes n.0).legs c (leg_of c.back (s.nodes n.0).legs)) nothing
+        (λ stuck. turn-puts (s.nodes n.0).legs c (leg_of c.back (s.nodes n.0).legs) (each n k c is)) (λ stuck. tt))
+        (λ h. tt)
+
+    revert-puts : (from : NodeId) (k : CallNo) (c : Option CallRec) → find_call k (s.nodes n.0).calls ≡ c →
+        Puts (revert_with (local_node t n) (s.nodes n.0) from c)
+    revert-puts from k None is = tt
+    revert-puts from k (Some c) is =
+        if_cases Puts (nat_eq from.0 n.0) (reverts (s.nodes n.0) c) nothing
+        (λ h. if_cases Puts (is_turned c.state && not (has_any c.work_reports))
+        (go_back c (leg_of c.back (s.nodes n.0).legs)) nothing
+        (λ waits. back-puts (go_back c (leg_of c.back (s.nodes n.0).legs)) c (leg_of c.back (s.nodes n.0).legs)
+        (each n k c is)) (λ waits. tt))
+        (λ h. tt)
+
+    -- at a tick, whatever the answer is a part of
+
+    ticked-puts : (a : Answer) (c : CallRec) → IsGiven t o n c →
+        ArePut (IsGiven t (grown n o a) n) (ticked t.wait (s.nodes n.0).legs c).calls
+    ticked-puts a c here =
+        let legs : List Leg = (s.nodes n.0).legs in
+        if_cases (λ x. ArePut (IsGiven t (grown n o a) n) x.calls)
+        (not (nat_eq t.wait 0) && (is_turned c.state && not (has_any c.work_reports))) (waits t.wait legs c) nothing
+        (λ waiting. if_cases (λ x. ArePut (IsGiven t (grown n o a) n) x.calls) (nat_le t.wait (c.ticks + 1))
+        (go_back c (leg_of c.back legs)) (call_put (record c { ticks = c.ticks + 1 }))
+        (λ over. back-puts a c (leg_of c.back legs) here)
+        (λ over. same-puts a c (record c { ticks = c.ticks + 1 })
+        (record {
+          egress = refl;
+          protected = refl;
+          backup = refl;
+          work = inl refl;
+          moves = waits-more (IsOfRoute t o) c (both_right (not (nat_eq t.wait 0)) _ waiting);
+        }) here))
+        (λ other. tt)
+
+    all_ticked-puts : (a : Answer) (calls : List CallRec) → AllByRecursion (IsGiven t o n) calls →
+        ArePut (IsGiven t (grown n o a) n) (all_ticked t.wait (s.nodes n.0).legs calls).calls
+    all_ticked-puts a [] here = tt
+    all_ticked-puts a (c ∷ calls) here =
+        all-append _ (ticked t.wait (s.nodes n.0).legs c).calls _ (ticked-puts a c here.0)
+        (all_ticked-puts a calls here.1)
+
+    tick-puts : Puts (on_tick (local_node t n) (s.nodes n.0))
+    tick-puts =
+        all_ticked-puts (on_tick place (s.nodes n.0)) (s.nodes n.0).calls
+        (all-calls_found (IsGiven t o n) (s.nodes n.0).calls rise (each n))
+
+    told-puts : (f : Fibre) (code : ErrCode) (fibres : List Fibre) (b : Bool) →
+        Puts (cond b (knows_down (local_node t n) (s.nodes n.0) f code fibres) nothing)
+    told-puts f code fibres true = tt
+    told-puts f code fibres false = tt
+
+    item-puts : (i : DeskItem) → ((c : Command) → i ≡ Order c → is_valid t c ≡ true) →
+        Puts (on_item (local_node t n) (s.nodes n.0) i)
+    item-puts (Order (Setup k from to protected both via backup)) valid =
+        setup-puts
+        (record { call = k; from = from; egress = to; protected = protected; both = both; via = via; backup = backup })
+        (both_right _ (has_backup_way t from to protected via backup) (valid _ refl))
+        (find_call k (s.nodes n.0).calls)
+    item-puts (Order (Release k from)) valid =
+        release-holds (IsOfRoute t o) MayGo (IsGiven t o n) _
+        (keeps (on_item place (s.nodes n.0) (Order (Release k from)))) place
+        (s.nodes n.0) rep-here rise (each n) from (find_call k (s.nodes n.0).calls) (λ c is. tt)
+    item-puts (Order (Protect k from)) valid =
+        protect-holds (IsOfRoute t o) MayGo (IsGiven t o n) _
+        (keeps (on_item place (s.nodes n.0) (Order (Protect k from)))) place
+        (s.nodes n.0) rep-here rise (each n) k from (find_call k (s.nodes n.0).calls) refl
+    item-puts (Order (Retry k from)) valid = retry-puts from k (find_call k (s.nodes n.0).calls) refl
+    item-puts (Order (Revert k from)) valid = revert-puts from k (find_call k (s.nodes n.0).calls) refl
+    item-puts (Order (Fail g)) valid = tt
+    item-puts (Order (Repair g)) valid = tt
+    item-puts (Alarm g) valid =
+        told-puts g fibre_down_code ((s.nodes n.0).down ++ g ∷ [])
+        (enters place g (own_link place g.link) && not (has_fibre (s.nodes n.0).down g))
+    item-puts (Clear g) valid =
+        told-puts g fibre_up_code (without_fibre g (s.nodes n.0).down)
+        (enters place g (own_link place g.link) && has_fibre (s.nodes n.0).down g)
+
+    first_item-puts : (items : List DeskItem) →
+        ((c : Command) (rest : List DeskItem) → items ≡ Order c ∷ rest → is_valid t c ≡ true) →
+        Puts (on_first_item (local_node t n) (s.nodes n.0) items)
+    first_item-puts [] valid = tt
+    first_item-puts (i ∷ items) valid = item-puts i (λ c is. valid c items (ap (λ j. j ∷ items) is))
+
+    -- whatever the routes grow to
+    first-puts : (u : NodeId) (ms : List Msg) (o' : Routes) → Grow o o' →
+        ArePut (IsGiven t o' n) (on_first (local_node t n) (s.nodes n.0) u ms).calls
+    first-puts u [] o' grow = tt
+    first-puts u (m ∷ ms) o' grow =
+        message-holds (IsOfRoute t o) MayGo (IsGiven t o n) (IsGiven t o' n) (still-beside t o o' n grow) place
+        (s.nodes n.0) rep-here rise
+        (each n) u m
+
+-- Every event
+
+link-puts : (t : Network) (o : Routes) (n : NodeId) (p : LocalNode) (s : NodeState) (found : Option LinkSpec) →
+    ArePut (IsGiven t o n) (on_link p s found).calls
+link-puts t o n p s None = tt
+link-puts t o n p s (Some l) =
+    if_cases (λ a. ArePut (IsGiven t o n) a.calls) (has_row (known_rows p s) l.id) nothing (learns (row_of l))
+    (λ known. tt) (λ new. tt)
+
+posted-nodes : (t : Network) (s : Mesh) (c : Command) → (posted t s c).nodes ≡ s.nodes
+posted-nodes t s (Setup k from to protected both via backup) = refl
+posted-nodes t s (Release k from) = refl
+posted-nodes t s (Protect k from) = refl
+posted-nodes t s (Retry k from) = refl
+posted-nodes t s (Revert k from) = refl
+posted-nodes t s (Fail g) = refl
+posted-nodes t s (Repair g) = refl
+
+pub given-step : (t : Network) (s : Mesh) (e : MeshEvent) (o : Routes) → EachFollows t s o →
+    ((n : ℕ) → CallsRise (s.nodes n).calls) →
+    ((n : ℕ) (c : Command) (rest : List DeskItem) → s.desks n ≡ Order c ∷ rest → is_valid t c ≡ true) →
+    EachGivenBeside t s o →
+    EachGivenBeside t (step t s e) (λ l. or_route (o l) (first_route l (sent_at_ingress t s e l)))
+given-step t s (Take d u) o f rise valid each =
+    let o' : Routes = λ l. or_route (o l) (first_route l (sent_at_ingress t s (Take d u) l)) in
+    let grow : Grow o o' = λ l route sent. rw sent refl in
+    committed t (without_first s u.0 d.0) d (on_first (local_node t d) (s.nodes d.0) u (s.mail u.0 d.0)) o o' grow
+    (first-puts t s d o f (rise d.0) each u (s.mail u.0 d.0) o' grow) each
+given-step t s (Desk n) o f rise valid each =
+    let a = on_first_item (local_node t n) (s.nodes n.0) (s.desks n.0) in
+    committed t (without_item s n.0) n a o (grown n o a) (grown-grow n o a)
+    (first_item-puts t s n o f (rise n.0) each (s.desks n.0) (valid n.0)) each
+given-step t s (Tick n) o f rise valid each =
+    let a = on_tick (local_node t n) (s.nodes n.0) in
+    committed t s n a o (grown n o a) (grown-grow n o a) (tick-puts t s n o f (rise n.0) each) each
+given-step t s (Learn n k) o f rise valid each =
+    let o' : Routes = λ l. or_route (o l) None in
+    committed t s n (on_link (local_node t n) (s.nodes n.0) (find_link t k)) o o' (λ l route sent. rw sent refl)
+    (link-puts t o' n (local_node t n) (s.nodes n.0) (find_link t k)) each
+given-step t s (Post c) o f rise valid each =
+    let o' : Routes = λ l. or_route (o l) None in
+    subst (λ (nodes : ℕ → NodeState). (n : NodeId) → EachCall (IsGiven t o' n) (nodes n.0).calls)
+    (sym (posted-nodes t s c)) (grown-beside t s o o' (λ l route sent. rw sent refl) each)

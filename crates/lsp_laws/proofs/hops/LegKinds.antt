@@ -1,0 +1,147 @@
+-- The kinds of a leg by its phase: closing, reserved, beyond it.
+use Rattle.std.proofs.Common.{◌≡◌, true, false, refl}
+use Rattle.std.specs.Prelude.{Option, Some, None}
+use Rattle.ason_base.specs.Lsps.{same_lsp}
+use Rattle.ason_base.specs.declared.ids.Lsp.{Lsp}
+use Rattle.ason_base.specs.declared.calls.Phase.{Phase}
+use Rattle.ason_base.specs.declared.calls.Phase.TheVariants.{Asked, Held, Armed, Live, Closing, Falling}
+use Rattle.ason_base.specs.declared.calls.Role.{Role}
+use Rattle.ason_base.specs.declared.calls.Role.TheVariants as role
+use Rattle.ason_base.specs.declared.tables.Leg.{Leg}
+use Rattle.mesh_rules.specs.Legs.{closing_phase, is_armed, is_asked, is_beyond_asked, is_closing, reserved}
+use Rattle.lsp_laws.specs.HopShapes.{NoLeg, AskedLeg, HeldLeg, ArmedLeg, LiveLeg, IsTorn, leg_kind, phase_kind}
+use Rattle.mesh_nodes.proofs.LegList.{same_lsp-refl}
+use Rattle.lsp_laws.proofs.hops.RowStates.{Stands, AskedStands, HeldStands, ArmedStands, LiveStands, is_reserved, reserved_leg, torn_leg}
+
+pub same_of : (k l : Lsp) → k ≡ l → same_lsp k l ≡ true
+same_of k l is = rw is (same_lsp-refl l)
+
+-- Kinds
+
+pub gone_none : (o : Option Leg) → leg_kind o ≡ NoLeg → o ≡ None
+gone_none None h = refl
+gone_none (Some g) h = go g.phase h
+  where
+    go : (f : Phase) → phase_kind f ≡ NoLeg → Some g ≡ None
+    go Asked h = cc
+    go Held h = cc
+    go Armed h = cc
+    go Live h = cc
+    go Closing h = cc
+    go Falling h = cc
+
+pub asked_phase : (f : Phase) → phase_kind f ≡ AskedLeg → f ≡ Asked
+asked_phase Asked e = refl
+asked_phase Held e = absurd cc
+asked_phase Armed e = absurd cc
+asked_phase Live e = absurd cc
+asked_phase Closing e = absurd cc
+asked_phase Falling e = absurd cc
+
+pub live_phase : (f : Phase) → phase_kind f ≡ LiveLeg → f ≡ Live
+live_phase Asked e = absurd cc
+live_phase Held e = absurd cc
+live_phase Armed e = absurd cc
+live_phase Live e = refl
+live_phase Closing e = absurd cc
+live_phase Falling e = absurd cc
+
+pub armed_phase : (f : Phase) → phase_kind f ≡ ArmedLeg → f ≡ Armed
+armed_phase Asked e = absurd cc
+armed_phase Held e = absurd cc
+armed_phase Armed e = refl
+armed_phase Live e = absurd cc
+armed_phase Closing e = absurd cc
+armed_phase Falling e = absurd cc
+
+pub held_phase : (f : Phase) → phase_kind f ≡ HeldLeg → f ≡ Held
+held_phase Asked e = absurd cc
+held_phase Held e = refl
+held_phase Armed e = absurd cc
+held_phase Live e = absurd cc
+held_phase Closing e = absurd cc
+held_phase Falling e = absurd cc
+
+-- there is a Held leg where the kind says so
+pub held_leg : (o : Option Leg) → leg_kind o ≡ HeldLeg → (g : Leg) × (o ≡ Some g) × (g.phase ≡ Held)
+held_leg None e = absurd cc
+held_leg (Some g) e = (g, refl, held_phase g.phase e)
+
+-- there is a Live leg where the kind says so
+pub live_leg : (o : Option Leg) → leg_kind o ≡ LiveLeg → (g : Leg) × (o ≡ Some g) × (g.phase ≡ Live)
+live_leg None e = absurd cc
+live_leg (Some g) e = (g, refl, live_phase g.phase e)
+
+pub beyond_reserved : (f : Phase) → is_beyond_asked f ≡ true → is_reserved (phase_kind f) ≡ true
+beyond_reserved Asked e = cc
+beyond_reserved Held e = refl
+beyond_reserved Armed e = refl
+beyond_reserved Live e = refl
+beyond_reserved Closing e = cc
+beyond_reserved Falling e = cc
+
+-- there is a leg beyond Asked where the kind says so
+pub reserved_there : (o : Option Leg) → is_reserved (leg_kind o) ≡ true →
+    (g : Leg) × (o ≡ Some g) × (is_beyond_asked g.phase ≡ true)
+reserved_there None e = absurd (cc e)
+reserved_there (Some g) e = (g, refl, go g.phase e)
+  where
+    go : (f : Phase) → is_reserved (phase_kind f) ≡ true → is_beyond_asked f ≡ true
+    go Asked e = absurd (cc e)
+    go Held e = refl
+    go Armed e = refl
+    go Live e = refl
+    go Closing e = absurd (cc e)
+    go Falling e = absurd (cc e)
+
+pub phase_stands : (f : Phase) → is_closing f ≡ false → Stands (phase_kind f)
+phase_stands Asked e = AskedStands
+phase_stands Held e = HeldStands
+phase_stands Armed e = ArmedStands
+phase_stands Live e = LiveStands
+phase_stands Closing e = absurd cc
+phase_stands Falling e = absurd cc
+
+-- a torn leg is in one of two phases
+pub torn_is_closing : (r : Role) (f : Phase) → IsTorn r (phase_kind f) → is_closing f ≡ true
+torn_is_closing r Closing torn = refl
+torn_is_closing r Falling torn = refl
+torn_is_closing r Asked torn = elim torn [ ]
+torn_is_closing r Held torn = elim torn [ ]
+torn_is_closing r Armed torn = elim torn [ ]
+torn_is_closing r Live torn = elim torn [ ]
+
+pub torn_not_asked : (r : Role) (f : Phase) → IsTorn r (phase_kind f) → is_asked f ≡ false
+torn_not_asked r Closing torn = refl
+torn_not_asked r Falling torn = refl
+torn_not_asked r Asked torn = elim torn [ ]
+torn_not_asked r Held torn = refl
+torn_not_asked r Armed torn = refl
+torn_not_asked r Live torn = refl
+
+pub torn_not_armed : (r : Role) (f : Phase) → IsTorn r (phase_kind f) → is_armed f ≡ false
+torn_not_armed r Closing torn = refl
+torn_not_armed r Falling torn = refl
+torn_not_armed r Asked torn = refl
+torn_not_armed r Held torn = refl
+torn_not_armed r Armed torn = elim torn [ ]
+torn_not_armed r Live torn = refl
+
+-- the phase that a leg gets with its label
+pub reserved_kind : (r : Role) → phase_kind (reserved r) ≡ reserved_leg r
+reserved_kind role.Work = refl
+reserved_kind role.Back = refl
+
+pub closing_kind : (f : Phase) (r : Role) → phase_kind (closing_phase f r) ≡ torn_leg r (phase_kind f)
+closing_kind Asked role.Work = refl
+closing_kind Asked role.Back = refl
+closing_kind Held role.Work = refl
+closing_kind Held role.Back = refl
+closing_kind Armed role.Work = refl
+closing_kind Armed role.Back = refl
+closing_kind Live role.Work = refl
+closing_kind Live role.Back = refl
+closing_kind Closing role.Work = refl
+closing_kind Closing role.Back = refl
+closing_kind Falling role.Work = refl
+closing_kind Falling role.Back = refl

@@ -1,0 +1,268 @@
+-- A first Path is taken at a node of its route.
+use Rattle.std.proofs.Common.{◌≡◌, ◌≢◌, ◌<◌, ◌≤◌, ℕ, suc, true, false, nat_eq, nat_lt, List, [], ◌∷◌, length, drop, refl, sym, ap, ◌∙◌, subst, arith, append-nil}
+use Rattle.std.specs.Prelude.{Option, Some, None}
+use Rattle.ason_base.specs.Labels.{has, least, up_to}
+use Rattle.ason_base.specs.Network.{Network}
+use Rattle.ason_base.specs.declared.codes.ErrCode.{ErrCode}
+use Rattle.ason_base.specs.declared.ids.Lsp.{Lsp}
+use Rattle.ason_base.specs.declared.ids.NodeId.{NodeId}
+use Rattle.ason_base.specs.declared.ids.LinkId.{LinkId}
+use Rattle.ason_base.specs.declared.steps.Step.{Step}
+use Rattle.ason_base.specs.declared.messages.PathRole.{PathRole}
+use Rattle.ason_base.specs.declared.risks.Risk.{Risk}
+use Rattle.ason_base.specs.declared.messages.Msg.{Msg}
+use Rattle.ason_base.specs.declared.messages.Msg.TheVariants.{Path, Resv, PathErr}
+use Rattle.ason_base.specs.declared.tables.Leg.{Leg}
+use Rattle.mesh_rules.specs.State.{NodeState}
+use Rattle.mesh_rules.specs.Changes.{Answer, sends}
+use Rattle.mesh_rules.specs.LocalNodes.{LocalNode, labels_of, local_node, own_link, fibre_in}
+use Rattle.mesh_rules.specs.KnownRows.{known_rows}
+use Rattle.mesh_rules.specs.Legs.{reserved}
+use Rattle.mesh_rules.specs.Paths.{PathRequest, back_label, is_none, is_primary_unknown, first_failure, checks}
+use Rattle.mesh_rules.specs.Paths.{error_to, egress_leg, set_on, transit_leg}
+use Rattle.mesh_rules.specs.Paths.{offered_labels, risks_here, at_egress, in_transit, admitted, judged}
+use Rattle.mesh_rules.specs.Paths.{role_of as asked_role}
+use Rattle.mesh_rules.specs.Messages.{arrival, on_message}
+use Rattle.mesh_rules.specs.Machine.{Mesh}
+use Rattle.lsp_laws.specs.HopShapes.{PlainPath, path_kind, phase_kind}
+use Rattle.lsp_laws.specs.HopLaw.{is_message_of, messages_of, leg_at, mail_between}
+use Rattle.lsp_laws.proofs.hops.Plans.{Plan, hops, node_at, link_at, fibre_at, IsRoute, Leads, distinct, other, lt_true, lt_false, joined, own_near, own_far, fibre_in_is, fibre_out_is}
+use Rattle.lsp_laws.proofs.hops.Labels.{back_label_of_link, back_label_same, has_least, has_meet, left_of_link}
+use Rattle.mesh_nodes.proofs.LegList.{same_lsp-refl}
+use Rattle.mesh_nodes.specs.Routes.{AreRowsOf}
+use Rattle.mesh_nodes.proofs.routes.Nodes.{known-are}
+use Rattle.lsp_laws.proofs.hops.Purposes.{Purpose, Tells, role_of, tells_role, has_path, plain_inactive}
+use Rattle.lsp_laws.proofs.hops.Risks.{recorded-fit}
+use Rattle.lsp_laws.proofs.hops.RowStates.{reserved_leg}
+use Rattle.lsp_laws.proofs.hops.Chain.{Hop, IsVacant, Chain, RisksFit, asked_fits, no_label_in, reserved_fits}
+use Rattle.lsp_laws.proofs.hops.Sending.{sends_back, sends_on}
+use Rattle.lsp_laws.proofs.hops.LegKinds.{reserved_kind}
+use Rattle.lsp_laws.proofs.hops.Downstream.{path_last, path_passed, path_answered, path_refused}
+use Rattle.lsp_laws.proofs.hops.Upstream.{hop_idle, hop_asks}
+use Rattle.lsp_laws.proofs.hops.Taken.{KeepsDown, down_hop, down_mine, down_taken}
+use Rattle.lsp_laws.proofs.hops.PathLabels.{drop-further, drop-none, drop-some, primary_known, some_label}
+
+module _ (t : Network) (q : Purpose) (s : Mesh) (l : Lsp) (p : Plan) (i : ℕ) (route : IsRoute t l.ingress p)
+    (chain : Chain t q l p (leg_at s l) (mail_between s l)) (below : i < hops p)
+    (e : NodeId) (k : LinkId) (r : List Step) (set : List ℕ) (label : Option ℕ) (purpose : PathRole) (rest : List Msg)
+    (was : s.mail (node_at p i).0 (node_at p (suc i)).0 ≡ Path l e k r set label purpose ∷ rest)
+    (learnt : AreRowsOf t (s.nodes (node_at p (suc i)).0).learnt) (plain : path_kind purpose ≡ PlainPath) where
+  abbrev u : NodeId
+  u = node_at p i
+
+  abbrev d : NodeId
+  d = node_at p (suc i)
+
+  abbrev next : NodeId
+  next = node_at p (suc (suc i))
+
+  abbrev place : LocalNode
+  place = local_node t d
+
+  abbrev state : NodeState
+  state = s.nodes d.0
+
+  abbrev message : Msg
+  message = Path l e k r set label purpose
+
+  abbrev asks : PathRequest
+  asks = record { arrival = arrival l e u k; route = r; set = set; upstream = label; role = purpose }
+
+  pub own : is_message_of l message ≡ true
+  own = same_lsp-refl l
+
+  abbrev Keeps : Answer → Type 0
+  Keeps a = KeepsDown t q s l p i route chain below message rest was own a
+
+  hop : Hop q p i (leg_at s l u) (leg_at s l d) (message ∷ messages_of l rest) (mail_between s l d u)
+  hop = down_hop t q s l p i route chain below message rest was own
+
+  what : (e ≡ p.egress) × (k ≡ link_at p i) × (r ≡ drop (suc i) p.route) × Tells q purpose
+  what = hop.rest.going_down.0
+
+  abbrev FirstHop : Type 0
+  FirstHop = Hop q p i (leg_at s l u) None (message ∷ messages_of l rest) (mail_between s l d u)
+
+  far : u.0 ≢ d.0
+  far = distinct t l.ingress p route i (suc i) (omega arith) (omega arith) (omega arith)
+
+  pub over : Leads t k u d
+  over = rw what.1 (route.links i below)
+
+  asked_for : asked_role purpose ≡ role_of q
+  asked_for = tells_role q purpose what.3
+
+  pub enters : fibre_in over.link d ≡ fibre_at t p i
+  enters = go over
+    where
+      go : (o : Leads t k u d) → fibre_in o.link d ≡ fibre_at t p i
+      go o = subst (λ k. (o : Leads t k u d) → fibre_in o.link d ≡ fibre_at t p i) (sym what.1) (fibre_in_is t p i) o
+
+  abbrev offered : List ℕ
+  offered = offered_labels place state asks over.link
+
+  within : (y : ℕ) → has offered y ≡ true → has set y ≡ true
+  within y = has_meet set _ y
+
+  -- no leg of the LSP is here, and nothing of it is beyond
+  module _ (none : leg_at s l (node_at p (suc i)) ≡ None) where
+    hop_here : FirstHop
+    hop_here = rw none at hop
+
+    pub last : has_path (messages_of l rest) ≡ false
+    last = path_last q p i (leg_at s l u) l e k r set label purpose (messages_of l rest) _ plain hop_here
+
+    pub beyond : (j : ℕ) → i < j → j ≤ hops p → IsVacant p (leg_at s l) (mail_between s l) j
+    beyond j after small =
+        chain.fresh i below (record {
+          gone =
+              none;
+          path = rw (down_mine t q s l p i route chain below message rest was own) refl;
+        })
+        j after small
+
+    refused : (code : ErrCode) → Keeps (sends (error_to u place asks.arrival code ∷ []))
+    refused code =
+        down_taken t q s l p i route chain below message rest was own
+        (sends (error_to u place asks.arrival code ∷ [])) None (PathErr l e d true code ∷ []) []
+        none (sends_back t l l.ingress p route i (PathErr l e d true code) below own) tt
+        (path_refused q p i (leg_at s l u) l e k r set label purpose (messages_of l rest) _ plain
+        hop_here e d code)
+        (λ small. rw (
+          append-nil,
+          (beyond (suc i) (omega arith) (omega arith)).no_down small,
+          (beyond (suc i) (omega arith) (omega arith)).no_up small,
+          (beyond (suc (suc i)) (omega arith) (omega arith)).no_leg,
+        )
+        (hop_idle q p (suc i)))
+        (λ gone path. cc (last, path))
+        (λ small gone path. let never : false ≡ true =
+        rw (append-nil, (beyond (suc i) (omega arith) (omega arith)).no_down small) at path in absurd cc)
+
+    -- a Path that is admitted
+    module _ (known : is_primary_unknown (known_rows place state) purpose ≡ false) where
+      abbrev risks : List Risk
+      risks = risks_here place state asks
+
+      recorded_here : RisksFit t q (risks_here place state asks)
+      recorded_here =
+          recorded-fit t q (known_rows place state) purpose (λ searchable. known-are t d state searchable learnt) what.3
+          known
+
+      -- the leg has its label
+      kind : phase_kind (reserved (asked_role purpose)) ≡ reserved_leg (role_of q)
+      kind = ap (λ r. phase_kind (reserved r)) asked_for ∙ reserved_kind (role_of q)
+
+      -- at the egress
+      ends : r ≡ [] → (x : Option ℕ) → least offered ≡ x → is_none x ≡ false →
+          Keeps (at_egress place asks over.link risks offered x)
+      ends end None is some = absurd cc
+      ends end (Some y) is some =
+          let done : drop (suc i) p.route ≡ [] = sym what.2 ∙ end in
+          let long : length p.route ≤ suc i = drop-none (suc i) p.route done in
+          let stop : nat_lt (suc i) (hops p) ≡ false = lt_false long in
+          down_taken t q s l p i route chain below message rest was own
+          (at_egress place asks over.link risks offered (Some y))
+          (Some (egress_leg place asks over.link risks offered y)) (Resv l e over.link.id y ∷ []) []
+          (rw (same_lsp-refl l) refl) (sends_back t l l.ingress p route i (Resv l e over.link.id y) below own)
+          (record {
+            own = refl;
+            egress = what.0;
+            role = asked_for;
+            tells = what.3;
+            risks = recorded_here;
+            prev = refl;
+            in_fibre = ap Some enters;
+            next = rw stop refl;
+            out_fibre = rw stop refl;
+            route = drop-further (suc i) p.route done;
+            sent = tt;
+            phase = rw asked_for
+                (reserved_fits q (suc i) (hops p) (Some y) None (y, refl) (λ small. absurd (omega arith)));
+            labels = record {
+              one = λ keeps a b enters leaves. absurd (cc leaves);
+              of_link = λ f z on label.
+                  let fibre : fibre_in over.link d ≡ f = cc on in
+                  let is_y : y ≡ z = cc label in
+                  subst (λ f. has (up_to (labels_of (own_link place f.link))) z ≡ true) fibre
+                  (subst (λ z. has (up_to (labels_of (own_link place (fibre_in over.link d).link))) z ≡ true) is_y
+                  (left_of_link place state.legs (asked_role purpose) risks (fibre_in over.link d) set y
+                  (has_least offered y is)));
+              one_back = λ keeps a b enters leaves. absurd (cc enters);
+              back_of_link = λ f z on label. absurd (cc label);
+            };
+          })
+          (path_answered q p i (leg_at s l u) l e k r set label purpose (messages_of l rest) _ plain hop_here
+          (egress_leg place asks over.link risks offered y) e over.link.id y kind refl refl
+          (within y (has_least offered y is)) (over.id ∙ what.1))
+          (λ small. absurd (omega arith))
+          (λ gone path. cc (last, path))
+          (λ small. absurd (omega arith))
+
+      -- elsewhere
+      goes_on : (n : Leads t (link_at p (suc i)) (node_at p (suc i)) (node_at p (suc (suc i)))) (further : List Step) →
+          suc i < hops p →
+          further ≡ drop (suc (suc i)) p.route →
+          Keeps (in_transit place state asks over.link further (Some n.link))
+      goes_on n further small is =
+          let more : nat_lt (suc i) (hops p) ≡ true = lt_true small in
+          let back : Option ℕ = back_label place state asks n.link in
+          let g : Leg = transit_leg place asks over.link risks n.link further offered back in
+          let m : Msg = Path l e n.link.id further (set_on place n.link offered) back purpose in
+          down_taken t q s l p i route chain below message rest was own
+          (in_transit place state asks over.link further (Some n.link)) (Some g) [] (m ∷ [])
+          (rw (same_lsp-refl l) refl)
+          (rw n.far (sends_on t l l.ingress p route (suc i) m small own))
+          (record {
+            own = refl;
+            egress = what.0;
+            role = asked_for;
+            tells = what.3;
+            risks = recorded_here;
+            prev = refl;
+            in_fibre = ap Some enters;
+            next = rw more (ap Some n.far);
+            out_fibre = rw more (ap Some (fibre_out_is t p (suc i)
+                (distinct t l.ingress p route (suc i) (suc (suc i)) (omega arith) (omega arith) (omega arith)) n));
+            route = is;
+            sent = tt;
+            phase = asked_fits q (suc i) (hops p) small;
+            labels = no_label_in place g refl (back_label_same place state asks n.link)
+                (back_label_of_link place state asks n.link);
+          })
+          (path_passed q p i (leg_at s l u) l e k r set label purpose (messages_of l rest) _ plain
+          hop_here g refl refl within)
+          (λ _. rw (
+            (beyond (suc i) (omega arith) (omega arith)).no_down small,
+            (beyond (suc i) (omega arith) (omega arith)).no_up small,
+            (beyond (suc (suc i)) (omega arith) (omega arith)).no_leg,
+          )
+          (hop_asks q p (suc i) g l e n.link.id further (set_on place n.link offered) back purpose
+          plain refl refl refl refl (what.0, n.id, is, what.3)))
+          (λ gone path. cc (last, path))
+          (λ _ gone path j after small'. beyond j (omega arith) small')
+
+      admits : (r' : List Step) → r ≡ r' → is_none (least offered) ≡ false →
+          Keeps (admitted place state asks over.link r')
+      admits [] end some = ends end (least offered) refl some
+      admits (hop ∷ further) is some =
+          let st = drop-some (suc i) p.route hop further (sym what.2 ∙ is) in
+          let first : hop.link ≡ link_at p (suc i) = rw st.first refl in
+          let n = route.links (suc i) st.below in
+          rw (first, own_near t (link_at p (suc i)) (node_at p (suc i)) (node_at p (suc (suc i))) n)
+          (goes_on n further st.below st.further)
+
+    judges : (o : Option ErrCode) → first_failure (checks place state asks over.link) ≡ o →
+        Keeps (judged place state asks over.link o)
+    judges (Some code) is = refused code
+    judges None is =
+        admits (primary_known place state asks over.link is) r refl (some_label place state asks over.link is)
+
+  away : nat_eq l.ingress.0 (node_at p (suc i)).0 ≡ false
+  away = rw (← route.first) (other (node_at p 0).0 (node_at p (suc i)).0
+      (distinct t l.ingress p route 0 (suc i) (omega arith) (omega arith) (omega arith)))
+
+  pub path_keeps : leg_at s l (node_at p (suc i)) ≡ None → Keeps (on_message place state u message)
+  path_keeps none =
+      rw (none, own_far t k u d far over, plain_inactive purpose plain, (joined t k u d far over).leads, away)
+      (judges none (first_failure (checks place state asks over.link)) refl)

@@ -1,0 +1,92 @@
+-- A torn leg may stand in the place of the leg that it was: it takes and sends no more, and is marked only where that
+-- was.
+use Rattle.std.proofs.Common.{◌≡◌, ℕ, true, not, List, refl, inl, inr}
+use Rattle.std.specs.Prelude.{◌&&◌, ◌||◌, Some, None, IsTrue, is_some}
+use Rattle.ason_base.specs.declared.ids.Fibre.{Fibre}
+use Rattle.ason_base.specs.declared.calls.Phase.{Phase}
+use Rattle.ason_base.specs.declared.calls.Phase.TheVariants.{Asked, Held, Armed, Live, Closing, Falling}
+use Rattle.ason_base.specs.declared.calls.Role.{Role}
+use Rattle.ason_base.specs.declared.calls.Role.TheVariants.{Work, Back}
+use Rattle.ason_base.specs.declared.tables.Leg.{Leg}
+use Rattle.mesh_rules.specs.Legs.{closed, closing_phase, find_leg, is_armed, is_at, is_held, is_marked, is_marking, is_work, reverse_of, sends, takes, uses}
+use Rattle.mesh_nodes.proofs.LabelPlaces.{either, none-at, or-first, or-second}
+use Rattle.lsp_laws.proofs.nodes.BackLabels.{back-closed}
+use Rattle.lsp_laws.proofs.nodes.Facts.{FitsPhase, LegFacts}
+use Rattle.lsp_laws.proofs.nodes.LegParts.{LegPart, MayStand}
+use Rattle.lsp_laws.proofs.nodes.Marks.{may-keep}
+
+phase_closed : (f : Phase) (r : Role) (g : Leg) → IsTrue (is_some g.next) → FitsPhase (closing_phase f r) (closed g)
+phase_closed Asked r g next = (refl, next)
+phase_closed Held r g next = (refl, next)
+phase_closed Armed Work g next = (refl, next)
+phase_closed Armed Back g next = (refl, next)
+phase_closed Live Work g next = (refl, next)
+phase_closed Live Back g next = (refl, next)
+phase_closed Closing r g next = (refl, next)
+phase_closed Falling r g next = (refl, next)
+
+closed-idle : (f : Phase) (r : Role) → (is_held (closing_phase f r) || is_armed (closing_phase f r)) ≡ true → ⊥
+closed-idle Asked r e = cc e
+closed-idle Held r e = cc e
+closed-idle Armed Work e = cc e
+closed-idle Armed Back e = cc e
+closed-idle Live Work e = cc e
+closed-idle Live Back e = cc e
+closed-idle Closing r e = cc e
+closed-idle Falling r e = cc e
+
+closed-facts : (n next : ℕ) (g : Leg) → IsTrue (is_some g.next) → LegFacts n next g → LegFacts n next (closed g)
+closed-facts n next g goes_on facts = record {
+  prev = facts.prev;
+  in_fibre = facts.in_fibre;
+  next_node = facts.next_node;
+  out_fibre = facts.out_fibre;
+  one_end = facts.one_end;
+  number = facts.number;
+  role = facts.role;
+  held = λ e. absurd (closed-idle g.phase g.role e);
+  phase = phase_closed g.phase g.role g goes_on;
+  offered = tt;
+  sent = facts.sent;
+  back = back-closed g facts.back;
+}
+
+-- it takes and sends no more, and is marked only where it was
+closed-takes : (g : Leg) (f : Fibre) (x : ℕ) → takes f x (closed g) ≡ true → takes f x g ≡ true
+closed-takes g f x this =
+    elim (either (is_at g.in_fibre None f x) (is_at (reverse_of g.out_fibre) g.back_in f x) this) [
+      | inl on ↦ (let none = none-at g.in_fibre f x in absurd (cc (none, on)))
+      | inr on ↦ or-second (is_at g.in_fibre g.in_label f x) _ on
+    ]
+
+pub closed-sends : (g : Leg) (f : Fibre) (x : ℕ) → sends f x (closed g) ≡ true → sends f x g ≡ true
+closed-sends g f x this =
+    elim (either (is_at g.out_fibre g.out_label f x) (is_at (reverse_of g.in_fibre) None f x) this) [
+      | inl on ↦ or-first (is_at g.out_fibre g.out_label f x) _ on
+      | inr on ↦ (let none = none-at (reverse_of g.in_fibre) f x in absurd (cc (none, on)))
+    ]
+
+closed-uses : (g : Leg) (f : Fibre) (x : ℕ) → uses f x (closed g) ≡ true → uses f x g ≡ true
+closed-uses g f x this = elim (either (takes f x (closed g)) (sends f x (closed g)) this) [
+  | inl taken ↦ or-first (takes f x g) (sends f x g) (closed-takes g f x taken)
+  | inr sent ↦ or-second (takes f x g) (sends f x g) (closed-sends g f x sent)
+]
+
+pub closed-marked : (g : Leg) → is_marked (closed g) ≡ true → is_marked g ≡ true
+closed-marked g mark = go g.phase g.role mark
+  where
+    go : (f : Phase) (r : Role) → (not (is_work r) && is_marking (closing_phase f r)) ≡ true →
+        (not (is_work r) && is_marking f) ≡ true
+    go f Work e = absurd (cc e)
+    go Asked Back e = absurd (cc e)
+    go Held Back e = absurd (cc e)
+    go Armed Back e = refl
+    go Live Back e = refl
+    go Closing Back e = absurd (cc e)
+    go Falling Back e = refl
+
+pub closed-stands : (n next : ℕ) (legs : List Leg) (g : Leg) → LegPart n next legs →
+    find_leg g.lsp legs ≡ Some g → IsTrue (is_some g.next) → MayStand n next legs (closed g)
+closed-stands n next legs g part found goes_on =
+    may-keep n next legs part g (closed g) (closed-facts n next g goes_on (part.leg g.lsp g found)) found refl refl
+    (closed-takes g) (closed-uses g) (closed-marked g)

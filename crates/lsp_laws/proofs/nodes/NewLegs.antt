@@ -1,0 +1,203 @@
+-- The legs that rules make may stand: they have the facts of a leg, and a label that they take is usable for them.
+use Rattle.std.proofs.Common.{◌≡◌, ◌<◌, ℕ, Bool, true, false, not, nat_eq, List, refl, sym, ap, subst, ◌∙◌, arith, inl, inr}
+use Rattle.std.specs.Prelude.{◌⊎◌, ◌&&◌, ◌||◌, Option, Some, None, is_some}
+use Rattle.std.proofs.Math.Bool.{and-false, and-true}
+use Rattle.ason_base.specs.Labels.{has}
+use Rattle.ason_base.specs.declared.ids.Fibre.{Fibre}
+use Rattle.ason_base.specs.declared.network.LinkSpec.{LinkSpec}
+use Rattle.ason_base.specs.declared.steps.Step.{Step}
+use Rattle.ason_base.specs.declared.calls.Phase.TheVariants.{Asked}
+use Rattle.ason_base.specs.declared.calls.Role.{Role}
+use Rattle.ason_base.specs.declared.calls.Role.TheVariants.{Work, Back}
+use Rattle.ason_base.specs.declared.risks.Risk.{Risk}
+use Rattle.ason_base.specs.declared.tables.Leg.{Leg}
+use Rattle.mesh_rules.specs.FirstLegs.{NewLsp, first_back, first_leg, lacks_first_back}
+use Rattle.mesh_rules.specs.KnownRows.{known_rows}
+use Rattle.mesh_rules.specs.LocalNodes.{LocalNode, fibre_in, fibre_out}
+use Rattle.mesh_rules.specs.Legs.{is_armed, is_at, is_held, is_marking, is_usable, is_work, reserved, reverse, reverse_of, usable}
+use Rattle.mesh_rules.specs.State.{NodeState}
+use Rattle.mesh_rules.specs.Paths.{PathRequest, back_label, back_through, egress_leg, is_none, lacks_back, offered_labels, risks_here, role_of, transit_leg}
+use Rattle.mesh_nodes.proofs.Cases.{not-true}
+use Rattle.mesh_nodes.proofs.LabelPlaces.{at-is, either, none-at}
+use Rattle.lsp_laws.proofs.nodes.BackLabels.{reserved-stands}
+use Rattle.lsp_laws.proofs.nodes.ChosenLabels.{back-has, first-has, first-usable, has-right, some-of, usable-is}
+use Rattle.lsp_laws.proofs.nodes.Facts.{FitsPhase, HasItsLabels, LabelsFit, LegFacts}
+use Rattle.lsp_laws.proofs.nodes.LegParts.{MayStand}
+use Rattle.lsp_laws.proofs.nodes.Marks.{may-take}
+use Rattle.lsp_laws.proofs.nodes.Sharing.{TakeNoMore, take-same}
+
+pub some : {X : Type 0} (x y : X) → Some x ≡ Some y → x ≡ y
+some x y e = cc e
+
+-- Phases
+
+-- an Asked leg isn't marked
+asked-plain : (r : Role) → (not (is_work r) && is_marking Asked) ≡ false
+asked-plain Work = refl
+asked-plain Back = refl
+
+-- At the ingress
+
+-- a leg that begins here has a next node
+pub ingress-goes_on : (n next : ℕ) (g : Leg) → LegFacts n next g → g.lsp.ingress.0 ≡ n → is_some g.next ≡ true
+ingress-goes_on n next g facts here =
+    let test : nat_eq g.lsp.ingress.0 n ≡ true = grind arith in
+    let first : is_some g.prev ≡ false = facts.prev ∙ ap not test in
+    subst (λ b. (b || is_some g.next) ≡ true) first facts.one_end
+
+-- and ends at another one
+pub ingress-leaves : (n next : ℕ) (g : Leg) → LegFacts n next g → g.lsp.ingress.0 ≡ n → nat_eq g.egress.0 n ≡ false
+ingress-leaves n next g facts here =
+    not-true (nat_eq g.egress.0 n) (sym facts.next_node ∙ ingress-goes_on n next g facts here)
+
+-- the first leg of an LSP, which takes its label for the way back; read are the legs among which that was chosen
+pub first-stands : (p : LocalNode) (s : NodeState) (l : NewLsp) (both : Bool) (next : ℕ) (legs : List Leg) →
+    l.back ≡ first_back p s both l.role l.out → lacks_first_back p s both l.role l.out ≡ false →
+    l.lsp.ingress.0 ≡ p.id.0 → nat_eq l.egress.0 p.id.0 ≡ false → l.lsp.lsp < next → LabelsFit legs →
+    TakeNoMore s.legs legs → MayStand p.id.0 next legs (first_leg p (known_rows p s) l)
+first-stands p s l both next legs back has here away small labels less =
+    let g : Leg = first_leg p (known_rows p s) l in
+    may-take p.id.0 next s.legs legs labels less g
+    (λ f x this.
+    let at = at-is (Some (reverse (fibre_out l.out p.id))) l.back f x this in
+    let fibre : reverse (fibre_out l.out p.id) ≡ f = some _ f at.0 in
+    inl (subst (λ k. is_usable g.role g.risks s.legs k x ≡ true) fibre
+    (first-usable p s both l.role l.out x (sym back ∙ at.1))))
+    (asked-plain (role_of l.role)) (record {
+      prev = (let test : nat_eq l.lsp.ingress.0 p.id.0 ≡ true = grind arith in rw test refl);
+      in_fibre = refl;
+      next_node = rw away refl;
+      out_fibre = refl;
+      one_end = refl;
+      number = λ e. small;
+      role = refl;
+      held = λ e. absurd (cc e);
+      phase = (refl, refl, refl);
+      offered = tt;
+      sent = tt;
+      back = (
+        both,
+        record {
+          enters = ap is_some back ∙ first-has p s both l.role l.out has;
+          leaves = sym (and-false both);
+        },
+      );
+    })
+
+-- Away from the ingress
+
+away : (a n : ℕ) (P : Type 0) → nat_eq a n ≡ false → a ≡ n → P
+away a n P e f = let same : nat_eq a n ≡ true = grind arith in absurd (cc (e, same))
+
+-- a leg that has its label fits its phase, and isn't marked yet
+pub phase_reserved : (r : Role) (g : Leg) → HasItsLabels g → FitsPhase (reserved r) g
+phase_reserved Work g labels = labels
+phase_reserved Back g labels = labels
+
+pub reserved-plain : (r : Role) → (not (is_work r) && is_marking (reserved r)) ≡ false
+reserved-plain Work = refl
+reserved-plain Back = refl
+
+-- reserved without a cross-connection it is a backup's
+pub reserved-back : (r : Role) → (is_held (reserved r) || is_armed (reserved r)) ≡ true → r ≡ Back
+reserved-back Work e = absurd (cc e)
+reserved-back Back e = refl
+
+module _ (p : LocalNode) (s : NodeState) (m : PathRequest) (link : LinkSpec) (next : ℕ)
+    (far : nat_eq m.arrival.lsp.ingress.0 p.id.0 ≡ false) where
+  abbrev risks : List Risk
+  risks = risks_here p s m
+
+  pub egress-stands : (x : ℕ) → LabelsFit s.legs → nat_eq m.arrival.egress.0 p.id.0 ≡ true →
+      has (offered_labels p s m link) x ≡ true →
+      MayStand p.id.0 next s.legs (egress_leg p m link risks (offered_labels p s m link) x)
+  egress-stands x labels here offered =
+      may-take p.id.0 next s.legs s.legs labels (take-same s.legs) g
+      (λ f y this. inl (only f y (either (is_at g.in_fibre (Some x) f y) (is_at None None f y) this)))
+      (reserved-plain (role_of m.role))
+      (record {
+        prev = rw far refl;
+        in_fibre = refl;
+        next_node = rw here refl;
+        out_fibre = refl;
+        one_end = refl;
+        number = away m.arrival.lsp.ingress.0 p.id.0 (m.arrival.lsp.lsp < next) far;
+        role = refl;
+        held = reserved-back (role_of m.role);
+        phase = phase_reserved (role_of m.role) g (refl, refl);
+        offered = offered;
+        sent = tt;
+        back = (
+          is_some m.upstream,
+          record {
+            enters = sym (and-false (is_some m.upstream));
+            leaves = rw (reserved-stands (role_of m.role), and-true (is_some m.upstream)) refl;
+          },
+        );
+      })
+    where
+      g : Leg
+      g = egress_leg p m link risks (offered_labels p s m link) x
+
+      only : (f : Fibre) (y : ℕ) → (is_at g.in_fibre (Some x) f y ≡ true) ⊎ (is_at None None f y ≡ true) →
+          is_usable g.role g.risks s.legs f y ≡ true
+      only f y (inl on) =
+          let at = at-is g.in_fibre (Some x) f y on in
+          let usable_here : List ℕ = usable p s.legs (role_of m.role) risks (fibre_in link p.id) in
+          subst (λ z. is_usable g.role g.risks s.legs f z ≡ true) (some x y at.1)
+          (subst (λ k. is_usable g.role g.risks s.legs k x ≡ true) (some (fibre_in link p.id) f at.0)
+          (usable-is p s.legs g.role risks (fibre_in link p.id) x (has-right m.set usable_here x offered)))
+      only f y (inr on) = absurd (cc on)
+
+  pub transit-stands : (out : LinkSpec) (route : List Step) → LabelsFit s.legs →
+      nat_eq m.arrival.egress.0 p.id.0 ≡ false → lacks_back p s m (Some out) ≡ false →
+      MayStand p.id.0 next s.legs
+      (transit_leg p m link risks out route (offered_labels p s m link) (back_label p s m out))
+  transit-stands out route labels on has =
+      may-take p.id.0 next s.legs s.legs labels (take-same s.legs) g
+      (λ f x this.
+      inl (only f x (either (is_at g.in_fibre None f x) (is_at (reverse_of g.out_fibre) g.back_in f x) this)))
+      (asked-plain (role_of m.role))
+      (record {
+        prev = rw far refl;
+        in_fibre = refl;
+        next_node = rw on refl;
+        out_fibre = refl;
+        one_end = refl;
+        number = away m.arrival.lsp.ingress.0 p.id.0 (m.arrival.lsp.lsp < next) far;
+        role = refl;
+        held = λ e. absurd (cc e);
+        phase = (refl, refl, refl);
+        offered = tt;
+        sent = tt;
+        back = (
+          is_some m.upstream,
+          record {
+            enters = back-chosen m.upstream has;
+            leaves = sym (and-true (is_some m.upstream));
+          },
+        );
+      })
+    where
+      back_fibre : Fibre
+      back_fibre = reverse (fibre_out out p.id)
+
+      usable_back : List ℕ
+      usable_back = usable p s.legs (role_of m.role) risks back_fibre
+
+      g : Leg
+      g = transit_leg p m link risks out route (offered_labels p s m link) (back_label p s m out)
+
+      back-chosen : (up : Option ℕ) → (is_some up && is_none (back_through p usable_back up)) ≡ false →
+          is_some (back_through p usable_back up) ≡ (is_some up && true)
+      back-chosen None e = refl
+      back-chosen (Some x) e = some-of (back_through p usable_back (Some x)) e
+
+      only : (f : Fibre) (x : ℕ) →
+          (is_at g.in_fibre None f x ≡ true) ⊎ (is_at (reverse_of g.out_fibre) g.back_in f x ≡ true) →
+          is_usable g.role g.risks s.legs f x ≡ true
+      only f x (inl e) = absurd (let none = none-at g.in_fibre f x in cc (none, e))
+      only f x (inr e) =
+          let at = at-is (reverse_of g.out_fibre) g.back_in f x e in
+          subst (λ k. is_usable g.role g.risks s.legs k x ≡ true) (some back_fibre f at.0)
+          (usable-is p s.legs g.role risks back_fibre x (back-has p usable_back m.upstream x at.1))

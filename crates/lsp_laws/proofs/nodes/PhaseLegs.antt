@@ -1,0 +1,119 @@
+-- A leg that stands and gets another phase may stand: an activation passes it, is confirmed or is refused.
+use Rattle.std.proofs.Common.{◌≡◌, ℕ, true, false, not, nat_eq, List, refl, sym, subst, ap, ◌∙◌, arith}
+use Rattle.std.specs.Prelude.{is_some, ◌||◌, Option, Some, None}
+use Rattle.ason_base.specs.declared.calls.Phase.{Phase}
+use Rattle.ason_base.specs.declared.calls.Phase.TheVariants.{Asked, Held, Armed, Live, Closing, Falling}
+use Rattle.ason_base.specs.declared.calls.Role.TheVariants.{Back}
+use Rattle.ason_base.specs.declared.ids.Lsp.{Lsp}
+use Rattle.ason_base.specs.declared.tables.Leg.{Leg}
+use Rattle.ason_base.specs.Lsps.{same_lsp}
+use Rattle.mesh_rules.specs.Legs.{find_leg, is_armed, is_beyond_asked, is_contended, is_held, is_marking, is_work, with_phase}
+use Rattle.mesh_nodes.proofs.Cases.{both_right}
+use Rattle.lsp_laws.proofs.nodes.BackLabels.{back-kept, beyond-stands}
+use Rattle.lsp_laws.proofs.nodes.Facts.{FitsPhase, HasItsLabels, LegFacts}
+use Rattle.lsp_laws.proofs.nodes.LegParts.{LegPart, MayStand}
+use Rattle.lsp_laws.proofs.nodes.Marks.{may-arm, may-keep}
+
+-- Phases
+
+labels-of : (f : Phase) (g : Leg) → FitsPhase f g → is_beyond_asked f ≡ true → HasItsLabels g
+labels-of Asked g fits e = absurd (cc e)
+labels-of Held g fits e = fits
+labels-of Armed g fits e = fits
+labels-of Live g fits e = fits
+labels-of Closing g fits e = absurd (cc e)
+labels-of Falling g fits e = absurd (cc e)
+
+fits-phase : (f : Phase) (g : Leg) → HasItsLabels g → is_beyond_asked f ≡ true → FitsPhase f g
+fits-phase Asked g labels e = absurd (cc e)
+fits-phase Held g labels e = labels
+fits-phase Armed g labels e = labels
+fits-phase Live g labels e = labels
+fits-phase Closing g labels e = absurd (cc e)
+fits-phase Falling g labels e = absurd (cc e)
+
+pub held-is : (f : Phase) → is_held f ≡ true → f ≡ Held
+held-is Asked e = absurd (cc e)
+held-is Held e = refl
+held-is Armed e = absurd (cc e)
+held-is Live e = absurd (cc e)
+held-is Closing e = absurd (cc e)
+held-is Falling e = absurd (cc e)
+
+pub armed-is : (f : Phase) → is_armed f ≡ true → f ≡ Armed
+armed-is Asked e = absurd (cc e)
+armed-is Held e = absurd (cc e)
+armed-is Armed e = refl
+armed-is Live e = absurd (cc e)
+armed-is Closing e = absurd (cc e)
+armed-is Falling e = absurd (cc e)
+
+-- a Held or an Armed leg is a backup's
+pub held-back : (n next : ℕ) (g : Leg) → LegFacts n next g → g.phase ≡ Held → g.role ≡ Back
+held-back n next g facts is = facts.held (subst (λ f. (is_held f || is_armed f) ≡ true) (sym is) refl)
+
+pub armed-back : (n next : ℕ) (g : Leg) → LegFacts n next g → g.phase ≡ Armed → g.role ≡ Back
+armed-back n next g facts is = facts.held (subst (λ f. (is_held f || is_armed f) ≡ true) (sym is) refl)
+
+-- a leg that begins here has no label in
+pub ingress-unlabelled : (n next : ℕ) (g : Leg) → LegFacts n next g → g.lsp.ingress.0 ≡ n → g.in_label ≡ None
+ingress-unlabelled n next g facts begins = go g.phase facts.phase
+  where
+    none : {X : Type 0} (o : Option X) → is_some o ≡ false → o ≡ None
+    none None e = refl
+    none (Some x) e = absurd (cc e)
+
+    first : is_some g.in_fibre ≡ false
+    first =
+        let test : nat_eq g.lsp.ingress.0 n ≡ true = grind arith in
+        facts.in_fibre ∙ facts.prev ∙ ap not test
+
+    labelled : HasItsLabels g → g.in_label ≡ None
+    labelled labels = none g.in_label (labels.0 ∙ first)
+
+    go : (f : Phase) → FitsPhase f g → g.in_label ≡ None
+    go Asked fits = fits.0
+    go Held fits = labelled fits
+    go Armed fits = labelled fits
+    go Live fits = labelled fits
+    go Closing fits = fits.0
+    go Falling fits = fits.0
+
+-- The leg of a backup that has its labels, at a node with these legs, in the phase f
+
+pub phase-facts : (n next : ℕ) (f : Phase) (g : Leg) → LegFacts n next g → is_beyond_asked g.phase ≡ true →
+    is_beyond_asked f ≡ true → g.role ≡ Back → LegFacts n next (with_phase f g)
+phase-facts n next f g facts beyond later back = record {
+  prev = facts.prev;
+  in_fibre = facts.in_fibre;
+  next_node = facts.next_node;
+  out_fibre = facts.out_fibre;
+  one_end = facts.one_end;
+  number = facts.number;
+  role = facts.role;
+  held = λ e. back;
+  phase = fits-phase f (with_phase f g) (labels-of g.phase g facts.phase beyond) later;
+  offered = facts.offered;
+  sent = facts.sent;
+  back = back-kept g (with_phase f g) refl refl refl refl
+      (beyond-stands g.phase beyond ∙ sym (beyond-stands f later)) facts.back;
+}
+
+module _ (n next : ℕ) (legs : List Leg) (f : Phase) (g : Leg) (part : LegPart n next legs)
+    (found : find_leg g.lsp legs ≡ Some g) (beyond : is_beyond_asked g.phase ≡ true)
+    (later : is_beyond_asked f ≡ true) (back : g.role ≡ Back) where
+  facts : LegFacts n next (with_phase f g)
+  facts = phase-facts n next f g (part.leg g.lsp g found) beyond later back
+
+  -- it is marked only where it was before
+  pub stands-unmarked : (is_marking f ≡ true → is_marking g.phase ≡ true) → MayStand n next legs (with_phase f g)
+  stands-unmarked before =
+      may-keep n next legs part g (with_phase f g) facts found refl refl (λ k x e. e) (λ k x e. e)
+      (λ mark. let passed = before (both_right (not (is_work g.role)) (is_marking f) mark) in rw (back, passed) refl)
+
+  -- it isn't contended among the legs that a rule read, of which those of other LSPs stand as they did
+  pub stands-alone : (read : List Leg) →
+      ((m : Lsp) (h : Leg) → same_lsp g.lsp m ≡ false → find_leg m legs ≡ Some h → find_leg m read ≡ Some h) →
+      is_contended read g ≡ false → MayStand n next legs (with_phase f g)
+  stands-alone read stood free =
+      may-arm n next legs part g (with_phase f g) facts found refl refl (λ k x e. e) read stood free

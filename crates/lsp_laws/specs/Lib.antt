@@ -1,0 +1,12 @@
+pub mod BesideLaw
+pub mod CallLaw
+pub mod HopLaw
+pub mod HopShapes
+pub mod JoinedLaw
+pub mod LabelLaw
+pub mod LearntLaw
+pub mod NodeLaw
+pub mod ReportLaw
+pub mod RiskLaw
+pub mod StandLaw
+pub mod WavelengthLaw

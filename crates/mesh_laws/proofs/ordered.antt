@@ -1,0 +1,4 @@
+pub mod Known
+pub mod Law
+pub mod Steps
+pub mod Ways

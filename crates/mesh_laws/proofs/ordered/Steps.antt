@@ -1,0 +1,287 @@
+-- What each answer and each failure keep: a call is that of a posted setup, with a working leg that is two-way just
+-- where this says so, and each order on a desk was posted.
+use Rattle.std.proofs.Common.{◌≡◌, ◌⊎◌, ℕ, Bool, true, false, nat_eq, not, List, [], ◌∷◌, drop, refl, sym, ap, subst, ◌∙◌, inl, inr}
+use Rattle.std.specs.Prelude.{Option, Some, None, flat_map}
+use Rattle.std.specs.List.{AllByRecursion}
+use Rattle.ason_base.specs.declared.commands.Command.TheVariants.{Setup, Release, Protect, Retry, Revert, Fail, Repair}
+use Rattle.ason_base.specs.declared.commands.DeskItem.{DeskItem}
+use Rattle.ason_base.specs.declared.commands.DeskItem.TheVariants.{Order, Alarm, Clear}
+use Rattle.ason_base.specs.declared.commands.Group.{Group}
+use Rattle.ason_base.specs.declared.ids.Fibre.{Fibre}
+use Rattle.ason_base.specs.declared.ids.Lsp.{Lsp}
+use Rattle.ason_base.specs.declared.ids.NodeId.{NodeId}
+use Rattle.ason_base.specs.declared.steps.Step.{Step}
+use Rattle.ason_base.specs.declared.messages.Msg.{Msg}
+use Rattle.ason_base.specs.declared.network.LinkSpec.{LinkSpec}
+use Rattle.ason_base.specs.declared.tables.CallRec.{CallRec}
+use Rattle.ason_base.specs.declared.tables.Leg.{Leg}
+use Rattle.ason_base.specs.Lsps.{same_bool}
+use Rattle.ason_base.specs.Network.{Network, row_of}
+use Rattle.mesh_rules.specs.declared.events.MeshEvent.{MeshEvent}
+use Rattle.mesh_rules.specs.Calls.{find_call, is_asking}
+use Rattle.mesh_rules.specs.Changes.{Answer, changed, learns, nothing}
+use Rattle.mesh_rules.specs.Events.{on_first, on_first_item}
+use Rattle.mesh_rules.specs.FirstLegs.{first_link}
+use Rattle.mesh_rules.specs.Setups.{SetupRequest, begins, next_lsp}
+use Rattle.mesh_rules.specs.Failures.{all_news, changed_news, is_cut, link_news, news, news_at, with_failed}
+use Rattle.mesh_rules.specs.KnownRows.{has_row, known_rows}
+use Rattle.mesh_rules.specs.Learnt.{on_link}
+use Rattle.mesh_rules.specs.Legs.{find_leg}
+use Rattle.mesh_rules.specs.LocalNodes.{LocalNode, local_node}
+use Rattle.mesh_rules.specs.Machine.{Mesh}
+use Rattle.mesh_rules.specs.Orders.{on_item}
+use Rattle.mesh_rules.specs.Pairs.{is_two_way}
+use Rattle.mesh_rules.specs.State.{NodeState}
+use Rattle.mesh_rules.specs.Waits.{on_tick}
+use Rattle.mesh_nodes.specs.Order.{CallsRise}
+use Rattle.mesh_nodes.proofs.Alarms.{all-append}
+use Rattle.mesh_nodes.proofs.Cases.{if_cases}
+use Rattle.lsp_laws.specs.CallLaw.{IsTidy}
+use Rattle.lsp_laws.specs.NodeLaw.{DeskFits, FitsDesk}
+use Rattle.lsp_laws.proofs.nodes.CallMoves.{IsSameCall, moves-none}
+use Rattle.lsp_laws.proofs.nodes.Facts.{NodeFacts}
+use Rattle.lsp_laws.proofs.nodes.CallChanges.{ArePut, EachCall, MayGo, OfAny}
+use Rattle.lsp_laws.proofs.nodes.CallsHold.{alarm-holds, clear-holds, message-holds, protect-holds, release-holds, retry-holds, revert-holds, tick-holds}
+use Rattle.lsp_laws.proofs.nodes.SetupsHold.{setup-holds}
+use Rattle.lsp_laws.proofs.hops.Stepped.{grown, grown-grow}
+use Rattle.lsp_laws.proofs.hops.GivenRoutes.{sent-over}
+use Rattle.lsp_laws.proofs.hops.Laws.{carried}
+use Rattle.lsp_laws.proofs.hops.Planned.{EachFollows, Grow, Routes}
+use Rattle.mesh_laws.specs.KnownLaw.{ComesIn}
+use Rattle.mesh_laws.specs.OrderLaw.{IsOrdered, WasPosted}
+use Rattle.mesh_laws.proofs.ordered.Ways.{KeepWays, KeepsWay, begun-way, first-keep, first_item-keep, tick-keep}
+
+module _ (t : Network) (all : List MeshEvent) where
+  pub record IsKept (o : Routes) (n : ℕ) (legs : List Leg) (c : CallRec) : Type 0 where
+    pub tidy : IsTidy c
+    pub order : IsOrdered o all n legs c
+
+  -- and its working leg is as it was among those legs
+  abbrev pub IsKeptTo : Routes → ℕ → List Leg → List Leg → CallRec → Type 0
+  IsKeptTo o n was now c = IsKept o n was c × KeepsWay was now c
+
+  -- an order was posted
+  abbrev IsPosted : DeskItem → Type 0
+  IsPosted (Order c) = WasPosted c all
+  IsPosted (Alarm f) = Unit {0}
+  IsPosted (Clear f) = Unit {0}
+
+  pub record AreKept (s : Mesh) (o : Routes) : Type 0 where
+    pub calls : (n : ℕ) → EachCall (IsKept o n (s.nodes n).legs) (s.nodes n).calls
+    pub desks : (n : ℕ) → AllByRecursion IsPosted (s.desks n)
+    pub down : (n : NodeId) → AllByRecursion (ComesIn (local_node t n)) (s.nodes n.0).down
+
+  same-kept : (o o' : Routes) → Grow o o' → (n : ℕ) (was now : List Leg) (c d : CallRec) → IsSameCall OfAny c d →
+      IsKeptTo o n was now c → IsKept o' n now d
+  same-kept o o' grow n was now c d same (kept, way) = record {
+    tidy = same.moves.tidy kept.tidy;
+    order = record {
+      from = kept.order.from;
+      both = kept.order.both;
+      via = kept.order.via;
+      here = kept.order.here;
+      posted = rw (same.moves.number, same.egress, same.protected, same.backup) kept.order.posted;
+      over = λ l route work via. go l route work via same.work;
+      ways = λ l h work here. along l h work here same.work;
+    };
+  }
+    where
+      along : (l : Lsp) (h : Leg) → d.work ≡ Some l → find_leg l now ≡ Some h →
+          (d.work ≡ c.work) ⊎ ((d.work ≡ None) × (is_asking c.state ≡ true)) → is_two_way h ≡ kept.order.both
+      along l h work here (inl is) =
+          let before = way l h (sym is ∙ work) here in
+          before.2 ∙ kept.order.ways l before.0 (sym is ∙ work) before.1
+      along l h work here (inr gone) = absurd (let none = gone.0 in cc (none, work))
+
+      go : (l : Lsp) (route : List Step) → d.work ≡ Some l → kept.order.via ≡ Some route →
+          (d.work ≡ c.work) ⊎ ((d.work ≡ None) × (is_asking c.state ≡ true)) → o' l ≡ Some route
+      go l route work via (inl is) = grow l route (kept.order.over l route (sym is ∙ work) via)
+      go l route work via (inr gone) = absurd (let none = gone.0 in cc (none, work))
+
+  pub grown-kept : (s : NodeState) (o o' : Routes) (n : ℕ) (now : List Leg) → Grow o o' →
+      EachCall (IsKept o n s.legs) s.calls → EachCall (KeepsWay s.legs now) s.calls → EachCall (IsKept o' n now) s.calls
+  grown-kept s o o' n now grow each ways k c found =
+      same-kept o o' grow n s.legs now c c
+      (record { egress = refl; protected = refl; backup = refl; work = inl refl; moves = moves-none OfAny c })
+      (each k c found, ways k c found)
+
+  -- Calls
+
+  module _ (s : Mesh) (n : NodeId) (o : Routes) (f : EachFollows t s o) (facts : NodeFacts n.0 (s.nodes n.0))
+      (each : EachCall (IsKept o n.0 (s.nodes n.0).legs) (s.nodes n.0).calls) where
+    abbrev p : LocalNode
+    p = local_node t n
+
+    abbrev state : NodeState
+    state = s.nodes n.0
+
+    rise : CallsRise (s.nodes n.0).calls
+    rise = facts.calls_rise
+
+    abbrev now : Answer → List Leg
+    now a = (changed (s.nodes n.0) a).legs
+
+    -- what holds of each call before the answer, and of each one that this puts in its place
+    abbrev Before : Answer → CallRec → Type 0
+    Before a = IsKeptTo o n.0 (s.nodes n.0).legs (now a)
+
+    abbrev Later : Answer → CallRec → Type 0
+    Later a = IsKept (grown n o a) n.0 (now a)
+
+    abbrev Puts : Answer → Type 0
+    Puts a = ArePut (Later a) a.calls
+
+    before : (a : Answer) → KeepWays (s.nodes n.0) a → EachCall (Before a) (s.nodes n.0).calls
+    before a ways k c found = (each k c found, ways k c found)
+
+    same-puts : (a : Answer) (c d : CallRec) → IsSameCall OfAny c d → Before a c → Later a d
+    same-puts a = same-kept o (grown n o a) (grown-grow n o a) n.0 state.legs (now a)
+
+    over-given : (w : SetupRequest) (route : List Step) (out : LinkSpec) → (w.via ≡ Some route) ⊎ (w.via ≡ None) →
+        first_link (local_node t n) route ≡ Some out → (l : Lsp) (r : List Step) →
+        Some (next_lsp (local_node t n) (s.nodes n.0)) ≡ Some l → w.via ≡ Some r →
+        grown n o (begins (local_node t n) (s.nodes n.0) w out (drop 1 route)) l ≡ Some r
+    over-given w route out (inl via) first l r is given =
+        let own : next_lsp p state ≡ l = cc is in
+        let one : route ≡ r = cc (via, given) in
+        subst (λ k. grown n o (begins p state w out (drop 1 route)) k ≡ Some r) own
+        (sent-over t s n o f w route out first ∙ ap Some one)
+    over-given w route out (inr none) first l r is given = absurd (cc (none, given))
+
+    item-puts : (i : DeskItem) → FitsDesk t n.0 i → IsPosted i →
+        EachCall (Before (on_item (local_node t n) (s.nodes n.0) i)) (s.nodes n.0).calls →
+        Puts (on_item (local_node t n) (s.nodes n.0) i)
+    item-puts (Order (Setup k from to protected both via backup)) fits was old =
+        let w : SetupRequest =
+        record {
+          call = k;
+          from = from;
+          egress = to;
+          protected = protected;
+          both = both;
+          via = via;
+          backup =
+              backup;
+        } in
+        setup-holds MayGo p state w Later
+        (λ a cause known. record {
+          tidy = record { cause = ap not known; ticks = refl; paired = refl };
+          order = record {
+            from = from;
+            both = both;
+            via = via;
+            here = fits.1;
+            posted = was;
+            over = λ l r work given. absurd (cc work);
+            ways = λ l g work here. absurd (cc work);
+          };
+        })
+        (λ route out over first ordered has. record {
+          tidy = record { cause = refl; ticks = refl; paired = refl };
+          order = record {
+            from = from;
+            both = both;
+            via = via;
+            here = fits.1;
+            posted = was;
+            over = over-given w route out over first;
+            ways = begun-way p state w out (drop 1 route) has;
+          };
+        }) (find_call k state.calls)
+    item-puts (Order (Release k from)) fits was old =
+        let a = on_item p state (Order (Release k from)) in
+        release-holds OfAny MayGo (Before a) _ (same-puts a) p state
+        (λ g m j f found first into. tt) rise old from (find_call k state.calls) (λ c is. tt)
+    item-puts (Order (Protect k from)) fits was old =
+        let a = on_item p state (Order (Protect k from)) in
+        protect-holds OfAny MayGo (Before a) _ (same-puts a) p state
+        (λ g m j f found first into. tt) rise old k from (find_call k state.calls) refl
+    item-puts (Order (Retry k from)) fits was old =
+        let a = on_item p state (Order (Retry k from)) in
+        retry-holds OfAny MayGo (Before a) _ (same-puts a) p state
+        (λ g m j f found first into. tt) rise old k from (find_call k state.calls) refl
+    item-puts (Order (Revert k from)) fits was old =
+        let a = on_item p state (Order (Revert k from)) in
+        revert-holds OfAny MayGo (Before a) _ (same-puts a) p state
+        (λ g m j f found first into. tt) rise old k from (find_call k state.calls) refl
+    item-puts (Order (Fail g)) fits was old = tt
+    item-puts (Order (Repair g)) fits was old = tt
+    item-puts (Alarm x) fits was old =
+        let a = on_item p state (Alarm x) in
+        alarm-holds OfAny MayGo (Before a) _ (same-puts a) p state
+        (λ g m j f found first into. tt) rise old x
+    item-puts (Clear x) fits was old =
+        let a = on_item p state (Clear x) in
+        clear-holds OfAny MayGo (Before a) _ (same-puts a) p state
+        (λ g m j f found first into. tt) rise old x
+
+    pub first_item-puts : (items : List DeskItem) → DeskFits t n.0 items → AllByRecursion IsPosted items →
+        Puts (on_first_item (local_node t n) (s.nodes n.0) items)
+    first_item-puts [] fits was = tt
+    first_item-puts (i ∷ items) fits was =
+        item-puts i fits.0 was.0 (before (on_item p state i) (first_item-keep t n state facts (i ∷ items)))
+
+    -- whatever the routes grow to
+    pub first-puts : (o' : Routes) → Grow o o' → (u : NodeId) (ms : List Msg) →
+        ArePut (IsKept o' n.0 (now (on_first (local_node t n) (s.nodes n.0) u ms)))
+        (on_first (local_node t n) (s.nodes n.0) u ms).calls
+    first-puts o' grow u [] = tt
+    first-puts o' grow u (m ∷ ms) =
+        let a = on_first p state u (m ∷ ms) in
+        message-holds OfAny MayGo (Before a) (IsKept o' n.0 (now a)) (same-kept o o' grow n.0 state.legs (now a)) p
+        state (λ g m j f found first into. tt) rise (before a (first-keep t n state facts u (m ∷ ms))) u m
+
+    pub ticks-put : Puts (on_tick (local_node t n) (s.nodes n.0))
+    ticks-put =
+        tick-holds OfAny MayGo (Before (on_tick p state)) _ (same-puts (on_tick p state)) p state
+        (λ g m j f found first into. tt) rise (before (on_tick p state) (tick-keep t n state facts))
+
+    pub link-puts : (o' : Routes) (l : Option LinkSpec) →
+        ArePut (IsKept o' n.0 (now (on_link (local_node t n) (s.nodes n.0) l)))
+        (on_link (local_node t n) (s.nodes n.0) l).calls
+    link-puts o' None = tt
+    link-puts o' (Some l) =
+        if_cases (λ a. ArePut (IsKept o' n.0 (now a)) a.calls) (has_row (known_rows p state) l.id) nothing
+        (learns (row_of l)) (λ known. tt) (λ new. tt)
+
+  -- Desks
+
+  news-posted : (cut : Bool) (f : Fibre) → IsPosted (news cut f)
+  news-posted true f = tt
+  news-posted false f = tt
+
+  news_at-posted : (n receiver : ℕ) (cut : Bool) (f : Fibre) → AllByRecursion IsPosted (news_at n receiver cut f)
+  news_at-posted n receiver cut f =
+      if_cases (AllByRecursion IsPosted) (nat_eq receiver n) (news cut f ∷ []) [] (λ e. (news-posted cut f, tt))
+      (λ e. tt)
+
+  link_news-posted : (n : ℕ) (cut : Bool) (l : LinkSpec) → AllByRecursion IsPosted (link_news n cut l)
+  link_news-posted n cut l =
+      all-append IsPosted (news_at n l.high.0 cut (record { link = l.id; forward = true })) _
+      (news_at-posted n l.high.0 cut (record { link = l.id; forward = true }))
+      (news_at-posted n l.low.0 cut (record { link = l.id; forward = false }))
+
+  changed_news-posted : (before now : List Group) (n : ℕ) (l : LinkSpec) →
+      AllByRecursion IsPosted (changed_news before now n l)
+  changed_news-posted before now n l =
+      if_cases (AllByRecursion IsPosted) (same_bool (is_cut before l) (is_cut now l)) []
+      (link_news n (is_cut now l) l)
+      (λ e. tt) (λ e. link_news-posted n (is_cut now l) l)
+
+  each_news-posted : (before now : List Group) (n : ℕ) (links : List LinkSpec) →
+      AllByRecursion IsPosted (flat_map (changed_news before now n) links)
+  each_news-posted before now n [] = tt
+  each_news-posted before now n (l ∷ links) =
+      all-append IsPosted (changed_news before now n l) _ (changed_news-posted before now n l)
+      (each_news-posted before now n links)
+
+  -- Every event
+
+  pub carried-failed : (s : Mesh) (groups : List Group) → (o : Routes) → AreKept s o →
+      AreKept (with_failed t s groups) o
+  carried-failed s groups o carried = record {
+    calls = carried.calls;
+    desks = λ n. all-append IsPosted (s.desks n) (all_news t s.failed groups n) (carried.desks n)
+        (each_news-posted s.failed groups n t.links);
+    down = carried.down;
+  }
