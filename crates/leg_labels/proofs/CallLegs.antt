@@ -34,13 +34,14 @@ use Rattle.mesh_rules.specs.Turns.{decide, decided, go_back, has_any, turn}
 use Rattle.mesh_nodes.specs.Kept.{LegFits}
 use Rattle.mesh_nodes.specs.LocalNodes.{LocalNodeFits}
 use Rattle.mesh_nodes.proofs.Cases.{if_cases}
+use Rattle.mesh_nodes.proofs.ChosenLabels.{least-has}
 use Rattle.mesh_nodes.proofs.FirstLegs.{first-is}
 use Rattle.mesh_nodes.proofs.LegList.{find-with_leg, found-all, found-lsp, same_lsp-refl}
 use Rattle.leg_table.specs.LegClaims.{MayAllMark, MayAllStay, MayBeMade, MayBePut, MayFollow, OverOwnFibres, StaysAs, is_own_fibre}
 use Rattle.leg_table.proofs.OwnFibres.{over-own}
 use Rattle.leg_labels.proofs.InFibres.{out-comes_back}
 use Rattle.leg_labels.proofs.MayMark.{alone-marks, dark, plain}
-use Rattle.leg_labels.proofs.MayPut.{found-itself, itself, least-has, less-put, new-put, phase-stays, stays-less}
+use Rattle.leg_labels.proofs.MayPut.{found-itself, itself, less-put, new-put, phase-stays, stays-less}
 use Rattle.leg_labels.proofs.OwnContention.{contended-with}
 use Rattle.leg_labels.proofs.Rests.{Rests, rests-calm}
 

@@ -1,16 +1,16 @@
 -- Another LSP's mark is on a label that a leg uses exactly where a marked leg of another LSP uses it.
-use Rattle.std.proofs.Common.{◌≡◌, ◌∙◌, ℕ, Bool, true, false, not, List, inl, inr, refl, sym, ap, subst}
-use Rattle.std.specs.Prelude.{◌&&◌, ◌⊎◌, ◌||◌, Option, Some, None}
+use Rattle.std.proofs.Common.{◌≡◌, ◌∙◌, ℕ, Bool, true, false, not, List, refl, sym, ap, subst}
+use Rattle.std.specs.Prelude.{◌&&◌, Option, Some, None}
 use Rattle.ason_base.specs.declared.ids.Fibre.{Fibre}
 use Rattle.ason_base.specs.declared.ids.Lsp.{Lsp}
 use Rattle.ason_base.specs.declared.tables.Leg.{Leg}
 use Rattle.ason_base.specs.Lsps.{is_lsp, same_lsp}
 use Rattle.link_owner.specs.Marks.{is_lit, lit}
 use Rattle.link_owner.specs.Owners.{OwnerState}
-use Rattle.mesh_rules.specs.Legs.{find_leg, is_at, is_busy, is_busy_at, is_contended, is_marked, reverse_of, sends, takes, uses}
+use Rattle.mesh_rules.specs.Legs.{find_leg, is_busy, is_busy_at, is_contended, is_marked, reverse_of, uses}
 use Rattle.mesh_nodes.specs.Order.{LegsRise}
-use Rattle.mesh_nodes.proofs.Cases.{both_left, both_right, neither_left, neither_right}
-use Rattle.mesh_nodes.proofs.LabelPlaces.{at-is, either}
+use Rattle.mesh_nodes.proofs.BusyLabels.{free-of}
+use Rattle.mesh_nodes.proofs.Cases.{both_left, both_right}
 use Rattle.mesh_nodes.proofs.LegList.{all-found, found-lsp, same_lsp-by, same_lsp-refl}
 use Rattle.mesh_nodes.proofs.Links.{any-found}
 use Rattle.leg_table.specs.LegClaims.{MarksFit, is_marked_on}
@@ -97,57 +97,8 @@ module _ (legs : List Leg) (o : OwnerState) (fit : MarksFit legs o) where
       here (Some f) None = refl
       here (Some f) (Some x) = lit-busy legs o fit f x rise g.lsp
 
--- a leg that isn't contended uses no label that keeps another busy
-busy_at-free : (legs : List Leg) (l : Lsp) (i : Option Fibre) (y : Option ℕ) (f : Fibre) (x : ℕ) →
-    is_busy_at legs l i y ≡ false → is_at i y f x ≡ true → is_busy legs l f x ≡ false
-busy_at-free legs l i y f x free e =
-    let is = at-is i y f x e in
-    sym (ap (λ j. is_busy_at legs l j (Some x)) is.0) ∙ sym (ap (is_busy_at legs l i) is.1) ∙ free
-
-pub alone-free : (legs : List Leg) (g : Leg) → is_contended legs g ≡ false → (f : Fibre) (x : ℕ) → uses f x g ≡ true →
-    is_busy legs g.lsp f x ≡ false
-alone-free legs g alone f x used = go (either (takes f x g) (sends f x g) used)
-  where
-    a : Bool
-    a = is_busy_at legs g.lsp g.in_fibre g.in_label
-
-    b : Bool
-    b = is_busy_at legs g.lsp (reverse_of g.out_fibre) g.back_in
-
-    c : Bool
-    c = is_busy_at legs g.lsp g.out_fibre g.out_label
-
-    d : Bool
-    d = is_busy_at legs g.lsp (reverse_of g.in_fibre) g.back_out
-
-    later : (b || (c || d)) ≡ false
-    later = neither_right a (b || (c || d)) alone
-
-    last : (c || d) ≡ false
-    last = neither_right b (c || d) later
-
-    at : (i : Option Fibre) (y : Option ℕ) → is_busy_at legs g.lsp i y ≡ false → is_at i y f x ≡ true →
-        is_busy legs g.lsp f x ≡ false
-    at i y free e = busy_at-free legs g.lsp i y f x free e
-
-    taken : (is_at g.in_fibre g.in_label f x ≡ true) ⊎ (is_at (reverse_of g.out_fibre) g.back_in f x ≡ true) →
-        is_busy legs g.lsp f x ≡ false
-    taken (inl e) = at g.in_fibre g.in_label (neither_left a (b || (c || d)) alone) e
-    taken (inr e) = at (reverse_of g.out_fibre) g.back_in (neither_left b (c || d) later) e
-
-    sent : (is_at g.out_fibre g.out_label f x ≡ true) ⊎ (is_at (reverse_of g.in_fibre) g.back_out f x ≡ true) →
-        is_busy legs g.lsp f x ≡ false
-    sent (inl e) = at g.out_fibre g.out_label (neither_left c d last) e
-    sent (inr e) = at (reverse_of g.in_fibre) g.back_out (neither_right c d last) e
-
-    go : (takes f x g ≡ true) ⊎ (sends f x g ≡ true) → is_busy legs g.lsp f x ≡ false
-    go (inl e) =
-        taken (either (is_at g.in_fibre g.in_label f x) (is_at (reverse_of g.out_fibre) g.back_in f x) e)
-    go (inr e) =
-        sent (either (is_at g.out_fibre g.out_label f x) (is_at (reverse_of g.in_fibre) g.back_out f x) e)
-
--- so a mark on a label that it uses is its own LSP's
+-- a mark on a label that a leg uses which isn't contended is its own LSP's
 pub alone-open : (legs : List Leg) (o : OwnerState) → MarksFit legs o → (g : Leg) → is_contended legs g ≡ false →
     (f : Fibre) (x : ℕ) (m : Lsp) → uses f x g ≡ true → is_lit o.marks f x m ≡ true → same_lsp m g.lsp ≡ true
 alone-open legs o fit g alone f x m used e =
-    own-mark legs o fit f x g.lsp m (alone-free legs g alone f x used) e
+    own-mark legs o fit f x g.lsp m (free-of legs g f x alone used) e

@@ -1,53 +1,19 @@
 -- Which legs may be put: those that take no more than their LSP's leg, and those that take one label more, which is
 -- usable.
-use Rattle.std.proofs.Common.{◌≡◌, ◌∙◌, ℕ, Bool, true, false, cond, nat_eq, List, [], ◌∷◌, inl, inr, refl, sym, ap, subst, arith}
+use Rattle.std.proofs.Common.{◌≡◌, ◌∙◌, ℕ, true, false, List, [], ◌∷◌, inl, inr, refl, sym, ap, subst}
 use Rattle.std.specs.Prelude.{◌⊎◌, Option, Some, None, IfSome}
-use Rattle.ason_base.specs.Labels.{has, least, meet}
-use Rattle.ason_base.proofs.MaskMembers.{has-filter}
+use Rattle.ason_base.specs.Labels.{has}
 use Rattle.ason_base.specs.declared.calls.Phase.{Phase}
-use Rattle.ason_base.specs.declared.calls.Role.{Role}
 use Rattle.ason_base.specs.declared.ids.Fibre.{Fibre}
 use Rattle.ason_base.specs.declared.ids.Lsp.{Lsp}
-use Rattle.ason_base.specs.declared.risks.Risk.{Risk}
 use Rattle.ason_base.specs.declared.tables.Leg.{Leg}
 use Rattle.mesh_rules.specs.declared.changes.LegChange.{LegChange}
-use Rattle.mesh_rules.specs.Legs.{closed, connected, find_leg, is_at, label_through, leg_of, only, reverse_of, takes, usable, with_phase}
+use Rattle.mesh_rules.specs.Legs.{closed, connected, find_leg, is_at, leg_of, reverse_of, takes, usable, with_phase}
 use Rattle.mesh_rules.specs.LocalNodes.{LocalNode}
-use Rattle.mesh_rules.specs.Paths.{back_through}
-use Rattle.mesh_nodes.proofs.Cases.{both_right}
 use Rattle.mesh_nodes.proofs.LabelPlaces.{back_in-taken, either, is-at, label_in-taken, none-at}
 use Rattle.mesh_nodes.proofs.LegList.{found-lsp}
 use Rattle.leg_table.specs.LegClaims.{MayBePut, MayTake, StaysAs, TakesNoMore, TakesOneMore, Took, is_fibre_in, is_this, takes_of}
 use Rattle.leg_table.specs.declared.labels.TakenLabel.{TakenLabel}
-
--- Labels that were looked for
-
-pub least-has : (xs : List ℕ) (x : ℕ) → least xs ≡ Some x → has xs x ≡ true
-least-has [] x e = absurd (cc e)
-least-has (y ∷ xs) x e = let is : y ≡ x = cc in let test : nat_eq y x ≡ true = grind arith in rw test refl
-
--- the label of a set that is met by usable ones
-pub met-usable : (p : LocalNode) (legs : List Leg) (r : Role) (risks : List Risk) (f : Fibre) (set : List ℕ) (x : ℕ) →
-    has (meet set (usable p legs r risks f)) x ≡ true → has (usable p legs r risks f) x ≡ true
-met-usable p legs r risks f set x h =
-    let all = usable p legs r risks f in both_right (has set x) (has all x) (sym (has-filter (has all) set x) ∙ h)
-
--- the label with which an LSP goes on is one of those that it may have
-pub through-has : (p : LocalNode) (labels : List ℕ) (x y : ℕ) → label_through p labels x ≡ Some y → has labels y ≡ true
-through-has p labels x y e = go p.convert e
-  where
-    one : (b : Bool) → has labels x ≡ b → only x b ≡ Some y → has labels y ≡ true
-    one true h e = let is : x ≡ y = cc in subst (λ z. has labels z ≡ true) is h
-    one false h e = absurd (cc e)
-
-    go : (b : Bool) → cond b (least labels) (only x (has labels x)) ≡ Some y → has labels y ≡ true
-    go true e = least-has labels y e
-    go false e = one (has labels x) refl e
-
-pub back-has : (p : LocalNode) (labels : List ℕ) (up : Option ℕ) (y : ℕ) → back_through p labels up ≡ Some y →
-    has labels y ≡ true
-back-has p labels None y e = absurd (cc e)
-back-has p labels (Some x) y e = through-has p labels x y e
 
 -- Legs that take what their LSP's leg does
 

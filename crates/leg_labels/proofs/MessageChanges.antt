@@ -31,6 +31,7 @@ use Rattle.mesh_rules.specs.Tears.{on_tear, tear_with, torn}
 use Rattle.mesh_nodes.specs.Kept.{LegFits}
 use Rattle.mesh_nodes.specs.LocalNodes.{LocalNodeFits, is_upstream}
 use Rattle.mesh_nodes.proofs.Cases.{both_left, both_right, if_cases}
+use Rattle.mesh_nodes.proofs.ChosenLabels.{back-has, has-right, least-has, through-has}
 use Rattle.mesh_nodes.proofs.Kept.{alone-fibre, connected-fits, over-fibre}
 use Rattle.mesh_nodes.proofs.LabelPlaces.{at-is, back_in-taken, either, same_fibre-refl}
 use Rattle.mesh_nodes.proofs.LegList.{found-all}
@@ -41,7 +42,7 @@ use Rattle.leg_labels.proofs.Activated.{contended-calm, path_again-calm, resv_ag
 use Rattle.leg_labels.proofs.CallLegs.{Fine, answered-may, calm-fine, number-absent, put-turns, refused-fine}
 use Rattle.leg_labels.proofs.InFibres.{out-comes_back}
 use Rattle.leg_labels.proofs.MayMark.{closed-marks, dark, plain, reserved-plain}
-use Rattle.leg_labels.proofs.MayPut.{back-has, closed-less, connected-less, found-itself, itself, least-has, less-put, met-usable, new-put, one-in, through-has}
+use Rattle.leg_labels.proofs.MayPut.{closed-less, connected-less, found-itself, itself, less-put, new-put, one-in}
 
 -- Path
 
@@ -65,7 +66,7 @@ module _ (p : LocalNode) (s : NodeState) (m : PathRequest) (links : LocalNodeFit
       let may : MayTake p s.legs g (record { fibre = f; label = x }) = record {
         fresh = ap (takes_of f x) absent;
         comes_in = own-in p m link own;
-        usable = met-usable p s.legs (role_of m.role) (risks_here p s m) f m.set x
+        usable = has-right m.set (usable p s.legs (role_of m.role) (risks_here p s m) f) x
             (least-has (offered_labels p s m link) x e);
       } in (
         (inr (one-in p s.legs s.legs g f x may refl refl (λ h z at. absurd (cc at))), tt),
@@ -219,7 +220,7 @@ module _ (p : LocalNode) (s : NodeState) (a : Arrival) (x : ℕ) (g : Leg) (link
     (
       passed-put y h (beside g.prev g.in_fibre h before)
           (upstream-fibre_in p h (subst (λ o. IfSome o (λ h. is_upstream p h ≡ true)) before fits.upstream))
-          (met-usable p s.legs g.role g.risks h.fibre g.offered y
+          (has-right g.offered (usable p s.legs g.role g.risks h.fibre) y
           (through-has p (labels_left p s g h) x y e)),
       tt,
     ),

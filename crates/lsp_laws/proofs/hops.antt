@@ -22,6 +22,7 @@ pub mod NoticeRule
 pub mod NodeLabels
 pub mod Wavelengths
 pub mod Notices
+pub mod OnHops
 pub mod OtherLsps
 pub mod Own
 pub mod PathLabels

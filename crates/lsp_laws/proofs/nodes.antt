@@ -12,7 +12,6 @@ pub mod CallSteps
 pub mod CallsHold
 pub mod SetupsHold
 pub mod CallsStand
-pub mod ChosenLabels
 pub mod ClosedLegs
 pub mod ConnectedLegs
 pub mod Decides

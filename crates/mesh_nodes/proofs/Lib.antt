@@ -1,10 +1,12 @@
 pub mod ActivationAnswers
 pub mod Activations
 pub mod Alarms
+pub mod BusyLabels
 pub mod CallList
 pub mod CallSteps
 mod CallsLearnNothing
 pub mod Cases
+pub mod ChosenLabels
 pub mod FirstLegs
 pub mod Followed
 pub mod Items

@@ -1,5 +1,5 @@
 -- Which labels are in the sets that a rule makes.
-use Rattle.std.proofs.Common.{◌≡◌, ℕ, Bool, true, false, cond, nat_eq, List, [], ◌∷◌, refl, sym, ◌∙◌, subst, arith}
+use Rattle.std.proofs.Common.{◌≡◌, ℕ, Bool, true, false, cond, List, sym, ◌∙◌, subst}
 use Rattle.std.specs.Prelude.{Option, Some, None}
 use Rattle.ason_base.specs.Labels.{has, meet, least, up_to}
 use Rattle.ason_base.specs.declared.calls.Role.{Role}
@@ -16,27 +16,7 @@ use Rattle.mesh_rules.specs.LocalNodes.{LocalNode, fibre_out, labels_of, own_lin
 use Rattle.mesh_rules.specs.Paths.{PathRequest, back_label, back_through, recorded, risks_here, role_of}
 use Rattle.mesh_rules.specs.State.{NodeState}
 use Rattle.mesh_rules.proofs.Conjunctions.{and_first}
-use Rattle.mesh_nodes.proofs.Cases.{both_right}
-use Rattle.lsp_laws.proofs.nodes.ChosenLabels.{back-has}
-
-pub has_least : (labels : List ℕ) (x : ℕ) → least labels ≡ Some x → has labels x ≡ true
-has_least [] x e = cc
-has_least (y ∷ labels) x e = let q : y ≡ x = cc in let test : nat_eq y x ≡ true = grind arith in rw test refl
-
-pub has_meet : (a b : List ℕ) (x : ℕ) → has (meet a b) x ≡ true → has a x ≡ true
-has_meet a b x e = let both = rw (has-filter (has b) a x) at e in and_first (has a x) (has b x) both
-
-has_only : (labels : List ℕ) (x y : ℕ) (b : Bool) → has labels x ≡ b → only x b ≡ Some y → has labels y ≡ true
-has_only labels x y true here e = let q : x ≡ y = cc in rw (← q) here
-has_only labels x y false here e = cc
-
-pub has_label_through : (p : LocalNode) (labels : List ℕ) (x y : ℕ) → label_through p labels x ≡ Some y →
-    has labels y ≡ true
-has_label_through p labels x y e = go p.convert e
-  where
-    go : (b : Bool) → cond b (least labels) (only x (has labels x)) ≡ Some y → has labels y ≡ true
-    go true e = has_least labels y e
-    go false e = has_only labels x y (has labels x) refl e
+use Rattle.mesh_nodes.proofs.ChosenLabels.{back-has, has-right, least-has}
 
 -- a node that doesn't convert passes back the label that came
 pub back_same : (p : LocalNode) (labels : List ℕ) (x y : ℕ) → p.convert ≡ false → label_through p labels x ≡ Some y →
@@ -63,9 +43,7 @@ usable_of_link p legs r risks f x e =
 pub left_of_link : (p : LocalNode) (legs : List Leg) (r : Role) (risks : List Risk) (f : Fibre) (set : List ℕ) (x : ℕ) →
     has (meet set (usable p legs r risks f)) x ≡ true → has (up_to (labels_of (own_link p f.link))) x ≡ true
 left_of_link p legs r risks f set x e =
-    let there = usable p legs r risks f in
-    let both = rw (has-filter (has there) set x) at e in
-    usable_of_link p legs r risks f x (both_right (has set x) (has there x) both)
+    usable_of_link p legs r risks f x (has-right set (usable p legs r risks f) x e)
 
 -- The way back
 
@@ -104,4 +82,4 @@ first_back_of_link p s false r out x e = absurd (cc e)
 first_back_of_link p s true r out x e =
     let back : Fibre = reverse (fibre_out out p.id) in
     let risks : List Risk = recorded (known_rows p s) r in
-    usable_of_link p s.legs (role_of r) risks back x (has_least (usable p s.legs (role_of r) risks back) x e)
+    usable_of_link p s.legs (role_of r) risks back x (least-has (usable p s.legs (role_of r) risks back) x e)

@@ -24,10 +24,11 @@ use Rattle.mesh_rules.specs.Paths.{offered_labels, risks_here, at_egress, in_tra
 use Rattle.mesh_rules.specs.Paths.{role_of as asked_role}
 use Rattle.mesh_rules.specs.Messages.{arrival, on_message}
 use Rattle.mesh_rules.specs.Machine.{Mesh}
+use Rattle.mesh_nodes.proofs.ChosenLabels.{has-left, least-has}
 use Rattle.lsp_laws.specs.HopShapes.{PlainPath, path_kind, phase_kind}
 use Rattle.lsp_laws.specs.HopLaw.{is_message_of, messages_of, leg_at, mail_between}
 use Rattle.lsp_laws.proofs.hops.Plans.{Plan, hops, node_at, link_at, fibre_at, IsRoute, Leads, distinct, other, lt_true, lt_false, joined, own_near, own_far, fibre_in_is, fibre_out_is}
-use Rattle.lsp_laws.proofs.hops.Labels.{back_label_of_link, back_label_same, has_least, has_meet, left_of_link}
+use Rattle.lsp_laws.proofs.hops.Labels.{back_label_of_link, back_label_same, left_of_link}
 use Rattle.mesh_nodes.proofs.LegList.{same_lsp-refl}
 use Rattle.mesh_nodes.specs.Routes.{AreRowsOf}
 use Rattle.mesh_nodes.proofs.routes.Nodes.{known-are}
@@ -102,7 +103,7 @@ module _ (t : Network) (q : Purpose) (s : Mesh) (l : Lsp) (p : Plan) (i : ℕ) (
   offered = offered_labels place state asks over.link
 
   within : (y : ℕ) → has offered y ≡ true → has set y ≡ true
-  within y = has_meet set _ y
+  within y = has-left set _ y
 
   -- no leg of the LSP is here, and nothing of it is beyond
   module _ (none : leg_at s l (node_at p (suc i)) ≡ None) where
@@ -187,14 +188,14 @@ module _ (t : Network) (q : Purpose) (s : Mesh) (l : Lsp) (p : Plan) (i : ℕ) (
                   subst (λ f. has (up_to (labels_of (own_link place f.link))) z ≡ true) fibre
                   (subst (λ z. has (up_to (labels_of (own_link place (fibre_in over.link d).link))) z ≡ true) is_y
                   (left_of_link place state.legs (asked_role purpose) risks (fibre_in over.link d) set y
-                  (has_least offered y is)));
+                  (least-has offered y is)));
               one_back = λ keeps a b enters leaves. absurd (cc enters);
               back_of_link = λ f z on label. absurd (cc label);
             };
           })
           (path_answered q p i (leg_at s l u) l e k r set label purpose (messages_of l rest) _ plain hop_here
           (egress_leg place asks over.link risks offered y) e over.link.id y kind refl refl
-          (within y (has_least offered y is)) (over.id ∙ what.1))
+          (within y (least-has offered y is)) (over.id ∙ what.1))
           (λ small. absurd (omega arith))
           (λ gone path. cc (last, path))
           (λ small. absurd (omega arith))

@@ -23,10 +23,11 @@ use Rattle.mesh_rules.specs.Legs.{closed, connected, label_through, previous, us
 use Rattle.mesh_rules.specs.Resvs.{is_expected, passed_back}
 use Rattle.mesh_rules.specs.Messages.{arrival}
 use Rattle.mesh_rules.specs.Machine.{Mesh}
+use Rattle.mesh_nodes.proofs.ChosenLabels.{has-left, through-has}
 use Rattle.lsp_laws.specs.HopShapes.{LegKind, NoLeg, IsTorn, StillWaits, leg_kind}
 use Rattle.lsp_laws.specs.HopLaw.{is_message_of, messages_of, leg_at, mail_between}
 use Rattle.lsp_laws.proofs.hops.Plans.{Plan, hops, node_at, link_at, fibre_at, IsRoute, same}
-use Rattle.lsp_laws.proofs.hops.Labels.{back_same, has_label_through, has_meet, left_of_link}
+use Rattle.lsp_laws.proofs.hops.Labels.{back_same, left_of_link}
 use Rattle.mesh_nodes.proofs.LegList.{same_lsp-refl}
 use Rattle.lsp_laws.proofs.hops.RowStates.{nothing_torn, reserved_leg}
 use Rattle.lsp_laws.proofs.hops.AnswersTaken.{TakesResv, ByAsked, ByArmed, ByTorn, takes_resv, resv_armed}
@@ -185,8 +186,8 @@ module _ (t : Network) (q : Purpose) (s : Mesh) (l : Lsp) (p : Plan) (i : ℕ) (
           rw (previous_is t q l p j g fits')
           (goes_back j before (label_through place labels x)
           (λ y q.
-          let back = has_label_through place labels x y q in (
-            has_meet g.offered (usable place state.legs g.role g.risks (fibre_at t p j)) y back,
+          let back = through-has place labels x y q in (
+            has-left g.offered (usable place state.legs g.role g.risks (fibre_at t p j)) y back,
             (λ keeps. back_same place labels x y keeps q),
             left_of_link place state.legs g.role g.risks (fibre_at t p j) g.offered y back,
           )))

@@ -18,9 +18,9 @@ use Rattle.mesh_rules.specs.Resvs.{is_expected, labels_left, passed_back, answer
 use Rattle.mesh_rules.specs.PathErrs.{PathFailure, err_passed, removed, path_err_with}
 use Rattle.mesh_rules.specs.Tears.{torn, tear_with}
 use Rattle.mesh_nodes.proofs.Cases.{if_cases, both_left, both_right}
+use Rattle.mesh_nodes.proofs.ChosenLabels.{through-has}
 use Rattle.lsp_laws.proofs.nodes.Facts.{NodeFacts}
 use Rattle.mesh_nodes.proofs.LegList.{found-lsp}
-use Rattle.lsp_laws.proofs.nodes.ChosenLabels.{through-has}
 use Rattle.lsp_laws.proofs.nodes.ConnectedLegs.{beside, alone_fibre, connected-stands, ingress-stands, ingress-takes}
 use Rattle.lsp_laws.proofs.nodes.ActivationKeeps.{keeps-contended, keeps-resv_again}
 use Rattle.lsp_laws.proofs.nodes.CallStepKeeps.{keeps-connected_here, keeps-refused_here}

@@ -10,8 +10,8 @@ use Rattle.mesh_rules.specs.declared.neighbours.Neighbour.{Neighbour}
 use Rattle.mesh_rules.specs.LocalNodes.{LocalNode}
 use Rattle.mesh_rules.specs.Legs.{connected, find_leg, is_at, is_closing, is_usable, neighbour_over, reverse_of, takes, usable, with_leg}
 use Rattle.mesh_nodes.proofs.LabelPlaces.{at-is, back_in-taken, either, none-at}
+use Rattle.mesh_nodes.proofs.ChosenLabels.{has-left, has-right, usable-is}
 use Rattle.lsp_laws.proofs.nodes.BackLabels.{back-kept, reserved-stands}
-use Rattle.lsp_laws.proofs.nodes.ChosenLabels.{has-left, has-right, usable-is}
 use Rattle.lsp_laws.proofs.nodes.Facts.{LegFacts}
 use Rattle.lsp_laws.proofs.nodes.LegParts.{LegPart, MayStand, found-after}
 use Rattle.lsp_laws.proofs.nodes.Marks.{may-take}

@@ -1,15 +1,14 @@
 -- Why a leg may stand. It isn't marked, and each label that it takes is usable for it, or was its LSP's. Or it takes and
 -- uses no more than its LSP's leg, and is marked only where that was, or where no marked leg uses a label of it.
 use Rattle.std.proofs.Common.{◌≡◌, ℕ, Bool, true, false, not, List, refl, sym, ap, subst, ◌∙◌, inl, inr}
-use Rattle.std.specs.Prelude.{◌⊎◌, ◌&&◌, ◌||◌, Option, Some}
+use Rattle.std.specs.Prelude.{◌⊎◌, ◌&&◌, Some}
 use Rattle.ason_base.specs.declared.ids.Fibre.{Fibre}
 use Rattle.ason_base.specs.declared.ids.Lsp.{Lsp}
 use Rattle.ason_base.specs.declared.tables.Leg.{Leg}
 use Rattle.ason_base.specs.Lsps.{same_lsp}
 use Rattle.ason_base.specs.Risks.{AreDisjoint}
-use Rattle.mesh_rules.specs.Legs.{find_leg, is_at, is_busy, is_busy_at, is_contended, is_marked, is_usable, reverse_of, sends, takes, uses}
-use Rattle.mesh_nodes.proofs.Cases.{neither_left, neither_right}
-use Rattle.mesh_nodes.proofs.LabelPlaces.{at-is, either}
+use Rattle.mesh_rules.specs.Legs.{find_leg, is_contended, is_marked, is_usable, takes, uses}
+use Rattle.mesh_nodes.proofs.BusyLabels.{free-of}
 use Rattle.mesh_nodes.proofs.LegList.{found-lsp, same_lsp-eq, same_lsp-refl}
 use Rattle.lsp_laws.specs.LabelLaw.{MayShare}
 use Rattle.lsp_laws.proofs.nodes.Facts.{LabelsFit, LegFacts}
@@ -21,57 +20,6 @@ pub other : (l m : Lsp) (P : Type 0) → same_lsp l m ≡ false → l ≡ m → 
 other l m P apart same =
     let test : same_lsp l m ≡ true = subst (λ k. same_lsp l k ≡ true) same (same_lsp-refl l) in
     absurd (cc (test, apart))
-
--- Labels that aren't contended
-
--- what a leg uses is one of its four labels
-pub used-at : (P : Type 0) (g : Leg) (f : Fibre) (x : ℕ) → uses f x g ≡ true →
-    (is_at g.in_fibre g.in_label f x ≡ true → P) → (is_at (reverse_of g.out_fibre) g.back_in f x ≡ true → P) →
-    (is_at g.out_fibre g.out_label f x ≡ true → P) → (is_at (reverse_of g.in_fibre) g.back_out f x ≡ true → P) → P
-used-at P g f x used enters back_enters leaves back_leaves = elim (either (takes f x g) (sends f x g) used) [
-  | inl taken ↦ elim (either (is_at g.in_fibre g.in_label f x) (is_at (reverse_of g.out_fibre) g.back_in f x) taken) [
-    | inl on ↦ enters on
-    | inr on ↦ back_enters on
-  ]
-  | inr sent ↦ elim (either (is_at g.out_fibre g.out_label f x) (is_at (reverse_of g.in_fibre) g.back_out f x) sent) [
-    | inl on ↦ leaves on
-    | inr on ↦ back_leaves on
-  ]
-]
-
-free-at : (legs : List Leg) (l : Lsp) (o : Option Fibre) (label : Option ℕ) (f : Fibre) (x : ℕ) →
-    is_at o label f x ≡ true → is_busy_at legs l o label ≡ false → is_busy legs l f x ≡ false
-free-at legs l o label f x on free =
-    let is = at-is o label f x on in
-    subst (λ y. is_busy_at legs l (Some f) y ≡ false) is.1 (subst (λ p. is_busy_at legs l p label ≡ false) is.0 free)
-
--- no marked leg of another LSP uses a label that the leg uses
-pub free-of : (legs : List Leg) (g : Leg) (f : Fibre) (x : ℕ) → is_contended legs g ≡ false → uses f x g ≡ true →
-    is_busy legs g.lsp f x ≡ false
-free-of legs g f x free used =
-    used-at (is_busy legs g.lsp f x ≡ false) g f x used
-    (λ on. free-at legs g.lsp g.in_fibre g.in_label f x on (neither_left enters _ free))
-    (λ on. free-at legs g.lsp (reverse_of g.out_fibre) g.back_in f x on (neither_left back_enters _ three))
-    (λ on. free-at legs g.lsp g.out_fibre g.out_label f x on (neither_left leaves back_leaves two))
-    (λ on. free-at legs g.lsp (reverse_of g.in_fibre) g.back_out f x on (neither_right leaves back_leaves two))
-  where
-    enters : Bool
-    enters = is_busy_at legs g.lsp g.in_fibre g.in_label
-
-    back_enters : Bool
-    back_enters = is_busy_at legs g.lsp (reverse_of g.out_fibre) g.back_in
-
-    leaves : Bool
-    leaves = is_busy_at legs g.lsp g.out_fibre g.out_label
-
-    back_leaves : Bool
-    back_leaves = is_busy_at legs g.lsp (reverse_of g.in_fibre) g.back_out
-
-    three : (back_enters || (leaves || back_leaves)) ≡ false
-    three = neither_right enters (back_enters || (leaves || back_leaves)) free
-
-    two : (leaves || back_leaves) ≡ false
-    two = neither_right back_enters (leaves || back_leaves) three
 
 -- A leg that isn't marked
 

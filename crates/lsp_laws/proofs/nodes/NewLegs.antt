@@ -19,8 +19,8 @@ use Rattle.mesh_rules.specs.State.{NodeState}
 use Rattle.mesh_rules.specs.Paths.{PathRequest, back_label, back_through, egress_leg, is_none, lacks_back, offered_labels, risks_here, role_of, transit_leg}
 use Rattle.mesh_nodes.proofs.Cases.{not-true}
 use Rattle.mesh_nodes.proofs.LabelPlaces.{at-is, either, none-at}
+use Rattle.mesh_nodes.proofs.ChosenLabels.{back-has, first-has, first-usable, has-right, some-of, usable-is}
 use Rattle.lsp_laws.proofs.nodes.BackLabels.{reserved-stands}
-use Rattle.lsp_laws.proofs.nodes.ChosenLabels.{back-has, first-has, first-usable, has-right, some-of, usable-is}
 use Rattle.lsp_laws.proofs.nodes.Facts.{FitsPhase, HasItsLabels, LabelsFit, LegFacts}
 use Rattle.lsp_laws.proofs.nodes.LegParts.{MayStand}
 use Rattle.lsp_laws.proofs.nodes.Marks.{may-take}

@@ -29,8 +29,8 @@ use Rattle.mesh_nodes.specs.Order.{CallsRise}
 use Rattle.mesh_nodes.proofs.Cases.{if_cases}
 use Rattle.mesh_nodes.proofs.CallList.{rise-with_call}
 use Rattle.mesh_nodes.proofs.LegList.{find-with_leg, same_lsp-eq, same_lsp-refl}
+use Rattle.mesh_nodes.proofs.ChosenLabels.{first-has}
 use Rattle.lsp_laws.specs.CallLaw.{FitsLegs, GuardsWork, IsNamed, phase_of}
-use Rattle.lsp_laws.proofs.nodes.ChosenLabels.{first-has}
 use Rattle.lsp_laws.proofs.nodes.Facts.{NodeFacts}
 use Rattle.lsp_laws.proofs.nodes.CallKeeps.{named-leg, no_leg}
 use Rattle.lsp_laws.proofs.nodes.CallParts.{Becomes, CallPart, Replaced, leg_of-stays, named-by, named-lsp, named-stays, names-back, names-work, new-unnamed, other-stays, together-part}

@@ -11,7 +11,7 @@ use Rattle.mesh_rules.specs.State.{NodeState}
 use Rattle.mesh_rules.specs.Paths.{PathRequest, Check, back_label, is_active, lacks_back, leads_on, link_on, first_failure, checks, offered_labels, egress_leg, risks_here, transit_leg}
 use Rattle.mesh_rules.specs.Paths.{at_egress, in_transit, admitted, judged, first_path}
 use Rattle.mesh_nodes.proofs.Cases.{if_cases, both_left, both_right, not-true}
-use Rattle.lsp_laws.proofs.nodes.ChosenLabels.{least-has}
+use Rattle.mesh_nodes.proofs.ChosenLabels.{least-has}
 use Rattle.lsp_laws.proofs.nodes.Facts.{NodeFacts}
 use Rattle.lsp_laws.proofs.nodes.NewLegs.{egress-stands, transit-stands}
 use Rattle.lsp_laws.proofs.nodes.Parts.{keeps-leg}

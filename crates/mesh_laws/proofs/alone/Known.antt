@@ -1,6 +1,6 @@
 -- What an activation needs to know of a state is told by the laws of every run.
-use Rattle.std.proofs.Common.{◌≡◌, ℕ, suc, Bool, true, false, not, List, [], ◌∷◌, sym, ap, ◌∙◌, subst, inl, inr}
-use Rattle.std.specs.Prelude.{◌⊎◌, Option, Some, None}
+use Rattle.std.proofs.Common.{◌≡◌, ℕ, suc, Bool, true, false, not, List, ◌∷◌, sym, ap, ◌∙◌, subst}
+use Rattle.std.specs.Prelude.{Option, Some, None}
 use Rattle.std.proofs.lemmas.List.Elements.{recursion_from_All}
 use Rattle.ason_base.specs.Network.{IsTopology, Network}
 use Rattle.ason_base.specs.Risks.{route_risks}
@@ -33,15 +33,15 @@ use Rattle.mesh_nodes.proofs.Cases.{both_left, both_right, not-true}
 use Rattle.mesh_nodes.proofs.LegList.{found-all, found-lsp, same_lsp-refl}
 use Rattle.lsp_laws.specs.BesideLaw.{BackupsGoBeside, CallGoesBeside, GoBeside}
 use Rattle.lsp_laws.specs.CallLaw.{FitsLegs, IsNamed, fits_reports}
-use Rattle.lsp_laws.specs.HopLaw.{leg_at, mail_between}
+use Rattle.lsp_laws.specs.HopLaw.{leg_at, messages_of}
 use Rattle.lsp_laws.specs.RiskLaw.{BackupsRecordRisks, RecordsRisks, rows_of}
-use Rattle.lsp_laws.proofs.hops.Chain.{LegFits, OnRoute, RisksFit}
+use Rattle.lsp_laws.proofs.hops.Chain.{LegFits, RisksFit}
+use Rattle.lsp_laws.proofs.hops.OnHops.{Down, OnHop, Up, on_hop}
 use Rattle.lsp_laws.proofs.hops.Paired.{no_previous, whole-route}
-use Rattle.lsp_laws.proofs.hops.Planned.{EachFollows, Follows, Planned}
-use Rattle.lsp_laws.proofs.hops.Plans.{Plan, node_at, plan, same_node}
+use Rattle.lsp_laws.proofs.hops.Planned.{EachFollows}
+use Rattle.lsp_laws.proofs.hops.Plans.{node_at}
 use Rattle.lsp_laws.proofs.hops.Purposes.{Carries, Guards, Purpose, Tells, role_of}
 use Rattle.lsp_laws.proofs.hops.Rows.{no_active_up}
-use Rattle.lsp_laws.proofs.hops.Taken.{down_hop, mine, up_hop}
 use Rattle.lsp_laws.proofs.nodes.CallParts.{named-lsp}
 use Rattle.lsp_laws.proofs.nodes.Facts.{MeshFacts}
 use Rattle.mesh_laws.specs.HeardLaw.{primary_of}
@@ -63,34 +63,19 @@ module _ (t : Network) (s : Mesh) (o : Routes) (searchable : is_searchable t ≡
     abbrev m : Msg
     m = Path l e k steps set up (Back true work primary)
 
-    on_way : (u d : NodeId) (q : Purpose) (p : Plan) → Planned t s o l q p → s.mail u.0 d.0 ≡ m ∷ rest →
-        find_leg l (s.nodes d.0).legs ≡ Some b → (mail_between s l u d ≡ []) ⊎ OnRoute p u d →
-        b.risks ≡ route_risks (rows_of t) primary
-    on_way u d q p planned was here (inl none) =
-        let some = mine s l u d m rest was (same_lsp-refl l) in absurd (cc (none, some))
-    on_way u d q p planned was here (inr (i, below, inl (at_u, at_d))) =
-        let u_is = same_node u (node_at p i) at_u in
-        let d_is = same_node d (node_at p (suc i)) at_d in
-        let there : s.mail (node_at p i).0 (node_at p (suc i)).0 ≡ m ∷ rest = rw (u_is, d_is) at was in
-        let stands : leg_at s l (node_at p (suc i)) ≡ Some b = rw d_is at here in
-        let hop = down_hop t q s l p i planned.route planned.chain below m rest there (same_lsp-refl l) in
-        let fits : LegFits t q l p (suc i) b = rw stands at (planned.chain.fits (suc i) below) in
-        told q b work primary hop.rest.going_down.0.3 fits.risks
-    on_way u d q p planned was here (inr (i, below, inr (at_u, at_d))) =
-        let u_is = same_node u (node_at p (suc i)) at_u in
-        let d_is = same_node d (node_at p i) at_d in
-        let there : s.mail (node_at p (suc i)).0 (node_at p i).0 ≡ m ∷ rest = rw (u_is, d_is) at was in
-        absurd (no_active_up (role_of q) _ _ _ _
-        (up_hop t q s l p i planned.route planned.chain below m rest there (same_lsp-refl l)).shape)
-
     first-knows : (u d : NodeId) → s.mail u.0 d.0 ≡ m ∷ rest → find_leg l (s.nodes d.0).legs ≡ Some b →
         b.risks ≡ route_risks (rows_of t) primary
-    first-knows u d was here = go (o l) (follows l)
+    first-knows u d was here =
+        go (on_hop t s o l u d m rest was (same_lsp-refl l) follows)
       where
-        go : (c : Option (List Step)) → Follows t s o l c → b.risks ≡ route_risks (rows_of t) primary
-        go None f = let none = f.legs d in absurd (cc (none, here))
-        go (Some route) (e, q, planned) =
-            on_way u d q (plan route e) planned was here (planned.chain.ways u d)
+        go : OnHop t s o l u d (m ∷ messages_of l rest) → b.risks ≡ route_risks (rows_of t) primary
+        go (Down q p planned i below u_is d_is list) =
+            let stands : leg_at s l (node_at p (suc i)) ≡ Some b = rw d_is at here in
+            let fits : LegFits t q l p (suc i) b = rw stands at (planned.chain.fits (suc i) below) in
+            let downs = rw list at (planned.chain.each i below).rest.going_down in
+            told q b work primary downs.0.3 fits.risks
+        go (Up q p planned i below u_is d_is list) =
+            absurd (no_active_up (role_of q) _ _ _ _ (rw list at (planned.chain.each i below).shape))
 
   path-knows : (u d : NodeId) (l : Lsp) (e : NodeId) (k : LinkId) (steps : List Step) (set : List ℕ) (up : Option ℕ)
       (r : PathRole) (ms : List Msg) → s.mail u.0 d.0 ≡ Path l e k steps set up r ∷ ms →

@@ -1,5 +1,5 @@
 -- While an active Path comes to a Held leg, the leg before it on its LSP's route is activated, or falls.
-use Rattle.std.proofs.Common.{◌≡◌, ◌<◌, ℕ, suc, true, false, List, [], ◌∷◌, refl, sym, ap, subst, ◌∙◌, arith, inl, inr}
+use Rattle.std.proofs.Common.{◌≡◌, ◌<◌, ℕ, suc, true, false, List, ◌∷◌, refl, sym, ap, subst, ◌∙◌, arith, inl, inr}
 use Rattle.std.specs.Prelude.{◌⊎◌, map, Option, Some, None}
 use Rattle.ason_base.specs.Network.{Network, sender_of}
 use Rattle.ason_base.specs.declared.calls.Phase.{Phase}
@@ -13,7 +13,6 @@ use Rattle.ason_base.specs.declared.messages.Msg.{Msg}
 use Rattle.ason_base.specs.declared.messages.Msg.TheVariants.{Path, Resv, PathTear, PathErr, Notify}
 use Rattle.ason_base.specs.declared.messages.PathRole.{PathRole}
 use Rattle.ason_base.specs.declared.messages.PathRole.TheVariants as path
-use Rattle.ason_base.specs.declared.steps.Step.{Step}
 use Rattle.ason_base.specs.declared.tables.Leg.{Leg}
 use Rattle.mesh_rules.specs.Legs.{is_held, is_marked, is_marking}
 use Rattle.mesh_rules.specs.Machine.{Mesh}
@@ -22,14 +21,15 @@ use Rattle.mesh_nodes.proofs.LegList.{same_lsp-refl}
 use Rattle.lsp_laws.specs.HopLaw.{is_message_of, is_notice, leg_at, mail_between, messages_of}
 use Rattle.lsp_laws.specs.HopShapes.{LegKind, HeldLeg, ArmedLeg, FallingLeg, ActivePath, MsgKind}
 use Rattle.lsp_laws.specs.HopShapes.{Shape, Activating, TornActivating, leg_kind, msg_kind, phase_kind}
-use Rattle.lsp_laws.proofs.hops.Chain.{Chain, HopAt, LegFits, OnRoute, PhaseFits}
-use Rattle.lsp_laws.proofs.hops.Planned.{Follows, Routes}
-use Rattle.lsp_laws.proofs.hops.Plans.{Plan, distinct, fibre_at, hops, lt_true, node_at, plan, same_node}
+use Rattle.lsp_laws.proofs.hops.Chain.{Chain, HopAt, LegFits, PhaseFits}
+use Rattle.lsp_laws.proofs.hops.OnHops.{Down, OnHop, Up, on_hop}
+use Rattle.lsp_laws.proofs.hops.Planned.{Routes}
+use Rattle.lsp_laws.proofs.hops.Plans.{Plan, distinct, fibre_at, hops, lt_true, node_at}
 use Rattle.lsp_laws.proofs.hops.Purposes.{BackMeets, Carries, Guards, LabelsMeet, Purpose, role_of}
 use Rattle.lsp_laws.proofs.hops.Rows.{no_active_up}
 use Rattle.mesh_laws.proofs.sent.Ends.{sender-at}
 use Rattle.mesh_laws.proofs.sent.May.{gift}
-use Rattle.mesh_laws.proofs.sent.Standing.{Standing, first-of}
+use Rattle.mesh_laws.proofs.sent.Standing.{Standing}
 
 -- the leg at the node that the fibre leaves: marked, with a label out, and its labels meet g's
 pub record Upstream (s : Mesh) (l : Lsp) (u : NodeId) (f : Fibre) (g : Leg) : Type 0 where
@@ -160,7 +160,8 @@ module _ (t : Network) (o w : Routes) (s : Mesh) (now : Standing t o w s) (u d :
   pub upstream-of : (l : Lsp) (r : PathRole) (v : Leg) (f : Fibre) (a : NodeId) → (gift m).roles l r →
       is_active r ≡ true → leg_at s l d ≡ Some v → is_held v.phase ≡ true → v.in_fibre ≡ Some f →
       sender_of t f ≡ Some a → Upstream s l a f v
-  upstream-of l r v f a given active found held into from = go (o l) (now.follows l)
+  upstream-of l r v f a given active found held into from =
+      go (on_hop t s o l u d m rest first own now.follows)
     where
       kind : msg_kind m ≡ ActivePath
       kind = active-kind m l r given active
@@ -168,40 +169,19 @@ module _ (t : Network) (o w : Routes) (s : Mesh) (now : Standing t o w s) (u d :
       own : is_message_of l m ≡ true
       own = rw (not-notice m kind, given.0) (same_lsp-refl l)
 
-      mine : mail_between s l u d ≡ m ∷ messages_of l rest
-      mine = first-of s l u d m rest first own
-
-      go : (c : Option (List Step)) → Follows t s o l c → Upstream s l a f v
-      go None f' = absurd (let none = f'.mail u d in cc (none, mine))
-      go (Some route) (end, q, pl) = way (pl.chain.ways u d)
-        where
-          p : Plan
-          p = plan route end
-
-          way : (mail_between s l u d ≡ []) ⊎ OnRoute p u d → Upstream s l a f v
-          way (inl none) = absurd (cc (none, mine))
-          way (inr (i, small, inl (at_u, at_d))) =
-              let u_is : u ≡ node_at p i = same_node u (node_at p i) at_u in
-              let d_is : d ≡ node_at p (suc i) = same_node d (node_at p (suc i)) at_d in
-              let list : mail_between s l (node_at p i) (node_at p (suc i)) ≡ m ∷ messages_of l rest =
-              subst (λ n. mail_between s l (node_at p i) n ≡ m ∷ messages_of l rest) d_is
-              (subst (λ n. mail_between s l n d ≡ m ∷ messages_of l rest) u_is mine) in
-              let there : leg_at s l (node_at p (suc i)) ≡ Some v = subst (λ n. leg_at s l n ≡ Some v) d_is found in
-              let fits : LegFits t q l p (suc i) v = rw there at (pl.chain.fits (suc i) small) in
-              let same : Some (fibre_at t p i) ≡ Some f = sym fits.in_fibre ∙ into in
-              let fibre : fibre_at t p i ≡ f = cc same in
-              let near = distinct t l.ingress p pl.route i (suc i) (omega arith) (omega arith) (omega arith) in
-              let ends : Some a ≡ Some (node_at p i) =
-              sym from ∙ ap (sender_of t) (sym fibre) ∙ sender-at t p i near (pl.route.links i small) in
-              let a_is : a ≡ node_at p i = cc ends in
-              subst (λ n. Upstream s l n f v) (sym a_is)
-              (subst (λ k. Upstream s l (node_at p i) k v) fibre
-              (upstream-at t q s l p (mail_between s l) pl.chain i small m (messages_of l rest) v list kind there held))
-          way (inr (i, small, inr (at_u, at_d))) =
-              let u_is : u ≡ node_at p (suc i) = same_node u (node_at p (suc i)) at_u in
-              let d_is : d ≡ node_at p i = same_node d (node_at p i) at_d in
-              let list : mail_between s l (node_at p (suc i)) (node_at p i) ≡ m ∷ messages_of l rest =
-              subst (λ n. mail_between s l (node_at p (suc i)) n ≡ m ∷ messages_of l rest) d_is
-              (subst (λ n. mail_between s l n d ≡ m ∷ messages_of l rest) u_is mine) in
-              absurd (no_active_up _ _ _ _ (map msg_kind (messages_of l rest))
-              (rw (list, kind) at (pl.chain.each i small).shape))
+      go : OnHop t s o l u d (m ∷ messages_of l rest) → Upstream s l a f v
+      go (Down q p pl i small u_is d_is list) =
+          let there : leg_at s l (node_at p (suc i)) ≡ Some v = subst (λ n. leg_at s l n ≡ Some v) d_is found in
+          let fits : LegFits t q l p (suc i) v = rw there at (pl.chain.fits (suc i) small) in
+          let same : Some (fibre_at t p i) ≡ Some f = sym fits.in_fibre ∙ into in
+          let fibre : fibre_at t p i ≡ f = cc same in
+          let near = distinct t l.ingress p pl.route i (suc i) (omega arith) (omega arith) (omega arith) in
+          let ends : Some a ≡ Some (node_at p i) =
+          sym from ∙ ap (sender_of t) (sym fibre) ∙ sender-at t p i near (pl.route.links i small) in
+          let a_is : a ≡ node_at p i = cc ends in
+          subst (λ n. Upstream s l n f v) (sym a_is)
+          (subst (λ k. Upstream s l (node_at p i) k v) fibre
+          (upstream-at t q s l p (mail_between s l) pl.chain i small m (messages_of l rest) v list kind there held))
+      go (Up q p pl i small u_is d_is list) =
+          absurd (no_active_up _ _ _ _ (map msg_kind (messages_of l rest))
+          (rw (list, kind) at (pl.chain.each i small).shape))

@@ -27,9 +27,9 @@ use Rattle.mesh_rules.specs.Setups.{SetupRequest, begins, next_lsp, working_lsp}
 use Rattle.mesh_rules.specs.State.{NodeState}
 use Rattle.mesh_rules.specs.Waits.{on_tick}
 use Rattle.mesh_nodes.proofs.LegList.{find-with_leg, same_lsp-refl}
+use Rattle.mesh_nodes.proofs.ChosenLabels.{first-has}
 use Rattle.lsp_laws.proofs.hops.NamedPhases.{named_is}
 use Rattle.lsp_laws.proofs.nodes.CallChanges.{EachCall}
-use Rattle.lsp_laws.proofs.nodes.ChosenLabels.{first-has}
 use Rattle.lsp_laws.proofs.nodes.Facts.{NodeFacts}
 use Rattle.mesh_laws.proofs.sent.After.{after-fit}
 use Rattle.mesh_laws.proofs.sent.ItemsHear.{ticks-calm}

@@ -1,7 +1,7 @@
 -- What a message that is first in its list tells: a removal leaves no leg of its LSP, and what a message brings is of a
 -- fibre back over the link that it came by.
-use Rattle.std.proofs.Common.{◌≡◌, ℕ, suc, true, false, List, [], ◌∷◌, refl, sym, ap, subst, ◌∙◌, inl, inr}
-use Rattle.std.specs.Prelude.{◌⊎◌, map, Option, Some, None}
+use Rattle.std.proofs.Common.{◌≡◌, ℕ, true, false, List, ◌∷◌, refl, sym, ap, subst, ◌∙◌}
+use Rattle.std.specs.Prelude.{map, Some, None}
 use Rattle.ason_base.specs.Network.{Network, receiver_of, sender_of}
 use Rattle.ason_base.specs.declared.codes.ErrCode.{ErrCode}
 use Rattle.ason_base.specs.declared.ids.Fibre.{Fibre}
@@ -9,7 +9,6 @@ use Rattle.ason_base.specs.declared.ids.Lsp.{Lsp}
 use Rattle.ason_base.specs.declared.ids.NodeId.{NodeId}
 use Rattle.ason_base.specs.declared.messages.Msg.{Msg}
 use Rattle.ason_base.specs.declared.messages.Msg.TheVariants.{Path, Resv, PathTear, PathErr, Notify}
-use Rattle.ason_base.specs.declared.steps.Step.{Step}
 use Rattle.mesh_rules.specs.Changes.{Answer}
 use Rattle.mesh_rules.specs.Legs.{find_leg, legs_changed}
 use Rattle.mesh_rules.specs.LocalNodes.{LocalNode}
@@ -18,14 +17,14 @@ use Rattle.mesh_rules.specs.Messages.{on_message}
 use Rattle.mesh_nodes.proofs.LegList.{same_lsp-refl}
 use Rattle.lsp_laws.specs.HopLaw.{is_message_of, is_notice, leg_at, lsp_of, mail_between, messages_of}
 use Rattle.lsp_laws.specs.HopShapes.{msg_kind}
-use Rattle.lsp_laws.proofs.hops.Chain.{OnRoute}
-use Rattle.lsp_laws.proofs.hops.Planned.{Follows, Routes}
-use Rattle.lsp_laws.proofs.hops.Plans.{Plan, node_at, plan, same, same_node}
+use Rattle.lsp_laws.proofs.hops.OnHops.{Down, OnHop, Up, on_hop}
+use Rattle.lsp_laws.proofs.hops.Planned.{Routes}
+use Rattle.lsp_laws.proofs.hops.Plans.{same}
 use Rattle.lsp_laws.proofs.hops.Purposes.{role_of}
 use Rattle.lsp_laws.proofs.hops.Rows.{no_removal_down}
 use Rattle.mesh_laws.specs.HeardLaw.{brings, lets_go}
 use Rattle.mesh_laws.proofs.sent.Brought.{down-over, removal-goes, up-over}
-use Rattle.mesh_laws.proofs.sent.Standing.{Standing, first-of}
+use Rattle.mesh_laws.proofs.sent.Standing.{Standing}
 
 module _ (t : Network) (o w : Routes) (s : Mesh) (now : Standing t o w s) (here : LocalNode) (u d : NodeId)
     (m : Msg) (rest : List Msg) (first : s.mail u.0 d.0 ≡ m ∷ rest) where
@@ -35,7 +34,8 @@ module _ (t : Network) (o w : Routes) (s : Mesh) (now : Standing t o w s) (here 
   after_removal : (l : Lsp) (e at : NodeId) (code : ErrCode) → s.mail u.0 d.0 ≡ PathErr l e at true code ∷ rest →
       leg_at (commit (without_first s u.0 d.0) d.0 (on_message here (s.nodes d.0) u (PathErr l e at true code))) l d ≡
       None
-  after_removal l e at code came = go (o l) (now.follows l)
+  after_removal l e at code came =
+      go (on_hop t s o l u d removal rest came (same_lsp-refl l) now.follows)
     where
       removal : Msg
       removal = PathErr l e at true code
@@ -43,37 +43,16 @@ module _ (t : Network) (o w : Routes) (s : Mesh) (now : Standing t o w s) (here 
       later : Mesh
       later = commit (without_first s u.0 d.0) d.0 (on_message here (s.nodes d.0) u (PathErr l e at true code))
 
-      mine : mail_between s l u d ≡ removal ∷ messages_of l rest
-      mine = first-of s l u d removal rest came (same_lsp-refl l)
-
-      go : (c : Option (List Step)) → Follows t s o l c → leg_at later l d ≡ None
-      go None f = absurd (let none = f.mail u d in cc (none, mine))
-      go (Some route) (end, q, pl) = way (pl.chain.ways u d)
-        where
-          p : Plan
-          p = plan route end
-
-          way : (mail_between s l u d ≡ []) ⊎ OnRoute p u d → leg_at later l d ≡ None
-          way (inl none) = absurd (cc (none, mine))
-          way (inr (i, small, inl (at_u, at_d))) =
-              let u_is : u ≡ node_at p i = same_node u (node_at p i) at_u in
-              let d_is : d ≡ node_at p (suc i) = same_node d (node_at p (suc i)) at_d in
-              let list : mail_between s l (node_at p i) (node_at p (suc i)) ≡ removal ∷ messages_of l rest =
-              subst (λ n. mail_between s l (node_at p i) n ≡ removal ∷ messages_of l rest) d_is
-              (subst (λ n. mail_between s l n d ≡ removal ∷ messages_of l rest) u_is mine) in
-              absurd (no_removal_down (role_of q) _ _ (map msg_kind (messages_of l rest)) _
-              (rw list at (pl.chain.each i small).shape))
-          way (inr (i, small, inr (at_u, at_d))) =
-              let u_is : u ≡ node_at p (suc i) = same_node u (node_at p (suc i)) at_u in
-              let d_is : d ≡ node_at p i = same_node d (node_at p i) at_d in
-              let list : mail_between s l (node_at p (suc i)) (node_at p i) ≡ removal ∷ messages_of l rest =
-              subst (λ n. mail_between s l (node_at p (suc i)) n ≡ removal ∷ messages_of l rest) d_is
-              (subst (λ n. mail_between s l n d ≡ removal ∷ messages_of l rest) u_is mine) in
-              let gone = removal-goes t q l p l.ingress pl.route (leg_at s l) (mail_between s l) pl.chain i small e at
-              code (messages_of l rest) (s.nodes d.0) here list (ap (λ n. leg_at s l n) (sym d_is)) in
-              rw (same d.0) (subst
-              (λ n. find_leg l (legs_changed (on_message here (s.nodes d.0) n removal).legs (s.nodes d.0).legs) ≡ None)
-              (sym u_is) gone)
+      go : OnHop t s o l u d (removal ∷ messages_of l rest) → leg_at later l d ≡ None
+      go (Down q p pl i small u_is d_is list) =
+          absurd (no_removal_down (role_of q) _ _ (map msg_kind (messages_of l rest)) _
+          (rw list at (pl.chain.each i small).shape))
+      go (Up q p pl i small u_is d_is list) =
+          let gone = removal-goes t q l p l.ingress pl.route (leg_at s l) (mail_between s l) pl.chain i small e at
+          code (messages_of l rest) (s.nodes d.0) here list (ap (λ n. leg_at s l n) (sym d_is)) in
+          rw (same d.0) (subst
+          (λ n. find_leg l (legs_changed (on_message here (s.nodes d.0) n removal).legs (s.nodes d.0).legs) ≡ None)
+          (sym u_is) gone)
 
   of_removal : (n : Msg) → n ≡ m → lets_go n ≡ true →
       leg_at (commit (without_first s u.0 d.0) d.0 (on_message here (s.nodes d.0) u n)) (lsp_of n) d ≡ None
@@ -98,7 +77,7 @@ module _ (t : Network) (o w : Routes) (s : Mesh) (now : Standing t o w s) (here 
 
   -- what a message brings is of a fibre to its sender
   pub over : (f : Fibre) (x : ℕ) → brings f x m ≡ true → sender_of t f ≡ Some d → receiver_of t f ≡ Some u
-  over f x h from = go (o l) (now.follows l)
+  over f x h from = go (on_hop t s o l u d m rest first own now.follows)
     where
       l : Lsp
       l = lsp_of m
@@ -106,34 +85,13 @@ module _ (t : Network) (o w : Routes) (s : Mesh) (now : Standing t o w s) (here 
       own : is_message_of l m ≡ true
       own = rw (not-notice f x m h) (same_lsp-refl l)
 
-      mine : mail_between s l u d ≡ m ∷ messages_of l rest
-      mine = first-of s l u d m rest first own
-
-      go : (c : Option (List Step)) → Follows t s o l c → receiver_of t f ≡ Some u
-      go None f' = absurd (let none = f'.mail u d in cc (none, mine))
-      go (Some route) (end, q, pl) = way (pl.chain.ways u d)
-        where
-          p : Plan
-          p = plan route end
-
-          way : (mail_between s l u d ≡ []) ⊎ OnRoute p u d → receiver_of t f ≡ Some u
-          way (inl none) = absurd (cc (none, mine))
-          way (inr (i, small, inl (at_u, at_d))) =
-              let u_is : u ≡ node_at p i = same_node u (node_at p i) at_u in
-              let d_is : d ≡ node_at p (suc i) = same_node d (node_at p (suc i)) at_d in
-              let list : mail_between s l (node_at p i) (node_at p (suc i)) ≡ m ∷ messages_of l rest =
-              subst (λ n. mail_between s l (node_at p i) n ≡ m ∷ messages_of l rest) d_is
-              (subst (λ n. mail_between s l n d ≡ m ∷ messages_of l rest) u_is mine) in
-              let downs = rw list at (pl.chain.each i small).rest.going_down in
-              let labels = rw list at (pl.chain.each i small).rest.upstream in
-              down-over t q l p l.ingress pl.route (leg_at s l) (mail_between s l) pl.chain i small f x _ m downs.0
-              labels.0 h (from ∙ ap Some d_is) ∙ ap Some (sym u_is)
-          way (inr (i, small, inr (at_u, at_d))) =
-              let u_is : u ≡ node_at p (suc i) = same_node u (node_at p (suc i)) at_u in
-              let d_is : d ≡ node_at p i = same_node d (node_at p i) at_d in
-              let list : mail_between s l (node_at p (suc i)) (node_at p i) ≡ m ∷ messages_of l rest =
-              subst (λ n. mail_between s l (node_at p (suc i)) n ≡ m ∷ messages_of l rest) d_is
-              (subst (λ n. mail_between s l n d ≡ m ∷ messages_of l rest) u_is mine) in
-              let ups = rw list at (pl.chain.each i small).rest.going_up in
-              up-over t q l p l.ingress pl.route (leg_at s l) (mail_between s l) pl.chain i small f x m ups.0 h
-              (from ∙ ap Some d_is) ∙ ap Some (sym u_is)
+      go : OnHop t s o l u d (m ∷ messages_of l rest) → receiver_of t f ≡ Some u
+      go (Down q p pl i small u_is d_is list) =
+          let downs = rw list at (pl.chain.each i small).rest.going_down in
+          let labels = rw list at (pl.chain.each i small).rest.upstream in
+          down-over t q l p l.ingress pl.route (leg_at s l) (mail_between s l) pl.chain i small f x _ m downs.0
+          labels.0 h (from ∙ ap Some d_is) ∙ ap Some (sym u_is)
+      go (Up q p pl i small u_is d_is list) =
+          let ups = rw list at (pl.chain.each i small).rest.going_up in
+          up-over t q l p l.ingress pl.route (leg_at s l) (mail_between s l) pl.chain i small f x m ups.0 h
+          (from ∙ ap Some d_is) ∙ ap Some (sym u_is)

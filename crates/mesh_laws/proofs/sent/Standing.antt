@@ -16,7 +16,7 @@ use Rattle.ason_base.specs.declared.tables.Leg.{Leg}
 use Rattle.mesh_rules.specs.Commands.{is_searchable}
 use Rattle.mesh_rules.specs.Legs.{is_closing, sends}
 use Rattle.mesh_rules.specs.Machine.{Mesh}
-use Rattle.lsp_laws.specs.HopLaw.{is_message_of, is_notice, leg_at, lsp_of, mail_between, messages_of}
+use Rattle.lsp_laws.specs.HopLaw.{is_notice, leg_at, lsp_of, mail_between, messages_of}
 use Rattle.lsp_laws.specs.LabelLaw.{MayShare}
 use Rattle.lsp_laws.specs.RiskLaw.{rows_of}
 use Rattle.lsp_laws.proofs.hops.Chain.{LegFits, RisksFit}
@@ -71,11 +71,6 @@ all-own l (m ∷ ms) = go (is_notice m) (same_lsp (lsp_of m) l) refl (all-own l 
     go true c e more = more
     go false true e more = (e, more)
     go false false e more = more
-
--- the first message of a list is the first of its LSP
-pub first-of : (s : Mesh) (l : Lsp) (u d : NodeId) (m : Msg) (rest : List Msg) → s.mail u.0 d.0 ≡ m ∷ rest →
-    is_message_of l m ≡ true → mail_between s l u d ≡ m ∷ messages_of l rest
-first-of s l u d m rest was own = rw (was, own) refl
 
 -- the fibre leads from n to another node
 pub record Ends (t : Network) (f : Fibre) (n : NodeId) : Type 0 where

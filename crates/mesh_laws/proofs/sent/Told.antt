@@ -1,5 +1,5 @@
 -- What the LSP of each leg is for is what its leg at the ingress told first in the run.
-use Rattle.std.proofs.Common.{◌≡◌, ◌≢◌, ◌<◌, ◌≤◌, ℕ, suc, true, false, List, [], ◌∷◌, refl, sym, ap, subst, ◌∙◌, arith, inl, inr}
+use Rattle.std.proofs.Common.{◌≡◌, ◌≢◌, ◌<◌, ◌≤◌, ℕ, true, false, List, ◌∷◌, refl, sym, ap, subst, ◌∙◌, arith, inl, inr}
 use Rattle.std.specs.Prelude.{◌⊎◌, Option, Some, None}
 use Rattle.ason_base.specs.Network.{Network}
 use Rattle.ason_base.specs.declared.ids.LinkId.{LinkId}
@@ -16,9 +16,10 @@ use Rattle.mesh_rules.specs.Events.{or_route}
 use Rattle.mesh_rules.specs.LocalNodes.{local_node}
 use Rattle.mesh_rules.specs.Machine.{Mesh}
 use Rattle.mesh_nodes.proofs.LegList.{same_lsp-refl}
-use Rattle.lsp_laws.specs.HopLaw.{leg_at, mail_between, messages_of}
+use Rattle.lsp_laws.specs.HopLaw.{leg_at, messages_of}
 use Rattle.lsp_laws.specs.HopShapes.{ActivePath, LegKind, MsgKind, NoLeg, PlainPath, Shape, leg_kind, path_kind}
-use Rattle.lsp_laws.proofs.hops.Chain.{IsPlace, LegFits, OnRoute, is_or_not}
+use Rattle.lsp_laws.proofs.hops.Chain.{IsPlace, LegFits, is_or_not}
+use Rattle.lsp_laws.proofs.hops.OnHops.{Down, OnHop, Up, on_hop}
 use Rattle.lsp_laws.proofs.hops.Planned.{EachFollows, Follows, Planned, Routes}
 use Rattle.lsp_laws.proofs.hops.Plans.{Plan, hops, node_at, plan, same_node}
 use Rattle.lsp_laws.proofs.hops.Purposes.{Carries, Guards, Purpose, Tells, role_of}
@@ -53,26 +54,39 @@ pub record HasPurpose (t : Network) (s : Mesh) (o : Routes) (l : Lsp) (n : NodeI
   pub here : n ≡ node_at plan place
   pub fits : LegFits t purpose l plan place g
 
+-- where a leg stands on its LSP's route
+record Placed (t : Network) (q : Purpose) (l : Lsp) (p : Plan) (n : NodeId) (g : Leg) : Type 0 where
+  place : ℕ
+  small : place ≤ hops p
+  here : n ≡ node_at p place
+  fits : LegFits t q l p place g
+
+placed : (t : Network) (s : Mesh) (o : Routes) (l : Lsp) (q : Purpose) (p : Plan) → Planned t s o l q p → (n : NodeId)
+    (g : Leg) → leg_at s l n ≡ Some g → Placed t q l p n g
+placed t s o l q p pl n g here = on (pl.chain.legs n)
+  where
+    on : (leg_at s l n ≡ None) ⊎ IsPlace p n → Placed t q l p n g
+    on (inl none) = absurd (cc (none, here))
+    on (inr (i, small, at_n)) =
+        let is = same_node n (node_at p i) at_n in
+        let there : leg_at s l (node_at p i) ≡ Some g = rw (← is) here in
+        record { place = i; small = small; here = is; fits = rw there at (pl.chain.fits i small) }
+
 -- each leg has one
 pub purpose-of : (t : Network) (s : Mesh) (o : Routes) (l : Lsp) (n : NodeId) (g : Leg) (c : Option (List Step)) →
     Follows t s o l c → leg_at s l n ≡ Some g → HasPurpose t s o l n g
 purpose-of t s o l n g None f here = absurd (let none = f.legs n in cc (none, here))
-purpose-of t s o l n g (Some route) (e, q, pl) here = on (pl.chain.legs n)
-  where
-    on : (leg_at s l n ≡ None) ⊎ IsPlace (plan route e) n → HasPurpose t s o l n g
-    on (inl none) = absurd (cc (none, here))
-    on (inr (i, small, at_n)) =
-        let is = same_node n (node_at (plan route e) i) at_n in
-        let there : leg_at s l (node_at (plan route e) i) ≡ Some g = rw (← is) here in
-        record {
-          purpose = q;
-          plan = plan route e;
-          place = i;
-          planned = pl;
-          small = small;
-          here = is;
-          fits = rw there at (pl.chain.fits i small);
-        }
+purpose-of t s o l n g (Some route) (e, q, pl) here =
+    let at = placed t s o l q (plan route e) pl n g here in
+    record {
+      purpose = q;
+      plan = plan route e;
+      place = at.place;
+      planned = pl;
+      small = at.small;
+      here = at.here;
+      fits = at.fits;
+    }
 
 -- its legs tell one primary
 one-primary : (t : Network) (s : Mesh) (o : Routes) (l : Lsp) (n k : NodeId) (g h : Leg) (c : Option (List Step)) →
@@ -80,16 +94,9 @@ one-primary : (t : Network) (s : Mesh) (o : Routes) (l : Lsp) (n k : NodeId) (g 
     primary_in g.path_role ≡ primary_in h.path_role
 one-primary t s o l n k g h None f at_n at_k = absurd (let none = f.legs n in cc (none, at_n))
 one-primary t s o l n k g h (Some route) (e, q, pl) at_n at_k =
-    tells-primary q g.path_role (tells n g at_n (pl.chain.legs n)) ∙
-    sym (tells-primary q h.path_role (tells k h at_k (pl.chain.legs k)))
-  where
-    tells : (n : NodeId) (g : Leg) → leg_at s l n ≡ Some g → (leg_at s l n ≡ None) ⊎ IsPlace (plan route e) n →
-        Tells q g.path_role
-    tells n g here (inl none) = absurd (cc (none, here))
-    tells n g here (inr (i, small, at_n)) =
-        let is = same_node n (node_at (plan route e) i) at_n in
-        let there : leg_at s l (node_at (plan route e) i) ≡ Some g = rw (← is) here in
-        let fits : LegFits t q l (plan route e) i g = rw there at (pl.chain.fits i small) in fits.tells
+    let one = placed t s o l q (plan route e) pl n g at_n in
+    let other = placed t s o l q (plan route e) pl k h at_k in
+    tells-primary q g.path_role one.fits.tells ∙ sym (tells-primary q h.path_role other.fits.tells)
 
 -- What a Path tells
 
@@ -119,45 +126,26 @@ module _ (t : Network) (s : Mesh) (o w : Routes) (follows : EachFollows t s o) (
   abbrev path : Msg
   path = Path l e k route set up r
 
-  mine : mail_between s l u d ≡ path ∷ messages_of l rest
-  mine = rw (first, same_lsp-refl l) refl
-
   -- and that is what was told
   pub path-tells : w l ≡ primary_in r
-  path-tells = go (o l) (follows l)
+  path-tells = go (on_hop t s o l u d path rest first (same_lsp-refl l) follows)
     where
-      go : (c : Option (List Step)) → Follows t s o l c → w l ≡ primary_in r
-      go None f = absurd (let none = f.mail u d in cc (none, mine))
-      go (Some steps) (end, q, pl) = on (pl.chain.ways u d)
-        where
-          p : Plan
-          p = plan steps end
+      sender : (q : Purpose) (p : Plan) → Planned t s o l q p → (i : ℕ) → i < hops p → (v : Option Leg) →
+          leg_at s l (node_at p i) ≡ v → (d : LegKind) (downs ups : List MsgKind) →
+          Shape (role_of q) (leg_kind v) d (path_kind r ∷ downs) ups → Tells q r → w l ≡ primary_in r
+      sender q p pl i small None is d downs ups shape tells =
+          absurd (no_path_alone (role_of q) r d downs ups shape)
+      sender q p pl i small (Some h) is d downs ups shape tells =
+          let fits : LegFits t q l p i h = rw is at (pl.chain.fits i (omega arith)) in
+          told.legs l (node_at p i) h is ∙ tells-primary q h.path_role fits.tells ∙ sym (tells-primary q r tells)
 
-          sender : (i : ℕ) → i < hops p → (v : Option Leg) → leg_at s l (node_at p i) ≡ v → (d : LegKind)
-              (downs ups : List MsgKind) → Shape (role_of q) (leg_kind v) d (path_kind r ∷ downs) ups → Tells q r →
-              w l ≡ primary_in r
-          sender i small None is d downs ups shape tells = absurd (no_path_alone (role_of q) r d downs ups shape)
-          sender i small (Some h) is d downs ups shape tells =
-              let fits : LegFits t q l p i h = rw is at (pl.chain.fits i (omega arith)) in
-              told.legs l (node_at p i) h is ∙ tells-primary q h.path_role fits.tells ∙ sym (tells-primary q r tells)
-
-          on : (mail_between s l u d ≡ []) ⊎ OnRoute p u d → w l ≡ primary_in r
-          on (inl none) = absurd (cc (none, mine))
-          on (inr (i, small, inl (at_u, at_d))) =
-              let u_is : u ≡ node_at p i = same_node u (node_at p i) at_u in
-              let d_is : d ≡ node_at p (suc i) = same_node d (node_at p (suc i)) at_d in
-              let list : mail_between s l (node_at p i) (node_at p (suc i)) ≡ path ∷ messages_of l rest =
-              subst (λ n. mail_between s l (node_at p i) n ≡ path ∷ messages_of l rest) d_is
-              (subst (λ n. mail_between s l n d ≡ path ∷ messages_of l rest) u_is mine) in
-              let downs = rw list at (pl.chain.each i small).rest.going_down in
-              sender i small (leg_at s l (node_at p i)) refl _ _ _ (rw list at (pl.chain.each i small).shape) downs.0.3
-          on (inr (i, small, inr (at_u, at_d))) =
-              let u_is : u ≡ node_at p (suc i) = same_node u (node_at p (suc i)) at_u in
-              let d_is : d ≡ node_at p i = same_node d (node_at p i) at_d in
-              let list : mail_between s l (node_at p (suc i)) (node_at p i) ≡ path ∷ messages_of l rest =
-              subst (λ n. mail_between s l (node_at p (suc i)) n ≡ path ∷ messages_of l rest) d_is
-              (subst (λ n. mail_between s l n d ≡ path ∷ messages_of l rest) u_is mine) in
-              absurd (none_up (role_of q) r _ _ _ _ (rw list at (pl.chain.each i small).shape))
+      go : OnHop t s o l u d (path ∷ messages_of l rest) → w l ≡ primary_in r
+      go (Down q p pl i small u_is d_is list) =
+          let downs = rw list at (pl.chain.each i small).rest.going_down in
+          sender q p pl i small (leg_at s l (node_at p i)) refl _ _ _ (rw list at (pl.chain.each i small).shape)
+          downs.0.3
+      go (Up q p pl i small u_is d_is list) =
+          absurd (none_up (role_of q) r _ _ _ _ (rw list at (pl.chain.each i small).shape))
 
 -- and so what a message that is first in its list gives
 pub gift-tells : (t : Network) (s : Mesh) (o w : Routes) → EachFollows t s o → Told o w s → (u d : NodeId) (m : Msg)

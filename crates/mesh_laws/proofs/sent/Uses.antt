@@ -13,6 +13,7 @@ use Rattle.ason_base.specs.declared.messages.Msg.TheVariants.{Resv}
 use Rattle.ason_base.specs.declared.tables.Leg.{Leg}
 use Rattle.mesh_rules.specs.Legs.{connected, following, is_at, is_over, reverse_of, sends, takes, uses}
 use Rattle.mesh_rules.specs.Machine.{Mesh}
+use Rattle.mesh_nodes.proofs.BusyLabels.{used-at}
 use Rattle.mesh_nodes.proofs.Cases.{both_left, both_right}
 use Rattle.mesh_nodes.proofs.LabelPlaces.{at-is, back_in-taken, either, none-at, or-second}
 use Rattle.mesh_nodes.proofs.LegList.{same_lsp-refl}
@@ -23,7 +24,7 @@ use Rattle.lsp_laws.proofs.hops.Planned.{Routes}
 use Rattle.lsp_laws.proofs.hops.Plans.{distinct, fibre_at, node_at, same_node}
 use Rattle.lsp_laws.proofs.nodes.Facts.{SharesAll}
 use Rattle.lsp_laws.proofs.nodes.LegParts.{taken-used}
-use Rattle.lsp_laws.proofs.nodes.Marks.{other, used-at}
+use Rattle.lsp_laws.proofs.nodes.Marks.{other}
 use Rattle.mesh_laws.specs.HeardLaw.{heard, sends_of}
 use Rattle.mesh_laws.proofs.sent.Ends.{receiver-at, receiver-back, sender-at}
 use Rattle.mesh_laws.proofs.sent.Law.{may-send, sent-shared}
