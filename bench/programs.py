@@ -44,12 +44,8 @@ def of_crate(name):
     return program
 
 
-def flood_rows():
-    return of_crate("flood_rows")
-
-
-def route_times():
-    return of_crate("route_times")
+def bench_times():
+    return of_crate("bench_times")
 
 
 def compiled(source: str, folder: str) -> tuple[str | None, str]:

@@ -1,42 +1,24 @@
-//! Searches the route pairs of all two nodes of a network, for who takes the time. The network is read, a line
-//! `LINK LOW HIGH METRIC SRLG` for each link in order of number; nodes are 1 to 64. The first word is how often all pairs are
-//! searched before the last time; with `each` as the second word a network is prepared for each pair, else one for all. Printed
-//! are the number of pairs and the sum of the costs of their primary routes. With the one word `trees` the best pairs are
-//! searched, and a line `FROM TO TOTAL PLACES` is printed for each two nodes: the total, or `-` without a pair, and how many
-//! places the tree of the certificate has.
-#![tactic(auto)]
+//! Searches the route pairs of all two nodes of a network.
 
 ghost use Rattle.ason_base.specs.Walks.{HaveDistinctLinks, HaveFewEnds, HaveMetrics};
 ghost use Rattle.route_least.specs.Network.{IsNetworkOf};
 
-mod graph;
-mod trees;
-
+use crate::graph::is_graph;
+use crate::trees::{Searched, search};
 use ason_base::{NodeId, OutOfMemory, TeRow};
 use pair_search::BestFault;
 use route_least::RouteNetwork;
 use route_pair::{PairFault, pair_in};
 use std::alloc::Global;
-use std::{env, io};
-use trees::Searched;
+use std::io;
 
-/// What the words ask for.
+/// What is asked for: how often all pairs are searched before the last time, whether a network is prepared for each of
+/// them, and whether the best pairs are searched instead.
 #[derive(Clone, Copy, Drop)]
-struct Request {
-    times: u32,
-    each: bool,
-    trees: bool,
-}
-
-fn request_of(words: &[String]) -> Request {
-    Request {
-        times: words
-            .first()
-            .and_then(|word| word.parse::<u32>().ok())
-            .unwrap_or(0),
-        each: words.get(1).is_some_and(|word| word.as_str() == "each"),
-        trees: words.first().is_some_and(|word| word.as_str() == "trees"),
-    }
+pub struct Request {
+    pub times: u32,
+    pub each: bool,
+    pub trees: bool,
 }
 
 // Each two nodes of 1 to the last.
@@ -149,7 +131,7 @@ fn tell_trees(
     requires links { HaveDistinctLinks rows.now }
 {
     for pair in pairs {
-        tell_tree(rt, *pair, &trees::search(alloc, rows, *pair))?;
+        tell_tree(rt, *pair, &search(alloc, rows, *pair))?;
     }
     Ok(())
 }
@@ -179,13 +161,9 @@ fn tell_tree(
     }
 }
 
-fn search_network(
-    rt: &HostRuntime,
-    alloc: Global,
-    rows: &[TeRow],
-    request: Request,
-) -> io::Result<()> {
-    if !graph::is_graph(rows) {
+/// Searches all pairs so often, or the best ones, and tells of them.
+pub fn tell(rt: &HostRuntime, alloc: Global, rows: &[TeRow], request: Request) -> io::Result<()> {
+    if !is_graph(rows) {
         return println!(rt; "not a network");
     }
     let last = rows.iter().map(|row| row.high.0).max().unwrap_or(0);
@@ -200,17 +178,4 @@ fn search_network(
         Ok(sum) => println!(rt; "pairs {count} cost {sum}"),
         Err(_) => println!(rt; "out of memory"),
     }
-}
-
-fn main(rt: HostRuntime) -> io::Result<()> {
-    let alloc = rt.alloc();
-    let words: Vec<String> = env::args(&rt)?.skip(1).collect(alloc)?;
-    let mut rows = Vec::new(alloc);
-    for line in rt.lines(alloc) {
-        match graph::row(alloc, line?.as_str()) {
-            None => return println!(rt; "not a link"),
-            Some(row) => rows.push(row)?,
-        }
-    }
-    search_network(&rt, alloc, &rows, request_of(&words))
 }

@@ -5,7 +5,7 @@ use Rattle.std.specs.Prelude.{All, get_or}
 use Rattle.ason_base.specs.Walks.{HaveFewEnds}
 use Rattle.ason_base.specs.declared.ids.NodeId.{NodeId}
 use Rattle.ason_base.specs.declared.network.TeRow.{TeRow}
-use Rattle.route_times.specs.Ends.{Few}
+use Rattle.bench_times.specs.Ends.{Few}
 
 -- so many nodes, from this number on
 nodes_from : ℕ → ℕ → List NodeId

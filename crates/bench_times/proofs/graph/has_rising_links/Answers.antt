@@ -1,5 +1,5 @@
 use Rattle.route_pair.proofs.TestRows.{distinct, rise_more}
-use Rattle.route_times.proofs.graph.has_rising_links.Goals as goal
+use Rattle.bench_times.proofs.graph.has_rising_links.Goals as goal
 
 pub loop-place-preserved : goal.loop-place-preserved
 loop-place-preserved c = rise_more c.args.rows.now c.loop-place.place c.index-rows-place.result

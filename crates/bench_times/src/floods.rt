@@ -1,19 +1,17 @@
-//! A node learns rows from its neighbours in turn, and takes the acknowledgements of all that it passes on, for who takes the
-//! time. The words are how often it does so from the start, how many rows it learns, and how many neighbours it has. Printed is
-//! what it knows at the last time, and how much is due then.
-#![tactic(auto)]
+//! A node learns rows from its neighbours in turn, and takes the acknowledgements of all that it passes on.
 
 use ason_base::{LinkId, NodeId, OutOfMemory, Srlgs, TeRow};
 use flood::{Flood, FloodMsg};
 use std::alloc::Global;
-use std::{env, io};
+use std::io;
 
-/// What the words ask for.
+/// What is asked for: how often it does so from the start before the last time, how many rows it learns, and how many
+/// neighbours it has.
 #[derive(Clone, Copy, Drop)]
-struct Load {
-    times: u32,
-    rows: u32,
-    neighbours: u32,
+pub struct Load {
+    pub times: u32,
+    pub rows: u32,
+    pub neighbours: u32,
 }
 
 /// What there is at last.
@@ -21,14 +19,6 @@ struct Load {
 struct Learnt {
     known: usize,
     due: usize,
-}
-
-// The number that a word spells, or 0.
-fn number_at(words: &[String], place: usize) -> u32 {
-    words
-        .get(place)
-        .and_then(|word| word.parse::<u32>().ok())
-        .unwrap_or(0)
 }
 
 // Neighbours have the numbers from 1, the node has 0, and rows join two of 50 other nodes.
@@ -105,14 +95,8 @@ fn flood_often(alloc: Global, load: Load) -> Result<Learnt, OutOfMemory> {
     flood_once(alloc, load)
 }
 
-fn main(rt: HostRuntime) -> io::Result<()> {
-    let alloc = rt.alloc();
-    let words: Vec<String> = env::args(&rt)?.skip(1).collect(alloc)?;
-    let load = Load {
-        times: number_at(&words, 0),
-        rows: number_at(&words, 1),
-        neighbours: number_at(&words, 2),
-    };
+/// Floods so often, and tells what the node knows at the last time, and how much is due then.
+pub fn tell(rt: &HostRuntime, alloc: Global, load: Load) -> io::Result<()> {
     match flood_often(alloc, load) {
         Ok(Learnt { known, due }) => println!(rt; "{known} rows known, {due} due"),
         Err(_) => println!(rt; "out of memory"),

@@ -2,7 +2,7 @@
 
 ghost use Rattle.std.specs.Prelude.{All, IsTrue};
 ghost use Rattle.ason_base.specs.Walks.{HaveDistinctLinks, HaveFewEnds, HaveMetrics};
-ghost use Rattle.route_times.specs.Ends.{Few};
+ghost use Rattle.bench_times.specs.Ends.{Few};
 
 use ason_base::ids::{LinkId, NodeId};
 use ason_base::lists::Srlgs;
