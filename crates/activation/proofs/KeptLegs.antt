@@ -28,7 +28,7 @@ use Rattle.mesh_nodes.specs.LocalNodes.{LocalNodeFits}
 use Rattle.mesh_nodes.proofs.Cases.{both_left, if_cases}
 use Rattle.leg_table.specs.Fits.{OwnLegsFit}
 use Rattle.leg_table.specs.Handled.{MayBeHandledKept}
-use Rattle.mesh_nodes.specs.Kept.{LegFits}
+use Rattle.mesh_nodes.specs.FitNodes.{LegFits}
 use Rattle.mesh_nodes.proofs.LegList.{found-all}
 use Rattle.leg_table.specs.LegClaims.{OverOwnFibres}
 use Rattle.leg_table.proofs.OwnFibres.{over-own}

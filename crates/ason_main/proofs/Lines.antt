@@ -11,12 +11,12 @@ use Rattle.ason_base.specs.Network.{Network}
 use Rattle.mesh_rules.specs.Commands.{is_again, is_valid}
 use Rattle.mesh_rules.specs.Rows.{all_call_rows, all_leg_rows}
 use Rattle.world_rules.specs.Images.{IsQuiet, image}
-use Rattle.world_rules.specs.Runs.{IsEnabled}
+use Rattle.world_rules.specs.WorldRuns.{IsEnabled}
 use Rattle.world_rules.specs.Worlds.{World}
 use Rattle.round_rules.specs.Records.{Record, world_of}
 use Rattle.fleet_rounds.specs.Waiting.{is_quiet, items_waiting, rows_waiting, unacked_waiting}
 use Rattle.fleet.specs.Commands.{Disturbs, Posts, StandsOn}
-use Rattle.fleet.specs.Laws.{QuietIsTheWorlds}
+use Rattle.fleet.specs.FleetLaws.{QuietIsTheWorlds}
 use Rattle.fleet.specs.Standing.{FleetState, StandsFor}
 use Rattle.plan_reader.specs.declared.lines.Line.TheVariants as said
 use Rattle.plan_reader.specs.declared.lines.Line.TheVariants.{Noise, Post, Settle, Show, Wait}

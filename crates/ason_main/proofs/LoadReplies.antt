@@ -8,7 +8,7 @@ use Rattle.load_plan.specs.declared.parts.LoadParts.{LoadParts}
 use Rattle.table_text.specs.TableText.{stopped_text}
 use Rattle.ason_main.specs.declared.answers.Status.{Status}
 use Rattle.ason_main.specs.Answers.{Done, EventLimit, IsLoadAnswered, MayKeep, Unfinished, WasTold}
-use Rattle.ason_main.specs.Laws.{RunLaws}
+use Rattle.ason_main.specs.RunLaws.{RunLaws}
 use Rattle.ason_main.specs.Loads.{AreLoaded, parts_of}
 use Rattle.ason_main.proofs.OneLoad.{load_cut, load_ended}
 use Rattle.ason_main.proofs.PlanRuns.{IsNew}

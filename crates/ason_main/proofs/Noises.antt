@@ -6,7 +6,7 @@ use Rattle.ason_base.specs.Network.{Network}
 use Rattle.round_rules.specs.Records.{log_at}
 use Rattle.fleet_rounds.specs.Commands.{noised}
 use Rattle.fleet.specs.Commands.{Noises, is_full}
-use Rattle.fleet.specs.Laws.{FullIsTheLogs}
+use Rattle.fleet.specs.FleetLaws.{FullIsTheLogs}
 use Rattle.fleet.specs.Standing.{FleetState}
 use Rattle.plan_reader.specs.declared.lines.Line.TheVariants.{Noise}
 use Rattle.plan_reader.specs.Plans.{IsPostable}

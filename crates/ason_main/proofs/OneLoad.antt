@@ -9,7 +9,7 @@ use Rattle.load_plan.specs.declared.parts.LoadParts.{LoadParts}
 use Rattle.load_plan.specs.declared.phases.LoadPhase.{LoadPhase}
 use Rattle.plan_reader.specs.declared.plan.Plan.{Plan}
 use Rattle.world_rules.specs.Images.{image}
-use Rattle.script_rules.specs.Laws.{AreSame}
+use Rattle.script_rules.specs.ScriptLaws.{AreSame}
 use Rattle.script_rules.specs.Lawful.{IsLawfulRecord}
 use Rattle.script_rules.specs.Outputs.{Prints, UnlessStopped}
 use Rattle.script_rules.specs.Stages.{IsFull, Stage, last_of, new_stage, world_at}
@@ -18,7 +18,7 @@ use Rattle.script_rules.proofs.Follows.{lines_follow}
 use Rattle.script_rules.proofs.Lawful.{lawful_table}
 use Rattle.script_rules.proofs.OneTable.{one_table}
 use Rattle.script_rules.proofs.Stops.{stops_full}
-use Rattle.ason_main.specs.Laws.{RunLaws}
+use Rattle.ason_main.specs.RunLaws.{RunLaws}
 use Rattle.ason_main.specs.Loads.{AreLoaded, IsLoadCut, IsLoaded, IsTheLoad, IsTheLoadCut, Part, PartsPrint, PhasePrints, ShowsPhase, lines_in, load_end, parts_of}
 use Rattle.ason_main.specs.Outputs.{IsKept, IsOneRun, end_of, silent_on}
 use Rattle.ason_main.proofs.PlanRuns.{IsNew, kept, not_both, one_run, same_end, same_node}

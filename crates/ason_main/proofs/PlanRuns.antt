@@ -11,14 +11,14 @@ use Rattle.plan_reader.specs.declared.lines.Line.{Line}
 use Rattle.plan_reader.specs.declared.lines.Line.TheVariants.{Settle, Show}
 use Rattle.plan_reader.specs.declared.plan.Plan.{Plan}
 use Rattle.plan_reader.specs.Plans.{ArePostable, calls_after_line}
-use Rattle.script_rules.specs.Laws.{AreSame}
+use Rattle.script_rules.specs.ScriptLaws.{AreSame}
 use Rattle.script_rules.specs.Lawful.{IsLawfulRecord}
 use Rattle.script_rules.specs.Outputs.{How, Prints, script_of, settling_script}
 use Rattle.script_rules.specs.Stages.{IsFull, Stage, new_stage}
 use Rattle.script_rules.proofs.Alone.{one_list}
 use Rattle.script_rules.proofs.Grows.{scripts_grow}
 use Rattle.script_rules.proofs.Stops.{stops_full}
-use Rattle.ason_main.specs.Laws.{RunLaws}
+use Rattle.ason_main.specs.RunLaws.{RunLaws}
 use Rattle.ason_main.specs.Outputs.{HasBeenCut, HasEnded, IsBegun, IsCutShort, IsKept, IsOneRun, IsOutput, IsTheCut, IsTheOutput, end_of}
 use Rattle.ason_main.specs.Running.{AreBegun, AreLed, DoesAll, EndsIn, FailsIn, HasStood, HasWritten, HasWrittenPart, RunState, StandsAt, StandsYet}
 

@@ -11,7 +11,7 @@ use Rattle.plan_reader.specs.declared.lines.Line.{Line}
 use Rattle.plan_reader.specs.declared.lines.Line.TheVariants.{Settle, Show}
 use Rattle.plan_reader.specs.declared.plan.Plan.{Plan}
 use Rattle.plan_reader.specs.Plans.{ArePostable, calls_after_line, calls_after_lines}
-use Rattle.script_rules.specs.Laws.{RoundLaws}
+use Rattle.script_rules.specs.ScriptLaws.{RoundLaws}
 use Rattle.script_rules.specs.Outputs.{How, settling_script}
 use Rattle.script_rules.specs.Stages.{Stage, last_of, world_at}
 use Rattle.script_rules.proofs.Posts.{posts_follow}

@@ -27,7 +27,7 @@ use Rattle.trace_text.specs.Written.{WrotePart, WroteTrace}
 use Rattle.trace_text.specs.declared.checking.Checked.{Checked}
 use Rattle.trace_text.specs.declared.write.TraceWriteFault.{TraceWriteFault}
 use Rattle.command_words.specs.Paces.{PaceView}
-use Rattle.script_rules.specs.Laws.{RoundLaws}
+use Rattle.script_rules.specs.ScriptLaws.{RoundLaws}
 use Rattle.script_rules.specs.Outputs.{How, Prints, script_of}
 use Rattle.script_rules.specs.Stages.{Stage, new_stage}
 use Rattle.script_rules.proofs.Lawful.{HasOneTable, lawful_table}

@@ -15,7 +15,7 @@ use Rattle.table_text.specs.EndsText.{no_node_text, plan_node}
 use Rattle.table_text.specs.TableText.{stopped_text}
 use Rattle.ason_main.specs.declared.answers.Status.{Status}
 use Rattle.ason_main.specs.Answers.{Done, EventLimit, IsAnswered, IsWatchOf, Unfinished, WasTold, WasToldOrNothing, Watch, printing}
-use Rattle.ason_main.specs.Laws.{RunLaws}
+use Rattle.ason_main.specs.RunLaws.{RunLaws}
 use Rattle.ason_main.specs.Outputs.{HasBeenCut, HasEnded, IsBegun, IsTheOutput, end_of}
 use Rattle.ason_main.specs.Running.{HasWritten, HasWrittenPart, StandsYet, at}
 use Rattle.ason_main.specs.Views.{IsViewOf}

@@ -1,7 +1,7 @@
 pub mod Answers
-pub mod Laws
 pub mod Loads
 pub mod Outputs
+pub mod RunLaws
 pub mod Running
 pub mod Surveys
 pub mod Traces

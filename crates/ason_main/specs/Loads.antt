@@ -18,7 +18,7 @@ use Rattle.load_plan.specs.declared.parts.LoadParts.{LoadParts}
 use Rattle.load_plan.specs.declared.phases.LoadPhase.{LoadPhase}
 use Rattle.load_plan.specs.declared.phases.LoadPhase.TheVariants.{Built, Failed, Repaired, Reverted}
 use Rattle.table_text.specs.TableText.{stopped_text}
-use Rattle.script_rules.specs.Laws.{AreSame}
+use Rattle.script_rules.specs.ScriptLaws.{AreSame}
 use Rattle.script_rules.specs.OneWorker.{lines_end}
 use Rattle.script_rules.specs.Outputs.{Prints, UnlessStopped}
 use Rattle.script_rules.specs.Stages.{Stage, last_of, new_stage, world_at}

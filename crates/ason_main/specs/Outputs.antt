@@ -10,7 +10,7 @@ use Rattle.fleet.specs.Standing.{FleetState, HasMade, StandsFor}
 use Rattle.plan_reader.specs.declared.plan.Plan.{Plan}
 use Rattle.table_text.specs.TableText.{stopped_text}
 use Rattle.script_rules.specs.Growing.{AreGrowing}
-use Rattle.script_rules.specs.Laws.{AreSame}
+use Rattle.script_rules.specs.ScriptLaws.{AreSame}
 use Rattle.script_rules.specs.Lawful.{IsLawfulRecord}
 use Rattle.script_rules.specs.Outputs.{How, Prints, PrintsFirst, script_of}
 use Rattle.script_rules.specs.Stages.{Stage, last_of, new_stage}

@@ -21,7 +21,7 @@ use Rattle.ason_base.specs.declared.commands.Entry.{Entry}
 use Rattle.world_merge.specs.Merges.{events_of}
 use Rattle.world_merge.specs.Orders.{IsMerge}
 use Rattle.round_rules.specs.Records.{Record, log_at, posts_in, world_of}
-use Rattle.script_rules.specs.Laws.{AreSame}
+use Rattle.script_rules.specs.ScriptLaws.{AreSame}
 use Rattle.script_rules.specs.Outputs.{How}
 use Rattle.script_rules.specs.Stages.{Stage, world_at}
 use Rattle.script_rules.specs.Tables.{IsTable}

@@ -14,7 +14,7 @@ use Rattle.world_merge.specs.Orders.{IsMerge}
 use Rattle.round_rules.specs.Records.{Record, log_at, posts_in, world_of}
 use Rattle.fleet.specs.Standing.{FleetState, StandsFor}
 use Rattle.plan_reader.specs.declared.plan.Plan.{Plan}
-use Rattle.script_rules.specs.Laws.{AreSame}
+use Rattle.script_rules.specs.ScriptLaws.{AreSame}
 use Rattle.script_rules.specs.Stages.{Stage}
 use Rattle.script_rules.specs.Tables.{IsTable}
 use Rattle.trace_text.specs.Checks.{IsRunTrace}

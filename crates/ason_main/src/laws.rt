@@ -1,6 +1,6 @@
 //! The laws on which a run rests.
 
-ghost use Rattle.ason_main.specs.Laws.{RunLaws};
+ghost use Rattle.ason_main.specs.RunLaws.{RunLaws};
 
 use fleet::every_fleet;
 use fleet_rounds::every_command;

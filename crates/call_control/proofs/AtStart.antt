@@ -4,7 +4,7 @@ use Rattle.std.specs.List.{AllByRecursion}
 use Rattle.ason_base.specs.Network.{IsTopology, Network}
 use Rattle.ason_base.specs.declared.ids.NodeId.{NodeId}
 use Rattle.mesh_rules.specs.State.{NodeState, new_node}
-use Rattle.mesh_nodes.specs.Kept.{NodeFits}
+use Rattle.mesh_nodes.specs.FitNodes.{NodeFits}
 use Rattle.mesh_nodes.proofs.NewNodes.{new-fits}
 use Rattle.leg_table.specs.States.{local_of, no_call, state_of}
 use Rattle.leg_table.specs.Tables.{CallTable, LegTable, new_table}

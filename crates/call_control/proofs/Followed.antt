@@ -24,7 +24,7 @@ use Rattle.mesh_rules.specs.Messages.{on_message}
 use Rattle.mesh_rules.specs.Pairs.{route_from}
 use Rattle.mesh_rules.specs.Reports.{fibre_into, reported}
 use Rattle.mesh_rules.specs.State.{NodeState}
-use Rattle.mesh_nodes.specs.Kept.{NodeFits}
+use Rattle.mesh_nodes.specs.FitNodes.{NodeFits}
 use Rattle.mesh_nodes.proofs.Cases.{if_cases}
 use Rattle.mesh_nodes.proofs.LegList.{all-filter}
 use Rattle.mesh_nodes.proofs.Messages.{messages-fit}
@@ -37,7 +37,7 @@ use Rattle.call_control.specs.Ingress.{IngressFits, IsArmedAsBackup}
 use Rattle.call_control.specs.Rules.{refused_as, refused_for, refused_here, told_here}
 use Rattle.call_control.proofs.AfterLeg.{Contends, Refuses, Tells, contends, refuses, removes-then, resv-taken, tells}
 use Rattle.call_control.proofs.CallAfterLeg.{contended-same, refused-same}
-use Rattle.call_control.proofs.Kept.{Keeps, nothing-keeps}
+use Rattle.call_control.proofs.FitIngresses.{Keeps, nothing-keeps}
 use Rattle.call_control.proofs.Decides.{contended-stays, refused-stays, reported-stays}
 use Rattle.call_control.proofs.Named.{Stays, nothing-stays}
 use Rattle.call_control.proofs.Roles.{calls-stay, gone-stay}

@@ -19,10 +19,10 @@ use Rattle.mesh_rules.specs.Legs.{find_leg, is_armed, is_contended, takes, usabl
 use Rattle.mesh_rules.specs.LocalNodes.{LocalNode}
 use Rattle.mesh_rules.specs.Messages.{on_message}
 use Rattle.mesh_rules.specs.State.{NodeState}
-use Rattle.mesh_nodes.specs.Kept.{NodeFits}
+use Rattle.mesh_nodes.specs.FitNodes.{NodeFits}
 use Rattle.mesh_nodes.specs.LocalNodes.{LocalNodeFits}
 use Rattle.mesh_nodes.proofs.CallList.{called-names}
-use Rattle.mesh_nodes.proofs.Kept.{length-replaced}
+use Rattle.mesh_nodes.proofs.FitLists.{length-replaced}
 use Rattle.mesh_nodes.proofs.LegList.{all-with_leg, find-with_leg, found-all, found-lsp, same_lsp-refl}
 use Rattle.mesh_nodes.proofs.Links.{found-one}
 use Rattle.mesh_nodes.proofs.Messages.{messages-fit}
@@ -38,7 +38,7 @@ use Rattle.call_control.specs.Handlers.{answer_here, whole_answer}
 use Rattle.call_control.specs.Ingress.{AllNameByRole, IngressFits, IsArmedAsBackup, NamesByRole, role_at}
 use Rattle.call_control.specs.Searches.{RowsAreKnown}
 use Rattle.call_control.proofs.AfterLeg.{Becomes, puts-then}
-use Rattle.call_control.proofs.Kept.{Keeps}
+use Rattle.call_control.proofs.FitIngresses.{Keeps}
 use Rattle.call_control.proofs.Named.{Stays}
 use Rattle.call_control.proofs.Roles.{calls-stay, changed-stay, named-as}
 

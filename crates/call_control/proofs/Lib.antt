@@ -7,8 +7,8 @@ pub mod CallAfterLeg
 mod Decided
 pub mod Decides
 pub mod Decisions
+pub mod FitIngresses
 pub mod Followed
-pub mod Kept
 mod LegFollowed
 mod Links
 pub mod Named

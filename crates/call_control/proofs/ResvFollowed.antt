@@ -20,7 +20,7 @@ use Rattle.mesh_rules.specs.Legs.{connected, is_armed, is_asked, is_at, is_beyon
 use Rattle.mesh_rules.specs.LocalNodes.{LocalNode}
 use Rattle.mesh_rules.specs.Messages.{arrival}
 use Rattle.mesh_rules.specs.State.{NodeState}
-use Rattle.mesh_nodes.specs.Kept.{LegFits}
+use Rattle.mesh_nodes.specs.FitNodes.{LegFits}
 use Rattle.mesh_nodes.proofs.Cases.{both_left}
 use Rattle.mesh_nodes.proofs.LegList.{found-all}
 use Rattle.leg_table.specs.States.{local_of, state_of}

@@ -9,7 +9,7 @@ use Rattle.ason_base.specs.declared.tables.Leg.{Leg}
 use Rattle.mesh_rules.specs.Legs.{find_leg, is_armed}
 use Rattle.mesh_rules.specs.LocalNodes.{LocalNode}
 use Rattle.mesh_rules.specs.State.{NodeState}
-use Rattle.mesh_nodes.specs.Kept.{NodeFits}
+use Rattle.mesh_nodes.specs.FitNodes.{NodeFits}
 use Rattle.mesh_nodes.specs.LocalNodes.{LocalNodeFits}
 use Rattle.leg_table.specs.States.{local_of, state_of}
 use Rattle.leg_table.specs.Tables.{CallTable, LegTable}

@@ -17,7 +17,7 @@ use Rattle.mesh_rules.proofs.Topologies.{each-link}
 use Rattle.mesh_rules.specs.LocalNodes.{local_node}
 use Rattle.mesh_rules.specs.State.{new_node}
 use Rattle.te_tlv.specs.Written.{IsWritable}
-use Rattle.control_channels.specs.Kept.{CanGo, FloodFits}
+use Rattle.control_channels.specs.ReadyControllers.{CanGo, FloodFits}
 use Rattle.control_channels.proofs.DueRows.{due-mapped, ids-mapped}
 use Rattle.control_channels.proofs.Keeping.{order-few}
 

@@ -22,7 +22,7 @@ use Rattle.control_channels.specs.Adjacencies.{again_to, neighbours, packets_on,
 use Rattle.control_channels.specs.Answers.{CanBeSent}
 use Rattle.control_channels.specs.Controllers.{IsMade, acks_to, carried, heard_hops}
 use Rattle.control_channels.specs.Frames.{Sending, frames_to, sent_frame}
-use Rattle.control_channels.specs.Kept.{unacknowledged}
+use Rattle.control_channels.specs.ReadyControllers.{unacknowledged}
 
 -- Only what was sent waits
 

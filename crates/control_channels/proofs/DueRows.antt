@@ -3,7 +3,7 @@ use Rattle.std.proofs.Common.{◌≡◌, List, [], ◌∷◌, map, refl, ap, ◌
 use Rattle.std.specs.List.{AllByRecursion}
 use Rattle.ason_base.specs.declared.ids.NodeId.{NodeId}
 use Rattle.flood.specs.State.{NeighbourState}
-use Rattle.control_channels.specs.Kept.{CanGo}
+use Rattle.control_channels.specs.ReadyControllers.{CanGo}
 
 pub ids-mapped : (g : NeighbourState → NeighbourState) → ((n : NeighbourState) → (g n).id ≡ n.id) →
     (ns : List NeighbourState) →

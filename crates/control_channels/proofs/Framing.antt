@@ -12,7 +12,7 @@ use Rattle.hop_reliable.proofs.Members.{each-append}
 use Rattle.control_channels.specs.Controllers.{floods_to}
 use Rattle.control_channels.specs.Frames.{AllSpelled, frames_to, sent_frame}
 use Rattle.control_channels.specs.declared.frames.Frame.{Frame}
-use Rattle.control_channels.specs.Kept.{CanGo}
+use Rattle.control_channels.specs.ReadyControllers.{CanGo}
 use Rattle.control_channels.proofs.Spelled.{frame-spelled}
 
 -- each of these can be written

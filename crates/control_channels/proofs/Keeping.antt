@@ -19,7 +19,7 @@ use Rattle.hop_reliable.specs.Hop.{HopState, handed_up_of, is_acked, older, rece
 use Rattle.mesh_nodes.proofs.Items.{items-fit}
 use Rattle.mesh_nodes.proofs.Messages.{messages-fit}
 use Rattle.mesh_nodes.proofs.Ticks.{ticks-fit}
-use Rattle.mesh_nodes.specs.Kept.{NodeFits}
+use Rattle.mesh_nodes.specs.FitNodes.{NodeFits}
 use Rattle.mesh_nodes.specs.LocalNodes.{LocalNodeFits}
 use Rattle.mesh_nodes.specs.Sent.{AllWritable, AnswerFits, CanBePassedOn}
 use Rattle.mesh_rules.specs.Changes.{Answer, nothing}
@@ -35,7 +35,7 @@ use Rattle.control_channels.specs.Answers.{BodyCanBePassedOn, CanBeSent}
 use Rattle.control_channels.specs.Controllers.{IsMade, carried, heard_hops}
 use Rattle.node_rules.specs.Nodes.{NodeView}
 use Rattle.control_channels.specs.Frames.{Sending}
-use Rattle.control_channels.specs.Kept.{IsKept, IsReady}
+use Rattle.control_channels.specs.ReadyControllers.{IsKept, IsReady}
 use Rattle.control_channels.proofs.Counting.{all-wait, unacknowledged-few}
 use Rattle.control_channels.proofs.Reaching.{each-to_neighbour, neighbour-reached, peers-near}
 

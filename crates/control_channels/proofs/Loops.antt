@@ -1,7 +1,7 @@
 -- Loops over adjacencies.
 use Rattle.std.proofs.Common.{◌≡◌, ◌<◌, ◌≤◌, ◌+◌, ◌*◌, ◌^◌, ℕ, zero, suc, List, [], ◌∷◌, ◌++◌, length, get_or, set, take, drop, map, refl, sym, ap, ◌∙◌, arith, add-one}
 use Rattle.control_channels.specs.declared.adjacencies.Adjacency.{Adjacency}
-use Rattle.control_channels.specs.Kept.{unacknowledged}
+use Rattle.control_channels.specs.ReadyControllers.{unacknowledged}
 
 -- each is changed in its place
 

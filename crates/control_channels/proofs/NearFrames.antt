@@ -18,7 +18,7 @@ use Rattle.control_channels.specs.Answers.{CanBeSent}
 use Rattle.control_channels.specs.Controllers.{IsMade, acks_to, carried}
 use Rattle.node_rules.specs.Nodes.{NodeView}
 use Rattle.control_channels.specs.Frames.{Sending, frames_to}
-use Rattle.control_channels.specs.Kept as kept
+use Rattle.control_channels.specs.ReadyControllers as kept
 
 pub frames-near : (p : LocalNode) (me : NodeId) (ss : List Sending) →
     AllByRecursion (λ (s : Sending). is_neighbour p s.to ≡ true) ss →

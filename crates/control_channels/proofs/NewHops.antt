@@ -8,7 +8,7 @@ use Rattle.hop_reliable.specs.Hop.{HopState}
 use Rattle.mesh_rules.specs.LocalNodes.{LocalNode, local_node}
 use Rattle.control_channels.specs.declared.adjacencies.Adjacency.{Adjacency}
 use Rattle.control_channels.specs.Adjacencies.{CanGoAgain, neighbours, new_adjacency, rested}
-use Rattle.control_channels.specs.Kept.{IsKept}
+use Rattle.control_channels.specs.ReadyControllers.{IsKept}
 use Rattle.control_channels.proofs.Reaching.{hop-new, peers-new}
 use Rattle.control_channels.proofs.Keeping.{order-few}
 

@@ -12,7 +12,7 @@ use Rattle.control_channels.specs.declared.adjacencies.Adjacency.{Adjacency}
 use Rattle.control_channels.specs.declared.frames.Frame.{Frame}
 use Rattle.control_channels.specs.Adjacencies.{AllCanGo, ArePrepared, hop_at, next_at, packets_on, reaches, rested, sent_on}
 use Rattle.control_channels.specs.Frames.{frames_to}
-use Rattle.control_channels.specs.Kept.{IsReady}
+use Rattle.control_channels.specs.ReadyControllers.{IsReady}
 use Rattle.control_channels.proofs.Later.{all-go}
 use Rattle.control_channels.proofs.Resting.{next-is}
 

@@ -24,7 +24,7 @@ use Rattle.mesh_rules.specs.State.{NodeState}
 use Rattle.node_rules.specs.Nodes.{NodeView, stepped, without_last}
 use Rattle.node_rules.specs.declared.inputs.Input.TheVariants as input
 use Rattle.control_channels.specs.Controllers.{with_learnt}
-use Rattle.control_channels.specs.Kept.{FloodFits}
+use Rattle.control_channels.specs.ReadyControllers.{FloodFits}
 
 -- Where it goes
 

@@ -2,4 +2,4 @@ pub mod Adjacencies
 pub mod Answers
 pub mod Controllers
 pub mod Frames
-pub mod Kept
+pub mod ReadyControllers

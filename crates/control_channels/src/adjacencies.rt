@@ -11,7 +11,7 @@ ghost use Rattle.rsvp_messages.specs.Writable.{IsWritable};
 ghost use Rattle.control_channels.specs.declared.adjacencies.Adjacency.{Adjacency};
 ghost use Rattle.control_channels.specs.Adjacencies.{AllCanGo, CanGoAgain, IsChangedAt, adjacency_at, aged, again_to, committed, hop_at, is_to, next_at, packets_on, peer_numbers, prepared_at, reaches, rested, sendings_to, sent_on, sent_one, taken_at, taken_by};
 ghost use Rattle.control_channels.specs.Frames.{AllSpelled, frames_to, message_in, sent_frame};
-ghost use Rattle.control_channels.specs.Kept.{unacknowledged};
+ghost use Rattle.control_channels.specs.ReadyControllers.{unacknowledged};
 
 use crate::frames::{Frame, FrameMaker};
 use ason_base::{Msg, MsgId, NodeId, Out, OutOfMemory, Packet};

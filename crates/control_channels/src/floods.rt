@@ -11,7 +11,7 @@ ghost use Rattle.mesh_rules.specs.LocalNodes.{local_node};
 ghost use Rattle.mesh_rules.specs.State.{new_node};
 ghost use Rattle.control_channels.specs.Controllers.{floods_to};
 ghost use Rattle.control_channels.specs.Frames.{AllSpelled, frames_to};
-ghost use Rattle.control_channels.specs.Kept.{CanGo, FloodFits};
+ghost use Rattle.control_channels.specs.ReadyControllers.{CanGo, FloodFits};
 
 use crate::frames::{Frame, FrameMaker};
 use crate::peers::{other_ends, touches};

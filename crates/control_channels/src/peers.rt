@@ -5,7 +5,7 @@ ghost use Rattle.ason_base.specs.InOrder.{in_order};
 ghost use Rattle.ason_base.specs.Network.{other_end, touches};
 ghost use Rattle.mesh_rules.specs.LocalNodes.{local_node};
 ghost use Rattle.control_channels.specs.Adjacencies.{neighbours, new_adjacency};
-ghost use Rattle.control_channels.specs.Kept.{IsKept};
+ghost use Rattle.control_channels.specs.ReadyControllers.{IsKept};
 
 use crate::adjacencies::Adjacency;
 use ason_base::routes::other_end;

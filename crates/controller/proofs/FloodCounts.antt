@@ -22,7 +22,7 @@ use Rattle.control_channels.specs.Adjacencies.{again_to, neighbours}
 use Rattle.control_channels.specs.Controllers.{floods_to}
 use Rattle.control_channels.specs.Frames.{Sending, frames_to}
 use Rattle.control_channels.specs.declared.frames.Frame.{Frame}
-use Rattle.control_channels.specs.Kept.{unacknowledged}
+use Rattle.control_channels.specs.ReadyControllers.{unacknowledged}
 use Rattle.control_channels.proofs.Counting.{due-few}
 use Rattle.control_channels.proofs.Reaching.{each-numbered, number-near}
 use Rattle.control_channels.proofs.Framing.{WrittenSends}

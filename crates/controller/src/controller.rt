@@ -6,7 +6,7 @@ ghost use Rattle.mesh_nodes.specs.LocalNodes.{is_neighbour};
 ghost use Rattle.mesh_rules.specs.Rows.{call_rows, leg_rows};
 ghost use Rattle.controller.specs.declared.controller.TheConstants.{MOST_STEPS};
 ghost use Rattle.control_channels.specs.Controllers.{IsStep, IsUnambiguous};
-ghost use Rattle.control_channels.specs.Kept.{AllToNeighbours, IsFromNeighbour, new_controller, unacknowledged};
+ghost use Rattle.control_channels.specs.ReadyControllers.{AllToNeighbours, IsFromNeighbour, new_controller, unacknowledged};
 ghost use Rattle.flood.specs.State.{pending_count};
 
 use crate::reactions::react;
@@ -34,7 +34,7 @@ pub struct Controller {
 
 impl Model for Controller {
     ghost use Rattle.control_channels.specs.Controllers.{ControllerState};
-    ghost use Rattle.control_channels.specs.Kept.{FloodFits, IsKept};
+    ghost use Rattle.control_channels.specs.ReadyControllers.{FloodFits, IsKept};
 
     ghost Value = { ControllerState };
 

@@ -8,7 +8,7 @@ ghost use Rattle.mesh_nodes.specs.LocalNodes.{is_neighbour};
 ghost use Rattle.mesh_rules.specs.KnownRows.{known_rows};
 ghost use Rattle.control_channels.specs.Controllers.{floods_to, with_learnt};
 ghost use Rattle.control_channels.specs.Frames.{AllSpelled, frames_to};
-ghost use Rattle.control_channels.specs.Kept.{AllToNeighbours, FloodFits};
+ghost use Rattle.control_channels.specs.ReadyControllers.{AllToNeighbours, FloodFits};
 
 use ason_base::{NodeId, OutOfMemory, TeRow};
 use control_channels::{Frame, FrameMaker, frame_floods};

@@ -16,7 +16,7 @@ ghost use Rattle.flood.specs.Messages.{SpellsFlood};
 ghost use Rattle.flood.specs.State.{ticked};
 ghost use Rattle.control_channels.specs.Controllers.{AddsAnswer, AnswerIsSpelled, AreMade, Becomes, IsMade, IsReaction, IsUnambiguous, flood_after, frame_step, handed_body, idle_step, item_step, packet_step, parts, tick_step};
 ghost use Rattle.control_channels.specs.Frames.{AllSpelled, frames_to};
-ghost use Rattle.control_channels.specs.Kept.{AllToNeighbours, FloodFits, IsFromNeighbour, IsKept, IsReady};
+ghost use Rattle.control_channels.specs.ReadyControllers.{AllToNeighbours, FloodFits, IsFromNeighbour, IsKept, IsReady};
 
 use crate::floods::take_flood;
 use ason_base::{Copied, DecodeError, DeskItem, Msg, NodeId, OutOfMemory, Packet, copy_all};

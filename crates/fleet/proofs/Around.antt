@@ -8,7 +8,7 @@ use Rattle.ason_base.specs.declared.ids.NodeId.{NodeId}
 use Rattle.ason_base.specs.Network.{Network}
 use Rattle.flood.proofs.Members.{place_of}
 use Rattle.hop_reliable.proofs.Members.{each-get, get_within}
-use Rattle.world_rules.specs.Runs.{is_channel, neighbours}
+use Rattle.world_rules.specs.WorldRuns.{is_channel, neighbours}
 use Rattle.station_doings.specs.States.{StationState}
 use Rattle.round_rules.specs.OneWorker.{ids_of}
 use Rattle.fleet_rounds.proofs.Nodes.{channel-back, joins-nodes, near-there, node-there}

@@ -8,7 +8,7 @@ use Rattle.fleet.specs.declared.seats.Seat.{Seat}
 use Rattle.fleet.specs.Commands.{is_seat}
 use Rattle.fleet.specs.Connections.{HaveSeats}
 use Rattle.fleet.proofs.Finding.{place-within}
-use Rattle.fleet.proofs.Kept.{seats-count}
+use Rattle.fleet.proofs.KeptSeats.{seats-count}
 
 module _ (n : NodeId) (seen seats : List Seat) (stations : List StationState) (place : ℕ) (same : seen ≡ seats)
     (have : HaveSeats seats stations) (at : Some place ≡ position (is_seat n) seen) where

@@ -10,7 +10,7 @@ use Rattle.flood.proofs.Members.{place_of}
 use mathlib.Core.List.{IsPrefix}
 use Rattle.rtrb.specs.Ring.{received}
 use Rattle.hop_reliable.proofs.Members.{take_next}
-use Rattle.world_rules.specs.Runs.{is_channel, neighbours}
+use Rattle.world_rules.specs.WorldRuns.{is_channel, neighbours}
 use Rattle.station_rings.specs.LinkStates.{LinkState, gone_of}
 use Rattle.station_doings.specs.States.{StationState}
 use Rattle.station_doings.specs.Turned.{comes_to_end}

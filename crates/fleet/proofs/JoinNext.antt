@@ -6,7 +6,7 @@ use Rattle.std.specs.Prelude.{◌&&◌, Some, slice_get, slice_set}
 use Rattle.ason_base.specs.declared.ids.NodeId.{NodeId}
 use Rattle.ason_base.specs.Network.{IsTopology, Network}
 use Rattle.hop_reliable.proofs.Members.{each-more}
-use Rattle.world_rules.specs.Runs.{is_channel}
+use Rattle.world_rules.specs.WorldRuns.{is_channel}
 use Rattle.round_rules.specs.OneWorker.{ids_of}
 use Rattle.station_rings.specs.LinkStates.{AreEnds, IsNew, LinkState}
 use Rattle.station_doings.specs.States.{StationState}

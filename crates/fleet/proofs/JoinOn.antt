@@ -11,7 +11,7 @@ use Rattle.ason_base.specs.declared.network.NodeSpec.{NodeSpec}
 use Rattle.ason_base.specs.Network.{Network}
 use Rattle.flood.proofs.Members.{place_of}
 use Rattle.hop_reliable.proofs.Members.{get_within}
-use Rattle.world_rules.specs.Runs.{is_channel}
+use Rattle.world_rules.specs.WorldRuns.{is_channel}
 use Rattle.round_rules.specs.OneWorker.{ids_of}
 use Rattle.station_doings.specs.States.{StationState}
 use Rattle.fleet_rounds.specs.Commands.{IsNewAt}

@@ -11,7 +11,7 @@ use Rattle.ason_base.specs.Network.{IsTopology, Network}
 use Rattle.hop_reliable.proofs.Members.{get_there, get_within}
 use Rattle.mesh_nodes.specs.LocalNodes.{is_neighbour}
 use Rattle.mesh_rules.specs.LocalNodes.{local_node}
-use Rattle.world_rules.specs.Runs.{is_channel}
+use Rattle.world_rules.specs.WorldRuns.{is_channel}
 use Rattle.world_rules.proofs.Untouched.{channels-join-neighbours}
 use Rattle.round_rules.specs.OneWorker.{ids_of}
 use Rattle.station_rings.specs.LinkStates.{LinkState}

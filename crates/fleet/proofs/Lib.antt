@@ -17,7 +17,7 @@ pub mod JoinOn
 pub mod JoinPlaces
 pub mod JoinStart
 pub mod JoinSteps
-pub mod Kept
+pub mod KeptSeats
 pub mod Lines
 pub mod Looked
 pub mod LooksTwice

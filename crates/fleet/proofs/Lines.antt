@@ -7,7 +7,7 @@ use Rattle.std.specs.List.{AllZip}
 use Rattle.ason_base.specs.declared.ids.NodeId.{NodeId}
 use Rattle.ason_base.specs.declared.commands.Disturb.{Disturb}
 use Rattle.ason_base.specs.Network.{IsTopology, Network}
-use Rattle.world_rules.specs.Runs.{is_channel}
+use Rattle.world_rules.specs.WorldRuns.{is_channel}
 use Rattle.world_rules.specs.Worlds.{World}
 use Rattle.world_rules.proofs.Stepping.{self_test}
 use Rattle.world_merge.specs.Deeds.{Heard}

@@ -11,7 +11,7 @@ use Rattle.fleet_rounds.specs.Fleets.{IsStationAt, Wires}
 use Rattle.fleet_rounds.proofs.Joined.{standing-is-a-record as stations-are-a-record}
 use Rattle.fleet_rounds.proofs.Nodes.{joins-nodes}
 use Rattle.fleet.specs.Commands.{lines_in, station_in}
-use Rattle.fleet.specs.Laws.{FullIsTheLogs, StandingHasMade, StandingIsARecord}
+use Rattle.fleet.specs.FleetLaws.{FullIsTheLogs, StandingHasMade, StandingIsARecord}
 use Rattle.fleet.proofs.Channels.{IsSeated, seated}
 use Rattle.fleet.proofs.Merged.{log_of_station}
 

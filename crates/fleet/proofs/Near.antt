@@ -8,7 +8,7 @@ use Rattle.ason_base.specs.declared.ids.NodeId.{NodeId}
 use Rattle.ason_base.specs.declared.network.NodeSpec.{NodeSpec}
 use Rattle.ason_base.specs.Network.{IsTopology, Network}
 use Rattle.hop_reliable.proofs.Members.{each-get, take_next}
-use Rattle.world_rules.specs.Runs.{is_channel, neighbours}
+use Rattle.world_rules.specs.WorldRuns.{is_channel, neighbours}
 use Rattle.round_rules.specs.OneWorker.{ids_of}
 use Rattle.fleet_rounds.proofs.Nodes.{AreApart, apart-ids}
 use Rattle.fleet.specs.Joining.{near_among}

@@ -11,7 +11,7 @@ use Rattle.ason_base.specs.declared.network.NodeSpec.{NodeSpec}
 use Rattle.ason_base.specs.Network.{Network}
 use Rattle.flood.proofs.Members.{place_of, there_from_place}
 use Rattle.hop_reliable.proofs.Members.{each-get, get_there}
-use Rattle.world_rules.specs.Runs.{is_channel, neighbours}
+use Rattle.world_rules.specs.WorldRuns.{is_channel, neighbours}
 use Rattle.world_rules.proofs.Stepping.{self_test}
 use Rattle.round_rules.specs.OneWorker.{ids_of}
 use Rattle.station_rings.specs.LinkStates.{LinkState}

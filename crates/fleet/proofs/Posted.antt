@@ -17,7 +17,7 @@ use Rattle.mesh_rules.specs.Commands.{has_backup_way, has_way, is_again, is_sear
 use Rattle.mesh_rules.specs.Failures.{failed_after}
 use Rattle.world_core.specs.Replays.{ingress_of}
 use Rattle.world_core.proofs.Posting.{failed-posted}
-use Rattle.world_rules.specs.Runs.{IsEnabled, step}
+use Rattle.world_rules.specs.WorldRuns.{IsEnabled, step}
 use Rattle.world_rules.specs.Worlds.{World}
 use Rattle.world_merge.specs.Deeds.{alone}
 use Rattle.round_rules.specs.Functions.{clock_of}

@@ -22,7 +22,7 @@ use Rattle.fleet.specs.Connections.{HaveSeats}
 use Rattle.fleet.specs.Rounds.{EndsRound, Rounds, StarvesRound}
 use Rattle.fleet.specs.Standing.{FleetState, StandsFor}
 use Rattle.fleet.specs.Views.{HasPublished, MayHavePublished, MayPublish, Publishes, publishers_of}
-use Rattle.fleet.proofs.Kept.{links_of, seats-kept}
+use Rattle.fleet.proofs.KeptSeats.{links_of, seats-kept}
 use Rattle.fleet.proofs.Places.{zip-self}
 
 -- Nothing differs but what is published

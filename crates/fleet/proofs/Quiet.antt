@@ -23,7 +23,7 @@ use Rattle.round_rules.specs.Records.{Record, deeds_at, world_of}
 use Rattle.station_doings.specs.States.{StationState}
 use Rattle.fleet_rounds.specs.Waiting.{is_quiet, is_quiet_at}
 use Rattle.fleet_rounds.proofs.Numbers.{same_number}
-use Rattle.fleet.specs.Laws.{QuietIsTheWorlds}
+use Rattle.fleet.specs.FleetLaws.{QuietIsTheWorlds}
 use Rattle.fleet.specs.Standing.{FleetState, StandsFor}
 use Rattle.fleet.specs.Waiting.{has_nothing}
 use Rattle.fleet.proofs.Merged.{fleet-merges, log_of_station}

@@ -8,7 +8,7 @@ use Rattle.rtrb.specs.Ring.{received}
 use Rattle.ason_base.specs.declared.ids.NodeId.{NodeId}
 use Rattle.ason_base.specs.Network.{IsTopology, Network}
 use Rattle.flood.proofs.Members.{place_of}
-use Rattle.world_rules.specs.Runs.{is_channel, neighbours}
+use Rattle.world_rules.specs.WorldRuns.{is_channel, neighbours}
 use Rattle.station_rings.specs.LinkStates.{LinkState, gone_of}
 use Rattle.station_doings.specs.Moves.{HasMoved}
 use Rattle.station_doings.specs.States.{StationState}

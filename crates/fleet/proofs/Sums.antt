@@ -14,7 +14,7 @@ use Rattle.mesh_rules.specs.LocalNodes.{LocalNode, local_node}
 use Rattle.mesh_rules.specs.Rows.{all_call_rows, all_leg_rows, call_rows, leg_rows}
 use Rattle.control_channels.specs.declared.adjacencies.Adjacency.{Adjacency}
 use Rattle.control_channels.specs.Adjacencies.{hop_at, hop_of, is_to, neighbours, peer_numbers}
-use Rattle.control_channels.specs.Kept.{unacknowledged}
+use Rattle.control_channels.specs.ReadyControllers.{unacknowledged}
 use Rattle.flood.specs.State.{pending_count}
 use Rattle.world_rules.specs.Images.{image}
 use Rattle.world_rules.specs.Standing.{NodeStands}

@@ -6,7 +6,7 @@ use Rattle.std.specs.List.{AllByRecursion, AllZip}
 use Rattle.ason_base.specs.declared.ids.NodeId.{NodeId}
 use Rattle.ason_base.specs.Network.{IsTopology, Network}
 use Rattle.hop_reliable.proofs.Members.{each-get, each-more}
-use Rattle.world_rules.specs.Runs.{neighbours}
+use Rattle.world_rules.specs.WorldRuns.{neighbours}
 use Rattle.world_rules.proofs.Stepping.{self_test}
 use Rattle.station_rings.specs.LinkStates.{LinkState}
 use Rattle.station_doings.specs.States.{StationState}

@@ -6,7 +6,7 @@ use Rattle.ason_base.specs.declared.commands.Command.{Command}
 use Rattle.ason_base.specs.declared.commands.Disturb.{Disturb}
 use Rattle.ason_base.specs.declared.commands.Event.TheVariants.{Post}
 use Rattle.ason_base.specs.Network.{Network}
-use Rattle.world_rules.specs.Runs.{IsEnabled}
+use Rattle.world_rules.specs.WorldRuns.{IsEnabled}
 use Rattle.round_rules.specs.Records.{Record, world_of}
 use Rattle.station_doings.specs.States.{StationState}
 use Rattle.fleet_rounds.specs.Commands.{named, noised, posted}

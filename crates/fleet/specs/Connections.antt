@@ -4,7 +4,7 @@ use Rattle.std.specs.List.{AllZip}
 use Rattle.rtrb.specs.Ring.{received}
 use Rattle.ason_base.specs.declared.ids.NodeId.{NodeId}
 use Rattle.ason_base.specs.Network.{IsTopology, Network}
-use Rattle.world_rules.specs.Runs.{is_channel}
+use Rattle.world_rules.specs.WorldRuns.{is_channel}
 use Rattle.station_rings.specs.LinkStates.{AreEnds, gone_of}
 use Rattle.round_rules.specs.OneWorker.{ids_of}
 use Rattle.station_doings.specs.States.{StationState}

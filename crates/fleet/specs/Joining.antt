@@ -4,9 +4,9 @@ use Rattle.std.specs.Prelude.{Some, slice_get, slice_set, IsTrue, if◌then◌el
 use Rattle.std.specs.List.{AllZip}
 use Rattle.ason_base.specs.declared.ids.NodeId.{NodeId}
 use Rattle.ason_base.specs.Network.{IsTopology, Network}
-use Rattle.control_channels.specs.Kept.{new_controller}
+use Rattle.control_channels.specs.ReadyControllers.{new_controller}
 use Rattle.mesh_nodes.specs.LocalNodes.{is_neighbour}
-use Rattle.world_rules.specs.Runs.{is_channel}
+use Rattle.world_rules.specs.WorldRuns.{is_channel}
 use Rattle.round_rules.specs.OneWorker.{ids_of}
 use Rattle.station_doings.specs.Entered.{me_of}
 use Rattle.station_doings.specs.Moves.{peers_of}

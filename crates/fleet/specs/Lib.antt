@@ -1,7 +1,7 @@
 pub mod Commands
 pub mod Connections
+pub mod FleetLaws
 pub mod Joining
-pub mod Laws
 pub mod Looks
 pub mod Noises
 pub mod Posting

@@ -3,7 +3,7 @@ use Rattle.std.specs.Prelude.{◌≡◌, ◌<◌, ◌==◌, ◌⊎◌, ℕ, true
 use Rattle.std.specs.List.{AllZip}
 use Rattle.ason_base.specs.declared.ids.NodeId.{NodeId}
 use Rattle.ason_base.specs.Network.{Network}
-use Rattle.world_rules.specs.Runs.{is_channel, neighbours}
+use Rattle.world_rules.specs.WorldRuns.{is_channel, neighbours}
 use Rattle.station_rings.specs.LinkStates.{AreEnds, AreFew, LinkState}
 use Rattle.round_rules.specs.OneWorker.{ids_of}
 use Rattle.station_doings.specs.States.{StationState}

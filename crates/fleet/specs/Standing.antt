@@ -6,7 +6,7 @@ use Rattle.ason_base.specs.declared.commands.Disturb.{Disturb}
 use Rattle.ason_base.specs.declared.commands.Entry.{Entry}
 use Rattle.ason_base.specs.declared.commands.Group.{Group}
 use Rattle.ason_base.specs.Network.{Network}
-use Rattle.world_rules.specs.Runs.{neighbours}
+use Rattle.world_rules.specs.WorldRuns.{neighbours}
 use Rattle.round_rules.specs.OneWorker.{ids_of}
 use Rattle.round_rules.specs.Records.{Record, log_at, posts_in, world_of}
 use Rattle.station_doings.specs.States.{StationState}

@@ -4,7 +4,7 @@ use Rattle.ason_base.specs.declared.calls.CallRow.{CallRow}
 use Rattle.ason_base.specs.declared.calls.LegRow.{LegRow}
 use Rattle.flood.specs.State.{pending_count}
 use Rattle.mesh_rules.specs.Rows.{call_rows, leg_rows}
-use Rattle.control_channels.specs.Kept.{unacknowledged}
+use Rattle.control_channels.specs.ReadyControllers.{unacknowledged}
 use Rattle.station_doings.specs.States.{StationState}
 
 abbrev pub unacked_of : StationState → ℕ

@@ -1,6 +1,6 @@
 //! Laws of fleets.
 
-ghost use Rattle.fleet.specs.Laws.{FullIsTheLogs, QuietIsTheWorlds, StandingHasMade, StandingIsARecord};
+ghost use Rattle.fleet.specs.FleetLaws.{FullIsTheLogs, QuietIsTheWorlds, StandingHasMade, StandingIsARecord};
 
 use log_merge::every_merging;
 

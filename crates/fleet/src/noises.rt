@@ -2,7 +2,7 @@
 
 ghost use Rattle.std.specs.Prelude.{◌≡◌, ◌==◌, ◌≤◌, ◌<◌, ◌*◌, ◌^◌, IfSome, OnErr, OnOk, false, length, true};
 ghost use Rattle.flood.specs.Frames.{SpellsNothing};
-ghost use Rattle.world_rules.specs.Runs.{is_channel};
+ghost use Rattle.world_rules.specs.WorldRuns.{is_channel};
 ghost use Rattle.fleet.specs.Commands.{Disturbs, Noises, is_full};
 ghost use Rattle.fleet.specs.Noises.{HasLine, Hears, sent_on};
 ghost use Rattle.station.specs.Watched.{ShowsNoiseMore};

@@ -6,7 +6,7 @@ use Rattle.std.specs.List.{AllZip, Contains, range_with_len}
 use Rattle.ason_base.specs.Network.{Network, is_node_id}
 use Rattle.ason_base.specs.declared.commands.Disturb.{Disturb}
 use Rattle.ason_base.specs.declared.ids.NodeId.{NodeId}
-use Rattle.world_rules.specs.Runs.{is_channel, neighbours}
+use Rattle.world_rules.specs.WorldRuns.{is_channel, neighbours}
 use Rattle.world_rules.specs.Worlds.{start}
 use Rattle.world_rules.proofs.Stepping.{self_test}
 use Rattle.world_merge.specs.Deeds.{AreDoable}

@@ -4,7 +4,7 @@ use Rattle.std.specs.Prelude.{◌+◌}
 use Rattle.ason_base.specs.declared.ids.NodeId.{NodeId}
 use Rattle.ason_base.specs.declared.commands.Event.TheVariants.{Post}
 use Rattle.ason_base.specs.Network.{Network}
-use Rattle.world_rules.specs.Runs.{step}
+use Rattle.world_rules.specs.WorldRuns.{step}
 use Rattle.world_rules.specs.Worlds.{World, start, with_event}
 use Rattle.world_rules.proofs.Stepping.{self_test}
 use Rattle.world_merge.specs.Deeds.{Deed, Heard, Posted, alone, done}

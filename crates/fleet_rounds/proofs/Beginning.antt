@@ -12,8 +12,8 @@ use Rattle.mesh_rules.specs.LocalNodes.{local_node}
 use Rattle.control_channels.specs.Adjacencies.{hop_at, hop_of, is_to, neighbours as hop_neighbours, new_adjacency}
 use Rattle.control_channels.specs.Adjacencies.{peer_numbers}
 use Rattle.control_channels.specs.Controllers.{ControllerState}
-use Rattle.control_channels.specs.Kept.{new_controller}
-use Rattle.world_rules.specs.Runs.{is_channel, neighbours}
+use Rattle.control_channels.specs.ReadyControllers.{new_controller}
+use Rattle.world_rules.specs.WorldRuns.{is_channel, neighbours}
 use Rattle.world_rules.specs.Standing.{NodeStands}
 use Rattle.world_rules.specs.Worlds.{start}
 use Rattle.world_merge.specs.Deeds.{Posted}

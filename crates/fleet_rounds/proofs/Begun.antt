@@ -7,7 +7,7 @@ use Rattle.rtrb.specs.Ring.{received}
 use Rattle.ason_base.specs.declared.ids.NodeId.{NodeId}
 use Rattle.ason_base.specs.declared.commands.Disturb.{Disturb}
 use Rattle.ason_base.specs.Network.{Network, is_node_id}
-use Rattle.world_rules.specs.Runs.{is_channel, neighbours}
+use Rattle.world_rules.specs.WorldRuns.{is_channel, neighbours}
 use Rattle.world_rules.proofs.Stepping.{self_test}
 use Rattle.station_rings.specs.LinkStates.{LinkState, gone_of}
 use Rattle.round_rules.specs.Doings.{Doing}

@@ -12,7 +12,7 @@ use Rattle.ason_base.proofs.Ordered.{any-there, contains-cases, contains-head, c
 use Rattle.flood.specs.declared.frames.Content.{Content}
 use Rattle.flood.proofs.Members.{there_from_flat_map, there_from_map, there_map}
 use Rattle.hop_reliable.proofs.Members.{get_within}
-use Rattle.world_rules.specs.Runs.{is_channel, neighbours}
+use Rattle.world_rules.specs.WorldRuns.{is_channel, neighbours}
 use Rattle.world_rules.specs.Worlds.{World, numbered_at, start}
 use Rattle.fleet_rounds.proofs.Numbers.{same_number}
 use Rattle.world_rules.proofs.Stepping.{self_test}

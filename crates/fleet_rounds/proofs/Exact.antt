@@ -8,7 +8,7 @@ use Rattle.ason_base.specs.declared.ids.NodeId.{NodeId}
 use Rattle.ason_base.specs.declared.commands.Disturb.{Disturb}
 use Rattle.ason_base.specs.Network.{Network}
 use Rattle.flood.proofs.Members.{there_from_map}
-use Rattle.world_rules.specs.Runs.{is_channel, neighbours}
+use Rattle.world_rules.specs.WorldRuns.{is_channel, neighbours}
 use Rattle.station_sound.specs.Links.{LinkView}
 use Rattle.station_sound.specs.Parcels.{IsSentOf}
 use Rattle.station_rings.specs.LinkStates.{LinkState, gone_of, view_of}

@@ -6,7 +6,7 @@ use Rattle.ason_base.specs.declared.ids.NodeId.{NodeId}
 use Rattle.ason_base.specs.Network.{Network}
 use Rattle.flood.specs.declared.frames.Content.{Content}
 use Rattle.hop_reliable.proofs.Members.{get-append_left}
-use Rattle.world_rules.specs.Runs.{is_channel, may_act}
+use Rattle.world_rules.specs.WorldRuns.{is_channel, may_act}
 use Rattle.world_rules.specs.Worlds.{World, numbered_at, start}
 use Rattle.world_merge.specs.Deeds.{AreDoable, Deed, Handled, Heard, Posted, Ticked, Took, alone, alone_from, done}
 use Rattle.world_merge.specs.Deeds.{sent_by, upto}

@@ -9,7 +9,7 @@ use Rattle.ason_base.specs.declared.commands.Disturb.{Disturb}
 use Rattle.ason_base.specs.declared.network.NodeSpec.{NodeSpec}
 use Rattle.ason_base.specs.Network.{IsTopology, Network, is_node_id}
 use Rattle.flood.proofs.Members.{there_from_map, there_map}
-use Rattle.world_rules.specs.Runs.{is_channel, neighbours}
+use Rattle.world_rules.specs.WorldRuns.{is_channel, neighbours}
 use Rattle.world_merge.specs.Histories.{at}
 use Rattle.world_merge.specs.Logs.{RisesAbove}
 use Rattle.station_sound.specs.Joins.{AreSound, IsJoined}
@@ -21,7 +21,7 @@ use Rattle.round_rules.specs.OneWorker.{ids_of}
 use Rattle.round_rules.specs.Records.{Record, deeds_at}
 use Rattle.station_doings.specs.States.{StationState, holding_of}
 use Rattle.fleet_rounds.specs.Fleets.{AreStanding, HasBegun, IsStationAt, Wires}
-use Rattle.fleet_rounds.specs.Laws.{StandingIsARecord}
+use Rattle.fleet_rounds.specs.RoundLaws.{StandingIsARecord}
 use Rattle.fleet_rounds.proofs.Choosing.{Beside, Chosen, choose, zip-beside, zip-more}
 use Rattle.fleet_rounds.proofs.Nodes.{apart-ids, channel-back, channel-near, joins-nodes, near-there, node-there}
 use Rattle.fleet_rounds.proofs.Wired.{link-peer}

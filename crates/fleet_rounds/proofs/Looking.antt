@@ -10,7 +10,7 @@ use Rattle.ason_base.specs.declared.ids.NodeId.{NodeId}
 use Rattle.ason_base.specs.declared.commands.Disturb.{Disturb}
 use Rattle.ason_base.specs.Network.{Network}
 use Rattle.ason_base.proofs.Ordered.{contains-head, contains-tail}
-use Rattle.world_rules.specs.Runs.{is_channel, neighbours}
+use Rattle.world_rules.specs.WorldRuns.{is_channel, neighbours}
 use Rattle.station_sound.specs.declared.parcels.Parcel.{Parcel}
 use Rattle.station_sound.specs.Links.{HasGot}
 use Rattle.station_rings.specs.LinkStates.{AreEnds, IsLooked, LinkState, gone_of, view_of}

@@ -9,7 +9,7 @@ use Rattle.ason_base.specs.declared.network.NodeSpec.{NodeSpec}
 use Rattle.ason_base.specs.Network.{IsTopology, Network, are_ends, is_node_id, node_number}
 use Rattle.ason_base.proofs.Ordered.{any-there, there-any}
 use Rattle.flood.proofs.Members.{there_filter, there_from_filter, there_from_map, there_map}
-use Rattle.world_rules.specs.Runs.{is_channel, neighbours}
+use Rattle.world_rules.specs.WorldRuns.{is_channel, neighbours}
 use Rattle.fleet_rounds.proofs.Numbers.{same_number}
 use Rattle.world_rules.proofs.Stepping.{self_test}
 use Rattle.round_rules.specs.OneWorker.{ids_of}

@@ -8,7 +8,7 @@ use Rattle.rtrb.specs.Ring.{received}
 use Rattle.ason_base.specs.Network.{Network, is_node_id}
 use Rattle.ason_base.specs.declared.commands.Disturb.{Disturb}
 use Rattle.ason_base.specs.declared.ids.NodeId.{NodeId}
-use Rattle.world_rules.specs.Runs.{is_channel, neighbours}
+use Rattle.world_rules.specs.WorldRuns.{is_channel, neighbours}
 use Rattle.station_rings.specs.LinkStates.{LinkState, gone_of}
 use Rattle.round_rules.specs.Doings.{Doing}
 use Rattle.round_rules.specs.Functions.{AreHeldAs, Popped}

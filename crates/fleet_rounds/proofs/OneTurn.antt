@@ -12,7 +12,7 @@ use Rattle.station_rings.specs.LinkStates.{LinkState}
 use Rattle.round_rules.specs.Doings.{Doing, Left, Waiting, deeds_in}
 use Rattle.round_rules.specs.Functions.{Popped}
 use Rattle.round_rules.specs.Halts.{HasHalted, IsCutTurnOf}
-use Rattle.round_rules.specs.Laws.{AddsATurn}
+use Rattle.round_rules.specs.RecordLaws.{AddsATurn}
 use Rattle.round_rules.specs.Limits.{turn_to}
 use Rattle.round_rules.specs.Lines.{says}
 use Rattle.round_rules.specs.Rings.{got_from, is_in}

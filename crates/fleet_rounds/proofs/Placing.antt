@@ -9,7 +9,7 @@ use Rattle.rtrb.specs.Ring.{known_items, received}
 use Rattle.ason_base.specs.declared.ids.NodeId.{NodeId}
 use Rattle.ason_base.specs.Network.{Network}
 use Rattle.hop_reliable.proofs.Members.{each-get}
-use Rattle.world_rules.specs.Runs.{is_channel}
+use Rattle.world_rules.specs.WorldRuns.{is_channel}
 use Rattle.world_rules.proofs.Stepping.{self_test}
 use Rattle.station_rings.specs.LinkStates.{LinkState, gone_of}
 use Rattle.round_rules.specs.OneWorker.{ids_of}

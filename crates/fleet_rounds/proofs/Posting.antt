@@ -15,7 +15,7 @@ use Rattle.ason_base.specs.declared.network.NodeSpec.{NodeSpec}
 use Rattle.ason_base.specs.Network.{IsTopology, Network, is_node_id}
 use Rattle.ason_base.proofs.Ordered.{contains-cases, contains-head, contains-none}
 use Rattle.hop_reliable.proofs.Members.{each-more}
-use Rattle.world_rules.specs.Runs.{IsEnabled, is_channel}
+use Rattle.world_rules.specs.WorldRuns.{IsEnabled, is_channel}
 use Rattle.world_rules.specs.Worlds.{World, start}
 use Rattle.world_rules.proofs.Untouched.{others-are-untouched}
 use Rattle.world_merge.specs.Deeds.{AreDoable, Deed, Posted, alone, stamp_of}

@@ -10,7 +10,7 @@ use Rattle.ason_base.specs.declared.commands.Event.{Event}
 use Rattle.ason_base.specs.declared.commands.Event.TheVariants.{Deliver, Noise, Tick, Desk, Post}
 use Rattle.ason_base.specs.Network.{Network}
 use Rattle.mesh_rules.specs.Commands.{is_again, is_valid}
-use Rattle.world_rules.specs.Runs.{IsEnabled}
+use Rattle.world_rules.specs.WorldRuns.{IsEnabled}
 use Rattle.world_merge.specs.Deeds.{Deed, Handled, Heard, Posted, Ticked, Took, alone}
 use Rattle.world_merge.specs.Histories.{at}
 use Rattle.world_merge.specs.Logs.{is_posted, posts_of}

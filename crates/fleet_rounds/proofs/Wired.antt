@@ -6,7 +6,7 @@ use Rattle.ason_base.specs.declared.ids.NodeId.{NodeId}
 use Rattle.ason_base.specs.declared.commands.Disturb.{Disturb}
 use Rattle.ason_base.specs.Network.{Network, is_node_id}
 use Rattle.flood.proofs.Members.{there_map}
-use Rattle.world_rules.specs.Runs.{is_channel, neighbours}
+use Rattle.world_rules.specs.WorldRuns.{is_channel, neighbours}
 use Rattle.world_merge.specs.Deeds.{sent_by}
 use Rattle.station_sound.specs.Links.{LinkView}
 use Rattle.station_sound.specs.Stations.{IsSound, LinkIsSound}

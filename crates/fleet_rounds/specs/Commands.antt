@@ -6,8 +6,8 @@ use Rattle.ason_base.specs.declared.commands.Command.{Command}
 use Rattle.ason_base.specs.declared.commands.Disturb.{Disturb}
 use Rattle.ason_base.specs.declared.commands.Event.TheVariants.{Noise, Post}
 use Rattle.ason_base.specs.Network.{IsTopology, Network}
-use Rattle.control_channels.specs.Kept.{new_controller}
-use Rattle.world_rules.specs.Runs.{IsEnabled, is_channel, neighbours, step}
+use Rattle.control_channels.specs.ReadyControllers.{new_controller}
+use Rattle.world_rules.specs.WorldRuns.{IsEnabled, is_channel, neighbours, step}
 use Rattle.world_merge.specs.Deeds.{Heard, Posted, alone}
 use Rattle.world_merge.specs.Histories.{at}
 use Rattle.world_merge.specs.Posts.{HasSamePosts}

@@ -6,7 +6,7 @@ use Rattle.rtrb.specs.Ring.{known_items, received}
 use Rattle.ason_base.specs.declared.ids.NodeId.{NodeId}
 use Rattle.ason_base.specs.declared.commands.Disturb.{Disturb}
 use Rattle.ason_base.specs.Network.{IsTopology, Network, is_node_id}
-use Rattle.world_rules.specs.Runs.{is_channel, neighbours}
+use Rattle.world_rules.specs.WorldRuns.{is_channel, neighbours}
 use Rattle.world_merge.specs.Histories.{at}
 use Rattle.world_merge.specs.Logs.{RisesAbove, is_posted, posts_of}
 use Rattle.station_sound.specs.Joins.{HasPosts}

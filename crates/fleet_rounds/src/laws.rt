@@ -3,7 +3,7 @@
 ghost use Rattle.fleet_rounds.specs.Commands.{CutRoundsPostNothing, LinesStandFor, NewStationsStand, NoiseIsAStep};
 ghost use Rattle.fleet_rounds.specs.Commands.{NoiseStandsFor, PostsAreSteps, PostsStandFor, RoundsPostNothing};
 ghost use Rattle.fleet_rounds.specs.Gaps.{DeedsAreFew, LimitsAreLogs, PostsStillFollow, StampsAreFew};
-ghost use Rattle.fleet_rounds.specs.Laws.{StandingIsARecord};
+ghost use Rattle.fleet_rounds.specs.RoundLaws.{StandingIsARecord};
 ghost use Rattle.fleet_rounds.specs.Looks.{KnownHaveBegun, LooksStand, LooksTell};
 ghost use Rattle.fleet_rounds.specs.OneWorker.{LooksGoOn, LooksHadBegun, NodesGoOn, RoundsBegin, RoundsEnd};
 ghost use Rattle.fleet_rounds.specs.OneWorker.{StationsArePlaced};

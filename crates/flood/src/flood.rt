@@ -6,7 +6,7 @@ ghost use Rattle.flood.specs.State.{IsCounted, IsStart, declared_row, has_room, 
 use crate::known::KnownRows;
 use crate::messages::FloodMsg;
 use crate::neighbours::{
-    Neighbour, age_neighbours, new_all, pending, push_first_sendings, queue_all, rising,
+    FloodNeighbour, age_neighbours, new_all, pending, push_first_sendings, queue_all, rising,
     sent_at_tick, take_ack, unqueue_first,
 };
 use crate::sends::{FloodOut, FloodSends};
@@ -19,7 +19,7 @@ use std::marker::Model;
 pub struct Flood {
     me: NodeId,
     known: KnownRows,
-    neighbours: Vec<Neighbour>,
+    neighbours: Vec<FloodNeighbour>,
 }
 
 impl Model for Flood {

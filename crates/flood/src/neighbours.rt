@@ -15,13 +15,13 @@ use std::marker::Model;
 
 /// A neighbour, the last number that a row due to it got, and the rows that it hasn't acknowledged, in order of number.
 #[derive(Drop)]
-pub struct Neighbour {
+pub struct FloodNeighbour {
     id: NodeId,
     sent: u32,
     due: VecDeque<Due>,
 }
 
-impl Model for Neighbour {
+impl Model for FloodNeighbour {
     ghost use Rattle.flood.specs.State.{IsInOrder, NeighbourState};
 
     ghost Value = { NeighbourState };
@@ -31,12 +31,12 @@ impl Model for Neighbour {
     ghost invariant = { λ n. IsInOrder n.sent n.due.items };
 }
 
-impl Neighbour {
+impl FloodNeighbour {
     /// A neighbour to which no row is due.
-    pub fn new(alloc: Global, id: NodeId) -> Neighbour
+    pub fn new(alloc: Global, id: NodeId) -> FloodNeighbour
         ensures { result ≡ fresh id }
     {
-        Neighbour {
+        FloodNeighbour {
             id,
             sent: 0,
             due: VecDeque::new(alloc),
@@ -163,12 +163,12 @@ impl Neighbour {
     }
 }
 
-impl Copied for Neighbour {
-    fn copy(&self, alloc: Global) -> Result<Neighbour, OutOfMemory>
+impl Copied for FloodNeighbour {
+    fn copy(&self, alloc: Global) -> Result<FloodNeighbour, OutOfMemory>
         ensures { IfOk result (λ n. n ≡ self.now) }
     {
         let due = copies(alloc, &self.due)?;
-        Ok(Neighbour {
+        Ok(FloodNeighbour {
             id: self.id,
             sent: self.sent,
             due,
@@ -204,7 +204,7 @@ fn push_due(
 /// Makes the row due to each neighbour but the one that it came from. Where memory runs out, nothing has changed.
 pub(crate) fn queue_all(
     alloc: Global,
-    neighbours: &mut [Neighbour],
+    neighbours: &mut [FloodNeighbour],
     from: Option<NodeId>,
     origin: NodeId,
     age: Option<u8>,
@@ -225,7 +225,7 @@ pub(crate) fn queue_all(
 }
 
 /// Takes back the row that became due last to the first ones of these, but to the one that it came from.
-pub(crate) fn unqueue_first(neighbours: &mut [Neighbour], count: usize, from: Option<NodeId>)
+pub(crate) fn unqueue_first(neighbours: &mut [FloodNeighbour], count: usize, from: Option<NodeId>)
     requires { count ≤ length neighbours.old }
     ensures { neighbours.new ≡ map (unqueued_unless from) (take count neighbours.old) ++
         drop count neighbours.old }
@@ -236,7 +236,7 @@ pub(crate) fn unqueue_first(neighbours: &mut [Neighbour], count: usize, from: Op
 }
 
 /// Takes off the row that a neighbour acknowledged.
-pub(crate) fn take_ack(neighbours: &mut [Neighbour], from: NodeId, number: u32)
+pub(crate) fn take_ack(neighbours: &mut [FloodNeighbour], from: NodeId, number: u32)
     ensures { neighbours.new ≡ map (acked_by from number) neighbours.old }
 {
     for n in neighbours.iter_mut() {
@@ -245,7 +245,7 @@ pub(crate) fn take_ack(neighbours: &mut [Neighbour], from: NodeId, number: u32)
 }
 
 /// Makes all that is due a tick older.
-pub(crate) fn age_neighbours(neighbours: &mut [Neighbour])
+pub(crate) fn age_neighbours(neighbours: &mut [FloodNeighbour])
     ensures { neighbours.new ≡ map older_neighbour neighbours.old }
 {
     for n in neighbours.iter_mut() {
@@ -257,7 +257,7 @@ pub(crate) fn age_neighbours(neighbours: &mut [Neighbour])
 pub(crate) fn push_first_sendings(
     alloc: Global,
     sends: &mut FloodSends,
-    neighbours: &[Neighbour],
+    neighbours: &[FloodNeighbour],
     from: NodeId,
     origin: NodeId,
     row: &TeRow,
@@ -277,7 +277,7 @@ pub(crate) fn push_first_sendings(
 /// What goes out in the tick, by neighbour, then number.
 pub(crate) fn sent_at_tick(
     alloc: Global,
-    neighbours: &[Neighbour],
+    neighbours: &[FloodNeighbour],
 ) -> Result<FloodSends, OutOfMemory>
     ensures { IfOk result (λ sends. sends ≡ flat_map sent_to neighbours.now) }
 {
@@ -289,7 +289,7 @@ pub(crate) fn sent_at_tick(
 }
 
 /// How many rows are due to these neighbours.
-pub(crate) fn pending(neighbours: &[Neighbour]) -> usize
+pub(crate) fn pending(neighbours: &[FloodNeighbour]) -> usize
     requires { sum_by (λ n. length n.due) neighbours.now < 2 ^ 64 }
     ensures { result ≡ sum_by (λ n. length n.due) neighbours.now }
 {
@@ -316,13 +316,13 @@ pub(crate) fn rising(alloc: Global, ids: &[NodeId]) -> Result<Vec<u32>, OutOfMem
 }
 
 /// A neighbour for each number, to which no row is due.
-pub(crate) fn new_all(alloc: Global, numbers: &[u32]) -> Result<Vec<Neighbour>, OutOfMemory>
+pub(crate) fn new_all(alloc: Global, numbers: &[u32]) -> Result<Vec<FloodNeighbour>, OutOfMemory>
     ensures all { IfOk result (λ ns. ns.items ≡ map (λ n. fresh (record { 0 = n })) numbers.now) }
     ensures small { (k : ℕ) → slice_index numbers.now k < 2 ^ 32 }
 {
     let mut all = Vec::with_capacity(alloc, numbers.len())?;
     for n in numbers {
-        all.push(Neighbour::new(alloc, NodeId(*n)))?;
+        all.push(FloodNeighbour::new(alloc, NodeId(*n)))?;
     }
     Ok(all)
 }

@@ -31,7 +31,7 @@ use Rattle.mesh_rules.specs.Pairs.{backup_lsp, backup_route, beside_lsp, guardin
 use Rattle.mesh_rules.specs.Paths.{recorded, role_of}
 use Rattle.mesh_rules.specs.State.{NodeState}
 use Rattle.mesh_rules.specs.Turns.{decide, decided, go_back, has_any, turn}
-use Rattle.mesh_nodes.specs.Kept.{LegFits}
+use Rattle.mesh_nodes.specs.FitNodes.{LegFits}
 use Rattle.mesh_nodes.specs.LocalNodes.{LocalNodeFits}
 use Rattle.mesh_nodes.proofs.Cases.{if_cases}
 use Rattle.mesh_nodes.proofs.ChosenLabels.{least-has}

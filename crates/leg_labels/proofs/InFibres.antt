@@ -10,7 +10,7 @@ use Rattle.ason_base.specs.Network.{other_end}
 use Rattle.mesh_rules.specs.declared.neighbours.Neighbour.{Neighbour}
 use Rattle.mesh_rules.specs.Legs.{find_leg, previous, reverse}
 use Rattle.mesh_rules.specs.LocalNodes.{LocalNode, fibre_in, fibre_out, leads, own_link}
-use Rattle.mesh_nodes.specs.Kept.{LegFits}
+use Rattle.mesh_nodes.specs.FitNodes.{LegFits}
 use Rattle.mesh_nodes.specs.LocalNodes.{LocalNodeFits, is_upstream}
 use Rattle.mesh_nodes.proofs.LegList.{found-all}
 use Rattle.mesh_nodes.proofs.Links.{end-downstream, sender-upstream}

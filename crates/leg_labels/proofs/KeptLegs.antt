@@ -17,7 +17,7 @@ use Rattle.mesh_rules.specs.declared.changes.LegChange.{LegChange}
 use Rattle.mesh_rules.specs.declared.changes.LegChange.TheVariants.{Goes, Put}
 use Rattle.mesh_nodes.specs.LocalNodes.{LocalNodeFits}
 use Rattle.mesh_nodes.specs.Order as order
-use Rattle.mesh_nodes.proofs.Kept.{length-replaced}
+use Rattle.mesh_nodes.proofs.FitLists.{length-replaced}
 use Rattle.mesh_nodes.proofs.LegList.{find-with_leg, find-without_leg, same_lsp-eq}
 use Rattle.leg_table.specs.Fits.{OwnLegsFit, TablesFit}
 use Rattle.leg_table.specs.LegClaims.{AreOfOneNode, ClaimsFit, GuardsFit, LabelsFit, MarksJust, MayAllStay, MayStay, OwnerFits, SameFibres, SharesStay, StaysAs}

@@ -28,11 +28,11 @@ use Rattle.mesh_rules.specs.Paths.{PathRequest, admitted, at_egress, back_label,
 use Rattle.mesh_rules.specs.Resvs.{answered, is_expected, labels_left, on_resv, passed_back, resv_with}
 use Rattle.mesh_rules.specs.State.{NodeState}
 use Rattle.mesh_rules.specs.Tears.{on_tear, tear_with, torn}
-use Rattle.mesh_nodes.specs.Kept.{LegFits}
+use Rattle.mesh_nodes.specs.FitNodes.{LegFits}
 use Rattle.mesh_nodes.specs.LocalNodes.{LocalNodeFits, is_upstream}
 use Rattle.mesh_nodes.proofs.Cases.{both_left, both_right, if_cases}
 use Rattle.mesh_nodes.proofs.ChosenLabels.{back-has, has-right, least-has, through-has}
-use Rattle.mesh_nodes.proofs.Kept.{alone-fibre, connected-fits, over-fibre}
+use Rattle.mesh_nodes.proofs.FitLists.{alone-fibre, connected-fits, over-fibre}
 use Rattle.mesh_nodes.proofs.LabelPlaces.{at-is, back_in-taken, either, same_fibre-refl}
 use Rattle.mesh_nodes.proofs.LegList.{found-all}
 use Rattle.mesh_nodes.proofs.Links.{any-found}

@@ -7,7 +7,7 @@ use Rattle.mesh_rules.specs.Changes.{Answer, changed, nothing}
 use Rattle.mesh_rules.specs.Legs.{legs_changed}
 use Rattle.mesh_rules.specs.Messages.{on_message}
 use Rattle.mesh_rules.specs.State.{NodeState}
-use Rattle.mesh_nodes.specs.Kept.{LegsFit, NodeFits}
+use Rattle.mesh_nodes.specs.FitNodes.{LegsFit, NodeFits}
 use Rattle.mesh_nodes.specs.LocalNodes.{LocalNodeFits}
 use Rattle.mesh_nodes.proofs.Messages.{messages-fit}
 use Rattle.leg_table.specs.Fits.{OwnLegsFit, legs_after}

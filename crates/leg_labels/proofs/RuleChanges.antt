@@ -40,7 +40,7 @@ use Rattle.mesh_rules.specs.Reverts.{on_revert}
 use Rattle.mesh_rules.specs.Setups.{SetupRequest, begins, is_order_here, is_spent, new_call, next_lsp, on_setup, over_first, over_found, setup_with, working_lsp}
 use Rattle.mesh_rules.specs.State.{NodeState}
 use Rattle.mesh_rules.specs.Waits.{on_tick}
-use Rattle.mesh_nodes.specs.Kept.{CallFits, LegFits}
+use Rattle.mesh_nodes.specs.FitNodes.{CallFits, LegFits}
 use Rattle.mesh_nodes.specs.LocalNodes.{LocalNodeFits}
 use Rattle.mesh_nodes.proofs.Cases.{if_cases}
 use Rattle.mesh_nodes.proofs.LegList.{find-with_leg, found-lsp, same_lsp-eq}

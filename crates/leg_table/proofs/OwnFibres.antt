@@ -13,7 +13,7 @@ use Rattle.mesh_rules.specs.declared.changes.LegChange.TheVariants.{Goes, Put}
 use Rattle.mesh_rules.specs.declared.neighbours.Neighbour.{Neighbour}
 use Rattle.mesh_rules.specs.Legs.{is_at, leg_changed, neighbour_over, reverse, reverse_of, sends, takes}
 use Rattle.mesh_rules.specs.LocalNodes.{LocalNode, fibre_in, fibre_out}
-use Rattle.mesh_nodes.specs.Kept.{LegFits}
+use Rattle.mesh_nodes.specs.FitNodes.{LegFits}
 use Rattle.mesh_nodes.specs.LocalNodes.{IsOwnLink, LocalNodeFits, is_downstream, is_upstream}
 use Rattle.mesh_nodes.proofs.LabelPlaces.{at-is, either, or-first, or-second}
 use Rattle.leg_table.specs.LegClaims.{GetsMark, KeepsMark, MayAllMark, MayMark, OverOwnFibres, is_fibre_in, is_own_fibre}

@@ -5,7 +5,7 @@ use Rattle.link_owner.specs.Owners.{OwnerState}
 use Rattle.share_check.specs.Guards.{Guard}
 use Rattle.mesh_rules.specs.Changes.{Answer}
 use Rattle.mesh_rules.specs.Legs.{legs_changed}
-use Rattle.mesh_nodes.specs.Kept.{LegsFit}
+use Rattle.mesh_nodes.specs.FitNodes.{LegsFit}
 use Rattle.mesh_nodes.specs.LocalNodes.{LocalNodeFits}
 use Rattle.leg_table.specs.LegClaims.{AreOfOneNode, ClaimsFit, OwnerFits}
 use Rattle.leg_table.specs.States.{learnt_rows, local_of}

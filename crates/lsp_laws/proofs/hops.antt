@@ -58,6 +58,6 @@ pub mod DeskSteps
 pub mod Run
 pub mod Law
 pub mod NamedPhases
-pub mod Laws
+pub mod HopLaws
 pub mod Joined
 pub mod JoinedLegs

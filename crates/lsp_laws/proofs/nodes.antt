@@ -16,7 +16,7 @@ pub mod ClosedLegs
 pub mod ConnectedLegs
 pub mod Decides
 pub mod Facts
-pub mod Laws
+pub mod NodeLaws
 pub mod LegEnds
 pub mod LegParts
 pub mod Marks
@@ -30,7 +30,7 @@ pub mod PathKeeps
 pub mod PhaseLegs
 pub mod ReleaseKeeps
 pub mod RevertKeeps
-pub mod Runs
+pub mod NodeRuns
 pub mod Searches
 pub mod SetupKeeps
 pub mod Sharing

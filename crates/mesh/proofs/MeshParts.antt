@@ -23,7 +23,7 @@ use Rattle.mesh_rules.specs.Waits.{on_tick}
 use Rattle.mesh_rules.specs.Messages.{on_message}
 use Rattle.mesh_rules.specs.Machine.{commit, sent_to, without_first, without_item, with_item}
 use Rattle.mesh_rules.specs.Events.{on_first, on_first_item, step}
-use Rattle.mesh.specs.Kept.{Kept, desk_of, is_between, is_waiting, mail_of, mesh_of, put_state, sent_by, state_at}
+use Rattle.mesh.specs.MeshLists.{Kept, desk_of, is_between, is_waiting, mail_of, mesh_of, put_state, sent_by, state_at}
 use Rattle.mesh.proofs.Firsts.{filter-other, first_of}
 use Rattle.mesh.proofs.NodePlaces.{state_at-put}
 

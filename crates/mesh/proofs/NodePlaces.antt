@@ -16,7 +16,7 @@ use Rattle.node_rules.specs.declared.inputs.Input.TheVariants.{Message, Desk, Ti
 use Rattle.node_rules.specs.Nodes.{MayTake, NodeView, answer_to}
 use Rattle.mesh_rules.specs.Changes.{Answer, changed}
 use Rattle.mesh_rules.specs.State.{NodeState, new_node}
-use Rattle.mesh.specs.Kept.{AreOfNetwork, IsOfNetwork, MayCome, Seats, is_node, node_at, put_state, state_at, state_of}
+use Rattle.mesh.specs.MeshLists.{AreOfNetwork, IsOfNetwork, MayCome, Seats, is_node, node_at, put_state, state_at, state_of}
 use Rattle.leg_table.proofs.Places.{position-nowhere}
 
 -- What holds of an Ok

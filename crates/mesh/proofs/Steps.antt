@@ -20,7 +20,7 @@ use Rattle.mesh_rules.specs.Learnt.{on_link, on_row}
 use Rattle.mesh_rules.specs.LocalNodes.{local_node}
 use Rattle.mesh_rules.specs.Machine.{Mesh, commit, with_item}
 use Rattle.mesh_rules.specs.Events.{step}
-use Rattle.mesh.specs.Kept.{IsStep, Kept, Seats, acted, desk_of, is_between, is_waiting, mail_of, mesh_of, node_at, row_in, sent_at, state_at}
+use Rattle.mesh.specs.MeshLists.{IsStep, Kept, Seats, acted, desk_of, is_between, is_waiting, mail_of, mesh_of, node_at, row_in, sent_at, state_at}
 use Rattle.mesh.proofs.Firsts.{none_of}
 use Rattle.mesh.proofs.MeshParts.{mesh_of-commit, mesh_of-take, mesh_of-handle, mesh_of-order, mesh_of-tick}
 

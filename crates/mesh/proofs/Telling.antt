@@ -15,7 +15,7 @@ use Rattle.ason_base.specs.Network.{IsTopology}
 use Rattle.mesh_rules.specs.Failures.{all_news, changed_news, is_cut, link_news}
 use Rattle.mesh_rules.proofs.LinkNews.{HasEnds, all-ends}
 use Rattle.mesh.specs.declared.queues.Waiting.{Waiting}
-use Rattle.mesh.specs.Kept.{HasFailed, Kept, desk_of, mail_of, state_at, told_at, told_of}
+use Rattle.mesh.specs.MeshLists.{HasFailed, Kept, desk_of, mail_of, state_at, told_at, told_of}
 
 desk_of-append : (n : ℕ) (xs ys : List Waiting) → desk_of n (xs ++ ys) ≡ desk_of n xs ++ desk_of n ys
 desk_of-append n xs ys = rw (filter-append, map-append) refl

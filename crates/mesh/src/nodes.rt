@@ -9,7 +9,7 @@ ghost use Rattle.mesh_rules.specs.LocalNodes.{local_node};
 ghost use Rattle.mesh_rules.specs.Rows.{call_rows, leg_rows};
 ghost use Rattle.node_rules.specs.Nodes.{IsAnswerOf, answer_to};
 ghost use Rattle.mesh_nodes.specs.Routes.{AreRowsOf, IsRowOf};
-ghost use Rattle.mesh.specs.Kept.{MayCome, is_node, node_at, row_in, state_at, with_state};
+ghost use Rattle.mesh.specs.MeshLists.{MayCome, is_node, node_at, row_in, state_at, with_state};
 
 use ason_base::routes::{other_end, touches};
 use ason_base::{
@@ -28,13 +28,13 @@ fn ends_at(t: &Topology, node: NodeId, link: LinkId) -> bool
 
 /// The network, and the nodes that have had an input.
 #[derive(Drop)]
-pub(crate) struct Nodes {
+pub(crate) struct MeshNodes {
     network: Topology,
     nodes: Vec<Node>,
 }
 
-impl Model for Nodes {
-    ghost use Rattle.mesh.specs.Kept as kept;
+impl Model for MeshNodes {
+    ghost use Rattle.mesh.specs.MeshLists as kept;
 
     ghost Value = { kept.Seats };
 
@@ -43,12 +43,12 @@ impl Model for Nodes {
     ghost invariant = { λ s. kept.AreOfNetwork (record { network = s.network; nodes = s.nodes.items }) };
 }
 
-impl Nodes {
+impl MeshNodes {
     /// No node has had an input.
-    pub(crate) fn new(alloc: Global, t: &Topology) -> Result<Nodes, OutOfMemory>
+    pub(crate) fn new(alloc: Global, t: &Topology) -> Result<MeshNodes, OutOfMemory>
         ensures { IfOk result (λ s. s ≡ record { network = t.now; nodes = [] }) }
     {
-        Ok(Nodes {
+        Ok(MeshNodes {
             network: t.copy(alloc)?,
             nodes: Vec::new(alloc),
         })

@@ -2,7 +2,7 @@
 
 ghost use Rattle.std.specs.Prelude.{◌≡◌, ◌==◌, ◌≤◌, ◌+◌, ◌∷◌, ◌++◌, ℕ, [], IfOk, OnErr, OnOk, false, flat_map, length, map, position, vec_capacity, vec_len};
 ghost use Rattle.ason_base.specs.declared.commands.DeskItem.TheVariants.{Order};
-ghost use Rattle.mesh.specs.Kept.{is_between, is_waiting, sent_by, told_at, told_of};
+ghost use Rattle.mesh.specs.MeshLists.{is_between, is_waiting, sent_by, told_at, told_of};
 
 use ason_base::{
     Command, Copied, DeskItem, Group, LinkSpec, Msg, NodeId, Out, OutOfMemory, Outs, Topology,

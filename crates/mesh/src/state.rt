@@ -9,9 +9,9 @@ ghost use Rattle.mesh_rules.specs.Rows.{all_call_rows, all_leg_rows};
 ghost use Rattle.mesh_rules.specs.declared.events.MeshEvent.{MeshEvent};
 ghost use Rattle.mesh_rules.specs.Quiet.{IsQuiet};
 ghost use Rattle.mesh_nodes.specs.Routes.{IsRowOf};
-ghost use Rattle.mesh.specs.Kept.{HasFailed, IsStep, MayCome, acted, desk_of, fault_if, is_between, is_waiting, mail_of, mesh_of, row_in, sent_at};
+ghost use Rattle.mesh.specs.MeshLists.{HasFailed, IsStep, MayCome, acted, desk_of, fault_if, is_between, is_waiting, mail_of, mesh_of, row_in, sent_at};
 
-use crate::nodes::Nodes;
+use crate::nodes::MeshNodes;
 use crate::queues::{Sent, Waiting, first_item, first_message, news, order, send};
 use ason_base::{
     CallNo, Command, Copied, Group, LinkId, NodeId, OutOfMemory, TableRows, TeRow, Topology,
@@ -26,7 +26,7 @@ use std::marker::Model;
 // Carries out what an input does at the node, and puts what it sends at the end. After want of memory nothing has changed.
 fn act(
     alloc: Global,
-    nodes: &mut Nodes,
+    nodes: &mut MeshNodes,
     mail: &mut Vec<Sent>,
     node: NodeId,
     input: &Input,
@@ -59,7 +59,7 @@ fn is_nothing<T>(items: &[T]) -> bool
 /// failed.
 #[derive(Drop)]
 pub struct MeshState {
-    nodes: Nodes,
+    nodes: MeshNodes,
     desks: Vec<Waiting>,
     mail: Vec<Sent>,
     posted: Vec<CallNo>,
@@ -67,7 +67,7 @@ pub struct MeshState {
 }
 
 impl Model for MeshState {
-    ghost use Rattle.mesh.specs.Kept.{Kept};
+    ghost use Rattle.mesh.specs.MeshLists.{Kept};
 
     ghost Value = { Kept };
 
@@ -87,7 +87,7 @@ impl MeshState {
         ensures network { IfOk result (λ s. s.seats.network ≡ t.now) }
     {
         Ok(MeshState {
-            nodes: Nodes::new(alloc, t)?,
+            nodes: MeshNodes::new(alloc, t)?,
             desks: Vec::new(alloc),
             mail: Vec::new(alloc),
             posted: Vec::new(alloc),

@@ -1,3 +1,4 @@
+pub mod AloneRuns
 pub mod CallAnswers
 pub mod Calls
 pub mod Calm
@@ -15,4 +16,3 @@ pub mod One
 pub mod Reports
 pub mod Risks
 pub mod RouteRisks
-pub mod Runs

@@ -1,6 +1,6 @@
 pub mod Calls
 pub mod Items
+pub mod KeptRuns
 pub mod Messages
 pub mod Phases
 pub mod Places
-pub mod Runs

@@ -13,7 +13,7 @@ pub mod StandingCalls
 pub mod GentleRules
 pub mod GentleSteps
 pub mod KnownFibres
-pub mod Laws
+pub mod ReportLaws
 pub mod LinkNews
 pub mod NewParts
 pub mod NewCalls
@@ -25,6 +25,6 @@ pub mod OnTheWay
 pub mod OwnLinks
 pub mod OwnNotices
 pub mod Reported
-pub mod Runs
+pub mod ReportRuns
 pub mod Steps
 pub mod Ticks

@@ -2,11 +2,11 @@ pub mod AloneLaw
 pub mod ContendLaw
 pub mod HeardLaw
 pub mod KnownLaw
-pub mod Laws
 pub mod OrderLaw
 pub mod RestLaw
 pub mod RestorationLaw
 pub mod SafeLaw
+pub mod StateLaws
 pub mod Survey
 pub mod SurveyLaw
 pub mod Weights

@@ -15,7 +15,7 @@ ghost use Rattle.mesh_laws.specs.AloneLaw.{EveryActivationIsAdmitted, EveryRunSt
 ghost use Rattle.mesh_laws.specs.ContendLaw.{NoContend};
 ghost use Rattle.mesh_laws.specs.HeardLaw.{EveryListIsLawful};
 ghost use Rattle.mesh_laws.specs.KnownLaw.{EveryKnownFibreComesIn};
-ghost use Rattle.mesh_laws.specs.Laws.{EveryRunKeepsTheLaws};
+ghost use Rattle.mesh_laws.specs.StateLaws.{EveryRunKeepsTheLaws};
 ghost use Rattle.mesh_laws.specs.OrderLaw.{EveryCallIsOrdered};
 ghost use Rattle.mesh_laws.specs.RestLaw.{EveryRestIsQuiet, EveryRunEnds, EveryRunRests};
 ghost use Rattle.mesh_laws.specs.RestorationLaw.{EveryHitCallIsRestored};

@@ -14,13 +14,13 @@ use Rattle.mesh_rules.specs.Calls.{call_with}
 use Rattle.mesh_rules.specs.Legs.{is_armed, is_beyond_asked, previous, with_leg, with_phase}
 use Rattle.mesh_rules.specs.LocalNodes.{LocalNode}
 use Rattle.mesh_rules.specs.State.{NodeState}
-use Rattle.mesh_nodes.specs.Kept.{LegFits, LegsFit, NodeFits}
+use Rattle.mesh_nodes.specs.FitNodes.{LegFits, LegsFit, NodeFits}
 use Rattle.mesh_nodes.specs.LocalNodes.{LocalNodeFits}
 use Rattle.mesh_nodes.specs.Sent.{AnswerFits}
 use Rattle.mesh_nodes.proofs.CallSteps.{contended-call-fits, turned-call-fits}
 use Rattle.mesh_nodes.proofs.Cases.{both_left, if_cases, not-false}
 use Rattle.mesh_nodes.proofs.Followed.{after-puts}
-use Rattle.mesh_nodes.proofs.Kept.{alone-fibre, armed-beyond, legs-changed, phase-fits}
+use Rattle.mesh_nodes.proofs.FitLists.{alone-fibre, armed-beyond, legs-changed, phase-fits}
 use Rattle.mesh_nodes.proofs.LegList.{find-with_leg, same_lsp-refl}
 use Rattle.mesh_nodes.proofs.Paths.{nothing-fits}
 use Rattle.mesh_nodes.proofs.Stands.{Stands, previous-is_near, resv-sent}

@@ -16,11 +16,11 @@ use Rattle.mesh_rules.specs.Legs.{find_leg, following, is_active_backup, is_beyo
 use Rattle.mesh_rules.specs.LocalNodes.{LocalNode, own_link}
 use Rattle.mesh_rules.specs.Paths.{PathRequest, on_path, path_with}
 use Rattle.mesh_rules.specs.State.{NodeState}
-use Rattle.mesh_nodes.specs.Kept.{LegsFit, NodeFits}
+use Rattle.mesh_nodes.specs.FitNodes.{LegsFit, NodeFits}
 use Rattle.mesh_nodes.specs.LocalNodes.{LocalNodeFits}
 use Rattle.mesh_nodes.specs.Sent.{AllToNeighbours, AllWritable, AnswerFits}
 use Rattle.mesh_nodes.proofs.Cases.{both_left, both_right, if_cases}
-use Rattle.mesh_nodes.proofs.Kept.{beside-node, held-beyond, in_use-beyond, legs-changed, phase-fits}
+use Rattle.mesh_nodes.proofs.FitLists.{beside-node, held-beyond, in_use-beyond, legs-changed, phase-fits}
 use Rattle.mesh_nodes.proofs.Links.{over-near}
 use Rattle.mesh_nodes.proofs.Paths.{first-fits, nothing-fits}
 use Rattle.mesh_nodes.proofs.Stands.{Stands, following-is_near, leg-stands, previous-near, resv-sent}

@@ -14,7 +14,7 @@ use Rattle.mesh_rules.specs.Alarms.{enters, is_hit, knows_down, notice_of, notic
 use Rattle.mesh_rules.specs.Legs.{previous}
 use Rattle.mesh_rules.specs.LocalNodes.{LocalNode, own_link}
 use Rattle.mesh_rules.specs.State.{NodeState}
-use Rattle.mesh_nodes.specs.Kept.{LegFits, NodeFits}
+use Rattle.mesh_nodes.specs.FitNodes.{LegFits, NodeFits}
 use Rattle.mesh_nodes.specs.Sent.{AllToNeighbours, AllWritable, AnswerFits}
 use Rattle.mesh_nodes.proofs.Cases.{if_cases}
 use Rattle.mesh_nodes.proofs.Paths.{nothing-fits}

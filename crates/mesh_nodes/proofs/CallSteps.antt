@@ -14,7 +14,7 @@ use Rattle.mesh_rules.specs.Legs.{is_work}
 use Rattle.mesh_rules.specs.LocalNodes.{LocalNode}
 use Rattle.mesh_rules.specs.Pairs.{leaves_bare}
 use Rattle.mesh_rules.specs.State.{NodeState}
-use Rattle.mesh_nodes.specs.Kept.{CallFits, LegFits, NodeFits}
+use Rattle.mesh_nodes.specs.FitNodes.{CallFits, LegFits, NodeFits}
 use Rattle.mesh_nodes.specs.LocalNodes.{LocalNodeFits}
 use Rattle.mesh_nodes.specs.Sent.{AnswerFits}
 use Rattle.mesh_nodes.proofs.Cases.{if_cases}

@@ -13,11 +13,11 @@ use Rattle.mesh_rules.specs.FirstLegs.{NewLsp, asks_for, first_leg, first_link}
 use Rattle.mesh_rules.specs.KnownRows.{known_rows}
 use Rattle.mesh_rules.specs.LocalNodes.{LocalNode, own_link}
 use Rattle.mesh_rules.specs.State.{NodeState}
-use Rattle.mesh_nodes.specs.Kept.{CallFits, LegFits, NodeFits}
+use Rattle.mesh_nodes.specs.FitNodes.{CallFits, LegFits, NodeFits}
 use Rattle.mesh_nodes.specs.LocalNodes.{LocalNodeFits}
 use Rattle.mesh_nodes.specs.Sent.{AnswerFits}
 use Rattle.mesh_nodes.proofs.Cases.{both_right}
-use Rattle.mesh_nodes.proofs.Kept.{calls-put, legs-more}
+use Rattle.mesh_nodes.proofs.FitLists.{calls-put, legs-more}
 use Rattle.mesh_nodes.proofs.Links.{end-downstream, end-near, own-is}
 use Rattle.mesh_nodes.proofs.Paths.{role-fits, some_labels}
 

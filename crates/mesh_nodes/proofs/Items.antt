@@ -32,14 +32,14 @@ use Rattle.mesh_rules.specs.Releases.{release_with, releases, tear_to, tears}
 use Rattle.mesh_rules.specs.Setups.{SetupRequest, admitted_setup, begins, call_record, is_followable, is_order_here, is_spent, new_call, next_lsp, over_first, over_found, refused_setup, setup_with, working_lsp}
 use Rattle.mesh_rules.specs.LocalNodes.{LocalNode}
 use Rattle.mesh_rules.specs.State.{NodeState}
-use Rattle.mesh_nodes.specs.Kept.{CallFits, LegFits, LegsFit, NodeFits}
-use Rattle.mesh_nodes.specs.Laws.{ItemsFit}
+use Rattle.mesh_nodes.specs.FitNodes.{CallFits, LegFits, LegsFit, NodeFits}
+use Rattle.mesh_nodes.specs.AnswerLaws.{ItemsFit}
 use Rattle.mesh_nodes.specs.LocalNodes.{LocalNodeFits}
 use Rattle.mesh_nodes.specs.Sent.{AnswerFits}
 use Rattle.mesh_nodes.proofs.Alarms.{alarm-fits, all-append, clear-fits}
 use Rattle.mesh_nodes.proofs.Cases.{both_left, both_right, if_cases, not-true}
 use Rattle.mesh_nodes.proofs.FirstLegs.{IsFirst, asks-fit, first-is}
-use Rattle.mesh_nodes.proofs.Kept.{calls-less, calls-put, closed-fits, legs-changed}
+use Rattle.mesh_nodes.proofs.FitLists.{calls-less, calls-put, closed-fits, legs-changed}
 use Rattle.mesh_nodes.proofs.LegList.{find-with_leg, found-lsp}
 use Rattle.mesh_nodes.proofs.Links.{found-one}
 use Rattle.mesh_nodes.proofs.Pairs.{pair-fits}

@@ -8,9 +8,9 @@ mod CallsLearnNothing
 pub mod Cases
 pub mod ChosenLabels
 pub mod FirstLegs
+pub mod FitLists
 pub mod Followed
 pub mod Items
-pub mod Kept
 pub mod LabelPlaces
 pub mod LearnsNothing
 pub mod LegList

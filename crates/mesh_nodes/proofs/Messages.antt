@@ -19,8 +19,8 @@ use Rattle.mesh_rules.specs.Resvs.{answered, connected_here, is_expected, labels
 use Rattle.mesh_rules.specs.LocalNodes.{LocalNode}
 use Rattle.mesh_rules.specs.State.{NodeState}
 use Rattle.mesh_rules.specs.Tears.{tear_with, torn}
-use Rattle.mesh_nodes.specs.Kept.{LegsFit, NodeFits}
-use Rattle.mesh_nodes.specs.Laws.{MessagesFit}
+use Rattle.mesh_nodes.specs.FitNodes.{LegsFit, NodeFits}
+use Rattle.mesh_nodes.specs.AnswerLaws.{MessagesFit}
 use Rattle.mesh_nodes.specs.LocalNodes.{LocalNodeFits, is_neighbour}
 use Rattle.mesh_nodes.specs.Sent.{AnswerFits, CanBePassedOn}
 use Rattle.mesh_nodes.proofs.ActivationAnswers.{begins-here, begins-put, contended-fits, resv_again-fits}
@@ -28,7 +28,7 @@ use Rattle.mesh_nodes.proofs.Activations.{on_path-fits}
 use Rattle.mesh_nodes.proofs.CallSteps.{answered-call-fits, refused-call-fits}
 use Rattle.mesh_nodes.proofs.Cases.{both_left, both_right, if_cases}
 use Rattle.mesh_nodes.proofs.Followed.{after-puts, after-removes}
-use Rattle.mesh_nodes.proofs.Kept.{alone-fibre, beside-fibre, closed-fits, connected-fits, legs-changed, legs-less, length-replaced, over-fibre}
+use Rattle.mesh_nodes.proofs.FitLists.{alone-fibre, beside-fibre, closed-fits, connected-fits, legs-changed, legs-less, length-replaced, over-fibre}
 use Rattle.mesh_nodes.proofs.Links.{over-near}
 use Rattle.mesh_nodes.proofs.Paths.{nothing-fits}
 use Rattle.mesh_nodes.proofs.Reports.{notify-fits}

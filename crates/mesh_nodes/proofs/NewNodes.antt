@@ -10,7 +10,7 @@ use Rattle.ason_base.specs.declared.network.NodeSpec.{NodeSpec}
 use Rattle.ason_base.specs.Network.{IsTopology, Network, is_after, is_link, is_link_here, touches}
 use Rattle.mesh_rules.specs.LocalNodes.{LocalNode, local_node}
 use Rattle.mesh_rules.specs.State.{new_node}
-use Rattle.mesh_nodes.specs.Kept.{NodeFits}
+use Rattle.mesh_nodes.specs.FitNodes.{NodeFits}
 use Rattle.mesh_nodes.specs.LocalNodes.{IsOwnLink, LocalNodeFits}
 use Rattle.mesh_nodes.proofs.Cases.{both_left, both_right}
 

@@ -20,12 +20,12 @@ use Rattle.mesh_rules.specs.KnownRows.{known_rows}
 use Rattle.mesh_rules.specs.LocalNodes.{LocalNode}
 use Rattle.mesh_rules.specs.Pairs.{guarding, is_two_way, admitted_backup, backup_lsp, backup_route, begins_backup, beside_lsp, leaves_bare, over_backup, over_fibre, pair, pair_over, route_from}
 use Rattle.mesh_rules.specs.State.{NodeState}
-use Rattle.mesh_nodes.specs.Kept.{CallFits, LegFits, NodeFits}
+use Rattle.mesh_nodes.specs.FitNodes.{CallFits, LegFits, NodeFits}
 use Rattle.mesh_nodes.specs.LocalNodes.{LocalNodeFits}
 use Rattle.mesh_nodes.specs.Sent.{AnswerFits}
 use Rattle.mesh_nodes.proofs.Cases.{if_cases}
 use Rattle.mesh_nodes.proofs.FirstLegs.{asks-fit, first-is}
-use Rattle.mesh_nodes.proofs.Kept.{calls-put}
+use Rattle.mesh_nodes.proofs.FitLists.{calls-put}
 use Rattle.mesh_nodes.proofs.Paths.{below}
 
 -- the route of an LSP that begins here has 1 to 63 links

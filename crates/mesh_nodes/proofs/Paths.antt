@@ -18,11 +18,11 @@ use Rattle.mesh_rules.specs.Paths.{PathRequest, admitted, at_egress, back_label,
 use Rattle.mesh_rules.specs.LocalNodes.{LocalNode, fibre_in, is_link_there, leads, own_link}
 use Rattle.mesh_rules.specs.State.{NodeState}
 use Rattle.mesh_rules.specs.KnownRows.{known_rows}
-use Rattle.mesh_nodes.specs.Kept.{LegFits, NodeFits}
+use Rattle.mesh_nodes.specs.FitNodes.{LegFits, NodeFits}
 use Rattle.mesh_nodes.specs.LocalNodes.{LocalNodeFits}
 use Rattle.mesh_nodes.specs.Sent.{AnswerFits}
 use Rattle.mesh_nodes.proofs.Cases.{both_left, both_right, if_cases, not-true}
-use Rattle.mesh_nodes.proofs.Kept.{legs-more, reserved-beyond}
+use Rattle.mesh_nodes.proofs.FitLists.{legs-more, reserved-beyond}
 use Rattle.mesh_nodes.proofs.Links.{end-downstream, end-near, own-is, sender-near, sender-upstream}
 
 -- the node keeps what it kept, and nothing is sent

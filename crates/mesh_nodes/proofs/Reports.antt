@@ -19,7 +19,7 @@ use Rattle.mesh_rules.specs.Reports.{call_reported, fibre_into, fibres_after, re
 use Rattle.mesh_rules.specs.Retries.{retries, retry_with}
 use Rattle.mesh_rules.specs.State.{NodeState}
 use Rattle.mesh_rules.specs.Turns.{has_any}
-use Rattle.mesh_nodes.specs.Kept.{CallFits, NodeFits}
+use Rattle.mesh_nodes.specs.FitNodes.{CallFits, NodeFits}
 use Rattle.mesh_nodes.specs.Sent.{AnswerFits}
 use Rattle.mesh_nodes.proofs.Cases.{if_cases}
 use Rattle.mesh_nodes.proofs.LegList.{found-lsp}

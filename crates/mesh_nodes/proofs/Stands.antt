@@ -9,7 +9,7 @@ use Rattle.mesh_rules.specs.Activations.{resv_to}
 use Rattle.mesh_rules.specs.Legs.{find_leg, following, previous}
 use Rattle.mesh_rules.specs.LocalNodes.{LocalNode}
 use Rattle.mesh_rules.specs.State.{NodeState}
-use Rattle.mesh_nodes.specs.Kept.{LegFits, NodeFits}
+use Rattle.mesh_nodes.specs.FitNodes.{LegFits, NodeFits}
 use Rattle.mesh_nodes.specs.LocalNodes.{is_downstream, is_neighbour, is_upstream}
 use Rattle.mesh_nodes.specs.Sent.{AllToNeighbours, AllWritable}
 use Rattle.mesh_nodes.proofs.LegList.{found-all, found-lsp}

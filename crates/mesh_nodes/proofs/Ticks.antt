@@ -16,12 +16,12 @@ use Rattle.mesh_rules.specs.State.{NodeState}
 use Rattle.mesh_rules.specs.Turns.{call_put, disarms, go_back, has_any}
 use Rattle.mesh_rules.specs.Waits.{all_ticked, on_tick, ticked}
 use Rattle.mesh_rules.proofs.ChangeLists.{calls-then, legs-then}
-use Rattle.mesh_nodes.specs.Kept.{CallFits, CallsFit, LegFits, LegsFit, NodeFits}
-use Rattle.mesh_nodes.specs.Laws.{TicksFit}
+use Rattle.mesh_nodes.specs.FitNodes.{CallFits, CallsFit, LegFits, LegsFit, NodeFits}
+use Rattle.mesh_nodes.specs.AnswerLaws.{TicksFit}
 use Rattle.mesh_nodes.specs.Sent.{AllToNeighbours, AllWritable}
 use Rattle.mesh_nodes.proofs.Alarms.{all-append}
 use Rattle.mesh_nodes.proofs.Cases.{if_cases}
-use Rattle.mesh_nodes.proofs.Kept.{calls-put, in_use-beyond, legs-changed, phase-fits}
+use Rattle.mesh_nodes.proofs.FitLists.{calls-put, in_use-beyond, legs-changed, phase-fits}
 use Rattle.mesh_nodes.proofs.LegList.{find-with_leg, found-all}
 use Rattle.mesh_nodes.proofs.Reports.{backup-begins}
 use Rattle.mesh_nodes.proofs.Turns.{BeginsHere, taking-sent}

@@ -23,10 +23,10 @@ use Rattle.mesh_rules.specs.Legs.{find_leg, following, is_beyond_asked, is_conte
 use Rattle.mesh_rules.specs.LocalNodes.{LocalNode}
 use Rattle.mesh_rules.specs.State.{NodeState}
 use Rattle.mesh_rules.specs.Turns.{activating, activating_path, arms, call_put, decide, decided, disarms, go_back, has_any, taking_back, taking_path, turn}
-use Rattle.mesh_nodes.specs.Kept.{CallFits, LegFits, NodeFits}
+use Rattle.mesh_nodes.specs.FitNodes.{CallFits, LegFits, NodeFits}
 use Rattle.mesh_nodes.specs.Sent.{AnswerFits}
 use Rattle.mesh_nodes.proofs.Cases.{if_cases}
-use Rattle.mesh_nodes.proofs.Kept.{beside-node, calls-put, held-beyond, in_use-beyond, legs-changed, phase-fits}
+use Rattle.mesh_nodes.proofs.FitLists.{beside-node, calls-put, held-beyond, in_use-beyond, legs-changed, phase-fits}
 use Rattle.mesh_nodes.proofs.LegList.{found-all}
 use Rattle.mesh_nodes.proofs.Stands.{OneFits, following-is_near, none-sent}
 

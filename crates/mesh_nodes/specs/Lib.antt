@@ -1,5 +1,5 @@
-pub mod Kept
-pub mod Laws
+pub mod AnswerLaws
+pub mod FitNodes
 pub mod Learnt
 pub mod LocalNodes
 pub mod Order

@@ -8,7 +8,7 @@ use Rattle.ason_base.specs.Writable.{IsWritableMsg, IsWritableRole}
 use Rattle.mesh_rules.specs.Changes.{Answer, changed}
 use Rattle.mesh_rules.specs.LocalNodes.{LocalNode}
 use Rattle.mesh_rules.specs.State.{NodeState}
-use Rattle.mesh_nodes.specs.Kept.{NodeFits}
+use Rattle.mesh_nodes.specs.FitNodes.{NodeFits}
 use Rattle.mesh_nodes.specs.LocalNodes.{is_neighbour}
 
 -- all go to neighbours of p

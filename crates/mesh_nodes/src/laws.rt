@@ -1,6 +1,6 @@
 //! The laws of one node, and of the routes that it finds.
 
-ghost use Rattle.mesh_nodes.specs.Laws.{ItemsFit, MessagesFit, NewNodesFit, TicksFit};
+ghost use Rattle.mesh_nodes.specs.AnswerLaws.{ItemsFit, MessagesFit, NewNodesFit, TicksFit};
 ghost use Rattle.mesh_nodes.specs.Learnt.{LearningFits, LearntIsKnown, LearntStayTrue, NetworkRowsMayBeLearnt, NothingElseIsLearnt, RowsStayFit};
 ghost use Rattle.mesh_nodes.specs.Routes.{FoundBackupsLead, FoundBackupsStandBeside, FoundRoutesAreFollowed, FoundRoutesLead, LeastBackupIsLeast, LeastBackupVisitsOnce, LeastTripIsLeast, LeastTripVisitsOnce, NewRowsFit, NoBackupIsNone, NoTripIsNoWalk};
 

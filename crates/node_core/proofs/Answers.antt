@@ -18,7 +18,7 @@ use Rattle.leg_labels.proofs.RuleChanges.{item-may, message-may, tick-may}
 use Rattle.mesh_rules.specs.Changes.{Answer, changed, learns, nothing}
 use Rattle.mesh_rules.specs.KnownRows.{has_row, known_rows}
 use Rattle.mesh_rules.specs.State.{new_node}
-use Rattle.mesh_nodes.specs.Kept.{NodeFits}
+use Rattle.mesh_nodes.specs.FitNodes.{NodeFits}
 use Rattle.mesh_nodes.specs.Routes.{RowsFit}
 use Rattle.mesh_nodes.specs.Sent.{AnswerFits}
 use Rattle.mesh_nodes.proofs.Cases.{if_cases}

@@ -6,7 +6,7 @@ ghost use Rattle.mesh_rules.specs.KnownRows.{has_row, known_rows};
 ghost use Rattle.mesh_rules.specs.LocalNodes.{local_node};
 ghost use Rattle.mesh_rules.specs.Rows.{call_rows, leg_rows};
 ghost use Rattle.mesh_rules.specs.State.{new_node};
-ghost use Rattle.mesh_nodes.specs.Kept.{NodeFits};
+ghost use Rattle.mesh_nodes.specs.FitNodes.{NodeFits};
 ghost use Rattle.mesh_nodes.specs.LocalNodes.{LocalNodeFits};
 ghost use Rattle.mesh_nodes.specs.Order.{CallRowsRise, LegRowsRise};
 ghost use Rattle.mesh_nodes.specs.Routes.{RowsFit};

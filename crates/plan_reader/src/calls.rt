@@ -13,13 +13,13 @@ use std::marker::Model;
 
 /// Calls by their names, each with its ingress, in order of number. A map finds the number of a name.
 #[derive(Drop)]
-pub struct Calls {
+pub struct NamedCalls {
     names: Vec<Name>,
     ingresses: Vec<NodeId>,
     places: BTreeMap<String, usize>,
 }
 
-impl Model for Calls {
+impl Model for NamedCalls {
     ghost use Rattle.plan_reader.specs.PlanCalls.{AreFound, CallList};
 
     ghost Value = { CallList };
@@ -29,12 +29,12 @@ impl Model for Calls {
     ghost invariant = { λ s. AreFound s.places s.names.items };
 }
 
-impl Calls {
+impl NamedCalls {
     /// No call.
-    pub fn new(alloc: Global) -> Calls
+    pub fn new(alloc: Global) -> NamedCalls
         ensures { result ≡ no_calls }
     {
-        Calls {
+        NamedCalls {
             names: Vec::new(alloc),
             ingresses: Vec::new(alloc),
             places: BTreeMap::new(alloc),

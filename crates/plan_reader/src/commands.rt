@@ -6,7 +6,7 @@ ghost use Rattle.plan_reader.specs.PlanCalls.{calls_with};
 ghost use Rattle.plan_reader.specs.PlanCommands.{call_of, command_of, group_numbered, group_of, group_with, known_call, known_group};
 ghost use Rattle.plan_reader.specs.PlanTexts.{texts};
 
-use crate::calls::Calls;
+use crate::calls::NamedCalls;
 use crate::faults::{EntryError, PlanKind};
 use crate::forms::{CommandForm, is_word};
 use crate::limits::MOST_NUMBER;
@@ -19,7 +19,11 @@ use std::alloc::Global;
 // Calls
 
 // The call that a command names, with its ingress, or the first fault.
-fn read_call(alloc: Global, calls: &Calls, words: &[&[u8]]) -> Result<(CallNo, NodeId), EntryError>
+fn read_call(
+    alloc: Global,
+    calls: &NamedCalls,
+    words: &[&[u8]],
+) -> Result<(CallNo, NodeId), EntryError>
     ensures call { IfOk result (λ c. call_of calls.now (texts words.now) ≡ Ok c) }
     ensures fault { FailsBy result (call_of calls.now (texts words.now)) }
 {
@@ -66,7 +70,7 @@ fn read_group(t: &Topology, words: &[&[u8]]) -> Result<Group, EntryError>
 pub fn read_command(
     alloc: Global,
     t: &Topology,
-    calls: &Calls,
+    calls: &NamedCalls,
     words: &[&[u8]],
     form: CommandForm,
 ) -> Result<Command, EntryError>

@@ -12,7 +12,7 @@ ghost use Rattle.plan_reader.specs.declared.faults.PlanError.{PlanError};
 ghost use Rattle.plan_reader.specs.declared.faults.PlanFault.{PlanFault};
 ghost use Rattle.plan_reader.specs.declared.faults.PlanKind.{PlanKind};
 
-use crate::calls::Calls;
+use crate::calls::NamedCalls;
 use crate::commands::read_command;
 use crate::faults::{EntryError, PlanEntry, PlanError, PlanKind, error_at};
 use crate::forms::{command_form, disturb_form, is_noise, is_settle, is_show, is_wait, setup_form};
@@ -88,7 +88,7 @@ fn read_other_line(
     alloc: Global,
     t: &Topology,
     names: &Names,
-    calls: &Calls,
+    calls: &NamedCalls,
     words: &[&[u8]],
 ) -> Result<Line, EntryError>
     ensures line { IfOk result
@@ -110,7 +110,7 @@ fn read_line(
     alloc: Global,
     t: &Topology,
     names: &Names,
-    calls: &mut Calls,
+    calls: &mut NamedCalls,
     words: &[&[u8]],
     two_way: bool,
 ) -> Result<Line, EntryError>
@@ -132,7 +132,7 @@ fn read_line(
 /// The calls and the lines of a script.
 #[derive(Drop)]
 pub struct Script {
-    pub calls: Calls,
+    pub calls: NamedCalls,
     pub lines: Lines,
 }
 
@@ -200,7 +200,7 @@ pub fn read_script(
         (λ f. IsScriptOf two_way t.now names.now (views values.now) (Err f)) }
 {
     let mut script = Script {
-        calls: Calls::new(alloc),
+        calls: NamedCalls::new(alloc),
         lines: Lines::new(alloc),
     };
     'reading: for i in 0..values.len() {

@@ -7,7 +7,7 @@ ghost use Rattle.plan_reader.specs.PlanCalls.{calls_with};
 ghost use Rattle.plan_reader.specs.PlanSetups.{good_routes, ids_at, in_reach, is_backed, leads, next_node, next_setup, node_at, route_ids, routes_over, setup_between, setup_of, setup_over, setup_with, steps_given, steps_over};
 ghost use Rattle.plan_reader.specs.PlanTexts.{texts};
 
-use crate::calls::Calls;
+use crate::calls::NamedCalls;
 use crate::faults::{EntryError, PlanKind};
 use crate::forms::SetupForm;
 use crate::limits::MOST_CALLS;
@@ -175,7 +175,7 @@ pub fn read_setup(
     alloc: Global,
     t: &Topology,
     names: &Names,
-    calls: &mut Calls,
+    calls: &mut NamedCalls,
     words: &[&[u8]],
     form: SetupForm,
 ) -> Result<Command, EntryError>

@@ -24,7 +24,7 @@ use Rattle.mesh_rules.specs.Reports.{call_reported, fibre_into, reported_on, wit
 use Rattle.mesh_rules.specs.Reverts.{revert_with, reverts}
 use Rattle.mesh_rules.specs.State.{NodeState}
 use Rattle.mesh_rules.specs.Turns.{has_any}
-use Rattle.mesh_nodes.specs.Kept.{LegFits, NodeFits}
+use Rattle.mesh_nodes.specs.FitNodes.{LegFits, NodeFits}
 use Rattle.mesh_nodes.proofs.CallList.{called-names}
 use Rattle.mesh_nodes.proofs.Cases.{if_cases}
 use Rattle.mesh_nodes.proofs.Items.{items-fit}
@@ -45,7 +45,7 @@ use Rattle.leg_labels.proofs.OwnLegs.{calm-handled}
 use Rattle.call_control.specs.GoingBack.{going_back, once_told, once_turned}
 use Rattle.call_control.specs.Handlers.{goes_back}
 use Rattle.call_control.specs.Ingress.{IngressFits, IsArmedAsBackup, NamesByRole, role_at}
-use Rattle.call_control.proofs.Kept.{Keeps}
+use Rattle.call_control.proofs.FitIngresses.{Keeps}
 use Rattle.call_control.proofs.Decides.{reported-names}
 use Rattle.call_control.proofs.Roles.{named-as}
 use Rattle.reversion.specs.Answers.{go_back_answer, revert_here, tick_answer}

@@ -11,7 +11,7 @@ use Rattle.hop_reliable.proofs.Members.{each-append}
 use Rattle.round_rules.specs.Doings.{Doing}
 use Rattle.round_rules.specs.Halts.{MayTick, TurnsMakeACutTurn}
 use Rattle.round_rules.specs.Held.{HeldFrame, due_in, held_after, held_step}
-use Rattle.round_rules.specs.Laws.{TurnsMakeATurn}
+use Rattle.round_rules.specs.RecordLaws.{TurnsMakeATurn}
 use Rattle.round_rules.specs.Takings.{IsTaking, all_doings, doings_of}
 use Rattle.round_rules.specs.Turns.{AreDelivered, IsTurnOf, items_after}
 use Rattle.round_rules.proofs.Desks.{empty-after}

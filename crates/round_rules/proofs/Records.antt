@@ -2,7 +2,7 @@
 use Rattle.std.proofs.Common.{refl}
 use Rattle.world_merge.proofs.Merging.{every-merge-is-a-run}
 use Rattle.world_merge.proofs.Ordering.{sorting-merges}
-use Rattle.round_rules.specs.Laws.{RecordsAreRuns}
+use Rattle.round_rules.specs.RecordLaws.{RecordsAreRuns}
 use Rattle.round_rules.specs.Records.{deeds_at, log_at, posts_in}
 
 pub records-are-runs : RecordsAreRuns

@@ -11,7 +11,7 @@ use Rattle.round_rules.specs.Doings.{Did, Doing, Freed, Got}
 use Rattle.round_rules.specs.Functions.{AreHeldAs, Popped, all_freed, all_handled, all_taken, clock_of, delivered}
 use Rattle.round_rules.specs.Functions.{freed, got, handled, taken, taken_as, tick_if, turn_after}
 use Rattle.round_rules.specs.Held.{HeldFrame, due_in}
-use Rattle.round_rules.specs.Laws.{FunctionsAreTurns}
+use Rattle.round_rules.specs.RecordLaws.{FunctionsAreTurns}
 use Rattle.round_rules.specs.Lines.{says}
 use Rattle.round_rules.specs.Takings.{AreTakings, IsTaking, Taking, all_doings, doings_of}
 use Rattle.round_rules.specs.Turns.{AreDelivered, AreHandled, IsTick, items_after}

@@ -2,10 +2,10 @@ pub mod Doings
 pub mod Functions
 pub mod Halts
 pub mod Held
-pub mod Laws
 pub mod Limits
 pub mod Lines
 pub mod OneWorker
+pub mod RecordLaws
 pub mod Records
 pub mod Rings
 pub mod Rounds

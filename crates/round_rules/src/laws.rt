@@ -1,7 +1,7 @@
 //! Laws of records and of turns.
 
 ghost use Rattle.round_rules.specs.Halts.{HaltsAreLast, TurnsEnd, TurnsHalt, TurnsMakeACutTurn};
-ghost use Rattle.round_rules.specs.Laws.{FunctionsAreTurns, RecordsAreRuns, TurnsMakeATurn};
+ghost use Rattle.round_rules.specs.RecordLaws.{FunctionsAreTurns, RecordsAreRuns, TurnsMakeATurn};
 ghost use Rattle.round_rules.specs.Rings.{StandingIsLeft};
 
 /// A record is what each station did. Its logs and its posts, sorted by stamp, are a run of a world, for every

@@ -15,7 +15,7 @@ use Rattle.plan_reader.specs.declared.lines.Line.TheVariants as said
 use Rattle.plan_reader.specs.declared.lines.Line.TheVariants.{Noise, Post, Settle, Wait, Show}
 use Rattle.plan_reader.specs.declared.plan.Plan.{Plan}
 use Rattle.table_text.specs.TableText.{table_text}
-use Rattle.script_rules.specs.Laws.{AreSame, OneWorkerIsAFunction, OneWorkerIsAlone}
+use Rattle.script_rules.specs.ScriptLaws.{AreSame, OneWorkerIsAFunction, OneWorkerIsAlone}
 use Rattle.script_rules.specs.Lawful.{IsLawfulRecord}
 use Rattle.script_rules.specs.OneWorker.{after_round, line_end, lines_end, round_end, settle_end, wait_end}
 use Rattle.script_rules.specs.Outputs.{LinePrints, Prints, Shows, UnlessStopped}

@@ -1,6 +1,6 @@
 -- Lines after lines.
 use Rattle.std.proofs.Common.{◌≡◌, ℕ, List, [], ◌∷◌, ◌++◌, refl, ap, sym, subst, ◌∙◌, append_assoc}
-use Rattle.script_rules.specs.Laws.{LinesFollow}
+use Rattle.script_rules.specs.ScriptLaws.{LinesFollow}
 use Rattle.script_rules.specs.Outputs.{Prints}
 use Rattle.script_rules.specs.Stages.{Stage, last_of}
 

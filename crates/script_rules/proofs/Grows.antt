@@ -21,7 +21,7 @@ use Rattle.plan_reader.specs.declared.lines.Line.{Line}
 use Rattle.plan_reader.specs.declared.lines.Line.TheVariants as said
 use Rattle.plan_reader.specs.declared.lines.Line.TheVariants.{Noise, Post, Settle, Wait, Show}
 use Rattle.script_rules.specs.Growing.{AreGrowing, GrowsTo}
-use Rattle.script_rules.specs.Laws.{RoundLaws, ScriptsGrow}
+use Rattle.script_rules.specs.ScriptLaws.{RoundLaws, ScriptsGrow}
 use Rattle.script_rules.specs.Stages.{ComesTo, IsNextRound, LineMakes, Settles, Stage, Waits, is_stopped, last_of, with_line, with_post}
 
 -- Rounds

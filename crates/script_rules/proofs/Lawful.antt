@@ -9,17 +9,17 @@ use Rattle.mesh_rules.specs.Machine.{Mesh}
 use Rattle.mesh_rules.specs.Quiet as mesh_quiet
 use Rattle.lsp_laws.specs.CallLaw.{CallsFit}
 use Rattle.lsp_laws.specs.HopLaw.{HasOneLegEach}
-use Rattle.mesh_laws.specs.Laws.{LawsHold}
+use Rattle.mesh_laws.specs.StateLaws.{LawsHold}
 use Rattle.world_rules.specs.Images.{IsQuiet, image, mesh_events}
-use Rattle.world_rules.specs.Laws.{EveryImageHasTheLaws, EveryRunIsShown, JoinedKnowTheLinks, JoinedKnowTheSame, QuietIsShown, TopologiesFindEach}
-use Rattle.world_rules.specs.Runs.{IsRun, after, step}
+use Rattle.world_rules.specs.WorldLaws.{EveryImageHasTheLaws, EveryRunIsShown, JoinedKnowTheLinks, JoinedKnowTheSame, QuietIsShown, TopologiesFindEach}
+use Rattle.world_rules.specs.WorldRuns.{IsRun, after, step}
 use Rattle.world_rules.specs.Worlds.{World, start}
 use Rattle.world_merge.specs.Merges.{events_of}
 use Rattle.world_merge.specs.Orders.{IsMerge}
 use Rattle.log_merge.specs.Logs.{EveryMergingMerges}
-use Rattle.round_rules.specs.Laws.{RecordsAreRuns}
+use Rattle.round_rules.specs.RecordLaws.{RecordsAreRuns}
 use Rattle.round_rules.specs.Records.{Record, log_at, posts_in, world_of}
-use Rattle.script_rules.specs.Laws.{RecordsAreLawful}
+use Rattle.script_rules.specs.ScriptLaws.{RecordsAreLawful}
 use Rattle.script_rules.specs.Lawful.{AreRestored, IsLawful, IsLawfulRecord, IsLawfulRun, QuietLawsHold}
 use Rattle.script_rules.proofs.Merges.{has_merge}
 

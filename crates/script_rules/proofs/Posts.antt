@@ -6,7 +6,7 @@ use Rattle.ason_base.specs.declared.commands.Command.{Command}
 use Rattle.ason_base.specs.declared.commands.Command.TheVariants.{Setup, Release, Protect, Retry, Revert, Fail, Repair}
 use Rattle.ason_base.specs.declared.ids.NodeId.{NodeId}
 use Rattle.ason_base.specs.Network.{Network}
-use Rattle.world_rules.specs.Runs as runs
+use Rattle.world_rules.specs.WorldRuns as runs
 use Rattle.world_rules.specs.Worlds.{World, start}
 use Rattle.world_merge.specs.Deeds.{Posted, alone}
 use Rattle.world_merge.specs.Histories.{at}
@@ -24,7 +24,7 @@ use Rattle.plan_reader.specs.declared.lines.Line.TheVariants as said
 use Rattle.plan_reader.specs.declared.lines.Line.TheVariants.{Noise, Post, Settle, Wait, Show}
 use Rattle.plan_reader.specs.Plans.{calls_after, calls_after_line, calls_after_lines}
 use Rattle.plan_reader.specs.declared.plan.Plan.{Plan}
-use Rattle.script_rules.specs.Laws.{PostsFollowLines, RoundLaws}
+use Rattle.script_rules.specs.ScriptLaws.{PostsFollowLines, RoundLaws}
 use Rattle.script_rules.specs.Outputs.{How, Prints}
 use Rattle.script_rules.specs.Stages.{IsNextRound, LineMakes, Settles, Stage, Waits, is_stopped, last_of, with_line, with_noise, with_post, world_at}
 use Rattle.script_rules.proofs.Follows.{last_append}

@@ -9,7 +9,7 @@ use Rattle.fleet_rounds.specs.Commands.{noised, posted}
 use Rattle.plan_reader.specs.declared.lines.Line.{Line}
 use Rattle.plan_reader.specs.declared.lines.Line.TheVariants as said
 use Rattle.plan_reader.specs.declared.lines.Line.TheVariants.{Noise, Post, Settle, Wait, Show}
-use Rattle.script_rules.specs.Laws.{StopsAreFull}
+use Rattle.script_rules.specs.ScriptLaws.{StopsAreFull}
 use Rattle.script_rules.specs.Stages.{ComesTo, IsFull, LineMakes, Settles, Stage, Waits, is_stopped, last_of, with_line, with_noise, with_post}
 use Rattle.script_rules.proofs.Follows.{last_append}
 

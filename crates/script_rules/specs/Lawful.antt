@@ -8,12 +8,12 @@ use Rattle.mesh_rules.specs.Machine.{Mesh}
 use Rattle.mesh_rules.specs.Quiet as mesh_quiet
 use Rattle.mesh_rules.specs.declared.events.MeshEvent.{MeshEvent}
 use Rattle.mesh_laws.specs.AloneLaw.{Alone}
-use Rattle.mesh_laws.specs.Laws.{LawsHold}
+use Rattle.mesh_laws.specs.StateLaws.{LawsHold}
 use Rattle.mesh_laws.specs.RestorationLaw.{IsRestored, is_guarded}
 use Rattle.world_rules.specs.Worlds.{start}
-use Rattle.world_rules.specs.Runs.{IsRun, after}
+use Rattle.world_rules.specs.WorldRuns.{IsRun, after}
 use Rattle.world_rules.specs.Images.{IsQuiet, image, mesh_events}
-use Rattle.world_rules.specs.Laws.{IsShown, KnowTheLinks, KnowTheSame}
+use Rattle.world_rules.specs.WorldLaws.{IsShown, KnowTheLinks, KnowTheSame}
 use Rattle.world_merge.specs.Merges.{events_of}
 use Rattle.world_merge.specs.Orders.{IsMerge}
 use Rattle.round_rules.specs.Records.{IsRecord, Record, log_at, posts_in, world_of}

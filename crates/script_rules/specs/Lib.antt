@@ -1,7 +1,7 @@
 pub mod Growing
 pub mod Lawful
-pub mod Laws
 pub mod OneWorker
 pub mod Outputs
+pub mod ScriptLaws
 pub mod Stages
 pub mod Tables

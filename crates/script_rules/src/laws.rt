@@ -1,7 +1,7 @@
 //! Laws of scripts.
 
-ghost use Rattle.script_rules.specs.Laws.{LinesFollow, OneWorkerIsAFunction, OneWorkerIsAlone};
-ghost use Rattle.script_rules.specs.Laws.{PostsFollowLines, RecordsAreLawful, ScriptsGrow, StopsAreFull};
+ghost use Rattle.script_rules.specs.ScriptLaws.{LinesFollow, OneWorkerIsAFunction, OneWorkerIsAlone};
+ghost use Rattle.script_rules.specs.ScriptLaws.{PostsFollowLines, RecordsAreLawful, ScriptsGrow, StopsAreFull};
 
 use log_merge::every_merging;
 use round_rules::every_record;

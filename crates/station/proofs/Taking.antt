@@ -7,7 +7,7 @@ use Rattle.rtrb.specs.Ring.{sent}
 use Rattle.ason_base.specs.declared.commands.DisturbKind.{DisturbKind}
 use Rattle.ason_base.specs.declared.ids.NodeId.{NodeId}
 use Rattle.control_channels.specs.declared.inputs.CoreInput.{CoreInput}
-use Rattle.control_channels.specs.Kept.{IsFromNeighbour}
+use Rattle.control_channels.specs.ReadyControllers.{IsFromNeighbour}
 use Rattle.hop_reliable.proofs.Members.{each-append}
 use Rattle.round_rules.specs.Lines.{says}
 use Rattle.station_sound.specs.declared.parcels.Parcel.{Parcel}

@@ -4,7 +4,7 @@ use Rattle.std.specs.List.{AllByRecursion}
 use Rattle.ason_base.specs.declared.commands.DeskItem.{DeskItem}
 use Rattle.ason_base.specs.declared.ids.NodeId.{NodeId}
 use Rattle.ason_base.specs.Network.{Network}
-use Rattle.control_channels.specs.Kept.{new_controller}
+use Rattle.control_channels.specs.ReadyControllers.{new_controller}
 use Rattle.station_rings.specs.LinkStates.{AreEnds, IsLooked, IsNew, LinkState}
 use Rattle.station_doings.specs.Entered.{me_of}
 use Rattle.station_doings.specs.Moves.{peers_of}

@@ -3,7 +3,7 @@
 ghost use Rattle.std.specs.Prelude.{◌≡◌, ◌<◌, ◌≤◌, ◌+◌, ◌++◌, ◌∷◌, [], OnErr, OnOk, length, true, vec_capacity};
 ghost use Rattle.std.specs.Prelude.{vec_len};
 ghost use Rattle.control_channels.specs.Controllers.{IsUnambiguous};
-ghost use Rattle.control_channels.specs.Kept.{IsFromNeighbour};
+ghost use Rattle.control_channels.specs.ReadyControllers.{IsFromNeighbour};
 ghost use Rattle.station_doings.specs.Entered.{HasEntered, able};
 ghost use Rattle.station.specs.Fits.{PartsFit, state_of};
 ghost use Rattle.station.specs.Leads.{IsRead};

@@ -10,7 +10,7 @@ use Rattle.ason_base.specs.Network.{Network}
 use Rattle.ason_base.proofs.Ordered.{contains-cases, contains-head, contains-none, contains-tail}
 use Rattle.hop_reliable.proofs.Members.{each-append, each-more}
 use Rattle.control_channels.specs.Controllers.{ControllerState}
-use Rattle.world_rules.specs.Runs.{step}
+use Rattle.world_rules.specs.WorldRuns.{step}
 use Rattle.world_rules.specs.Standing.{IsUntouched, NodeStands}
 use Rattle.world_rules.specs.Worlds.{World, start}
 use Rattle.world_rules.proofs.Untouched.{others-are-untouched}

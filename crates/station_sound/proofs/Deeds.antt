@@ -11,7 +11,7 @@ use Rattle.ason_base.specs.declared.commands.Command.TheVariants.{Setup, Release
 use Rattle.ason_base.specs.declared.commands.Event.TheVariants.{Post}
 use Rattle.ason_base.specs.Network.{Network, is_node_id}
 use Rattle.mesh_rules.specs.Events.{has_first}
-use Rattle.world_rules.specs.Runs.{is_channel, step}
+use Rattle.world_rules.specs.WorldRuns.{is_channel, step}
 use Rattle.world_rules.specs.Worlds.{World, start, with_event}
 use Rattle.world_rules.proofs.Stepping.{self_test}
 use Rattle.world_merge.specs.Deeds.{AreDoable, Deed, Handled, Heard, IsDoable, Posted, Ticked, Took, alone_from, done}

@@ -12,7 +12,7 @@ use Rattle.mesh_rules.specs.LocalNodes.{LocalNode}
 use Rattle.control_channels.specs.declared.frames.Frame.{Frame}
 use Rattle.control_channels.specs.Controllers.{AreMade, ControllerState, Stepped, parts_of}
 use Rattle.control_channels.specs.Frames.{Sending, frames_to}
-use Rattle.world_rules.specs.Runs.{may_act}
+use Rattle.world_rules.specs.WorldRuns.{may_act}
 use Rattle.world_rules.specs.Standing.{IsStepOf, NodeStands}
 use Rattle.world_rules.specs.Worlds.{World, start}
 use Rattle.world_merge.specs.Deeds.{Deed, IsDoable, alone, done, stamp_of}

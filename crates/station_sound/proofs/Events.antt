@@ -14,7 +14,7 @@ use Rattle.mesh_rules.specs.LocalNodes.{LocalNode, local_node}
 use Rattle.control_channels.specs.declared.inputs.CoreInput.TheVariants as input
 use Rattle.control_channels.specs.Controllers.{ControllerState, after_tick, flood_after, meaning, took_frame, unmoved}
 use Rattle.control_channels.specs.Controllers as controllers
-use Rattle.world_rules.specs.Runs.{is_channel, may_act, neighbours, step}
+use Rattle.world_rules.specs.WorldRuns.{is_channel, may_act, neighbours, step}
 use Rattle.world_rules.specs.Standing.{IsStepOf}
 use Rattle.world_rules.specs.Worlds.{World, delivered, with_event}
 use Rattle.world_rules.proofs.Stepping.{self_test}

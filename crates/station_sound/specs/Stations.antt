@@ -6,7 +6,7 @@ use Rattle.ason_base.specs.declared.commands.DeskItem.{DeskItem}
 use Rattle.ason_base.specs.declared.commands.Entry.{Entry}
 use Rattle.ason_base.specs.Network.{Network, is_node_id}
 use Rattle.control_channels.specs.Controllers.{ControllerState}
-use Rattle.world_rules.specs.Runs.{neighbours}
+use Rattle.world_rules.specs.WorldRuns.{neighbours}
 use Rattle.world_rules.specs.Standing.{NodeStands}
 use Rattle.world_rules.specs.Worlds.{start}
 use Rattle.world_merge.specs.Deeds.{AreDoable, Deed, alone, sent_by, stamp_of}

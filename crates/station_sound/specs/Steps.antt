@@ -13,7 +13,7 @@ use Rattle.control_channels.specs.declared.frames.Frame.{Frame}
 use Rattle.control_channels.specs.declared.inputs.CoreInput.{CoreInput}
 use Rattle.control_channels.specs.declared.inputs.CoreInput.TheVariants as input
 use Rattle.control_channels.specs.Controllers.{IsStep}
-use Rattle.world_rules.specs.Runs.{IsEnabled, step}
+use Rattle.world_rules.specs.WorldRuns.{IsEnabled, step}
 use Rattle.world_merge.specs.Deeds.{Deed, Handled, Heard, Posted, Ticked, Took, alone}
 use Rattle.station_sound.specs.declared.parcels.Parcel.{Parcel}
 use Rattle.station_sound.specs.Links.{HasGot, LinkView, after_frames}

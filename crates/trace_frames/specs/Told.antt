@@ -9,7 +9,7 @@ use Rattle.plan_reader.specs.declared.plan.Plan.{Plan}
 use Rattle.table_text.specs.TableText.{node_name}
 use Rattle.trace_text.specs.TraceRead.{IsTraceOf}
 use Rattle.trace_text.specs.declared.read.Trace.{Trace}
-use Rattle.world_rules.specs.Runs.{IsRun, after}
+use Rattle.world_rules.specs.WorldRuns.{IsRun, after}
 use Rattle.world_rules.specs.Worlds.{start}
 use Rattle.world_core.specs.Replays.{StandsFor, WorldState}
 use Rattle.world_core.specs.Seats.{frame_there}

@@ -3,7 +3,7 @@ use Rattle.std.proofs.Common.{◌≡◌, ◌∙◌, ◌+◌, ℕ, List, [], ◌�
 use Rattle.ason_base.specs.Network.{Network}
 use Rattle.ason_base.specs.declared.commands.Event.{Event}
 use Rattle.world_core.specs.Replays.{IsFirstDisabled}
-use Rattle.world_rules.specs.Runs.{IsEnabled, IsRun, after, step}
+use Rattle.world_rules.specs.WorldRuns.{IsEnabled, IsRun, after, step}
 use Rattle.world_rules.specs.Worlds.{World, start}
 
 first_is_one : (t : Network) (w : World) (before first : List Event) (e f : Event) (later rest : List Event) →

@@ -15,8 +15,8 @@ use Rattle.world_core.proofs.Migrating.{kept-run, one-kept}
 use Rattle.world_core.proofs.Replaying.{not_in_run}
 use Rattle.world_merge.specs.Merges.{events_of}
 use Rattle.world_rules.specs.Images.{image}
-use Rattle.world_rules.specs.Laws.{EveryImageHasTheLaws, EveryRunIsShown, TopologiesFindEach}
-use Rattle.world_rules.specs.Runs.{after}
+use Rattle.world_rules.specs.WorldLaws.{EveryImageHasTheLaws, EveryRunIsShown, TopologiesFindEach}
+use Rattle.world_rules.specs.WorldRuns.{after}
 use Rattle.world_rules.specs.Worlds.{start}
 use Rattle.trace_text.specs.Checks.{AreChecked, AreFound, AreKeptOf, AreMigrated, AreRun, ChecksAs, IsLastTable, IsOtherTable, IsWrongAfter, IsWrongEnd, IsWrongLine, run_of}
 use Rattle.trace_text.specs.Complete.{EveryCheckIsOne}

@@ -15,13 +15,13 @@ use Rattle.plan_reader.specs.declared.lines.Line.{Line}
 use Rattle.plan_reader.specs.declared.lines.Line.TheVariants as said
 use Rattle.plan_reader.specs.declared.plan.Plan.{Plan}
 use Rattle.plan_reader.proofs.PostablePlans.{names_found}
-use Rattle.round_rules.specs.Laws.{RecordsAreRuns}
+use Rattle.round_rules.specs.RecordLaws.{RecordsAreRuns}
 use Rattle.round_rules.specs.Records.{deeds_at}
 use Rattle.script_rules.specs.Tables.{IsTable}
 use Rattle.world_merge.specs.Merges.{IsRunOf, events_of}
 use Rattle.world_merge.specs.Orders.{is_post}
 use Rattle.world_merge.specs.Orders as orders
-use Rattle.world_rules.specs.Runs.{IsEnabled, IsRun, is_channel, may_act, step}
+use Rattle.world_rules.specs.WorldRuns.{IsEnabled, IsRun, is_channel, may_act, step}
 use Rattle.world_rules.specs.Images.{image}
 use Rattle.world_rules.specs.Worlds.{World, frame_at, start}
 use Rattle.trace_text.specs.Complete.{EveryRunIsChecked, command_in, commands_of, posted_in}

@@ -17,7 +17,7 @@ use Rattle.round_rules.specs.Doings.{Did, Doing, deeds_in}
 use Rattle.round_rules.specs.Functions.{clock_of}
 use Rattle.round_rules.specs.Records.{Record, deeds_at, log_at, posts_in}
 use Rattle.round_rules.proofs.Desks.{deeds-more}
-use Rattle.script_rules.specs.Laws.{RoundLaws}
+use Rattle.script_rules.specs.ScriptLaws.{RoundLaws}
 use Rattle.script_rules.specs.Outputs.{How, Prints, script_of}
 use Rattle.script_rules.specs.Stages.{IsNextRound, LineMakes, Settles, Stage, Waits, is_stopped, last_of, new_stage, with_line, with_noise, with_post}
 use Rattle.script_rules.proofs.Follows.{last_append}

@@ -12,7 +12,7 @@ use Rattle.world_core.specs.declared.replays.ReplayError.{ReplayError}
 use Rattle.world_core.specs.declared.replays.ReplayError.TheVariants as replays
 use Rattle.world_merge.specs.Merges.{events_of}
 use Rattle.world_rules.specs.Images.{image}
-use Rattle.world_rules.specs.Runs.{IsRun, after}
+use Rattle.world_rules.specs.WorldRuns.{IsRun, after}
 use Rattle.world_rules.specs.Worlds.{start}
 use Rattle.trace_text.specs.LinesRead.{LinesRead}
 use Rattle.trace_text.specs.RoundTrip.{told_trace}

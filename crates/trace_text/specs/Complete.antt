@@ -14,7 +14,7 @@ use Rattle.plan_reader.specs.declared.lines.Line.TheVariants.{Post, Disturb, Noi
 use Rattle.plan_reader.specs.declared.plan.Plan.{Plan}
 use Rattle.plan_reader.specs.Plans.{PlanOf}
 use Rattle.round_rules.specs.Records.{IsRecord, Record, log_at, posts_in, world_of}
-use Rattle.script_rules.specs.Laws.{RoundLaws}
+use Rattle.script_rules.specs.ScriptLaws.{RoundLaws}
 use Rattle.script_rules.specs.Outputs.{How, Prints, script_of}
 use Rattle.script_rules.specs.Stages.{Stage, last_of, new_stage}
 use Rattle.script_rules.specs.Tables.{IsTable}

@@ -11,7 +11,7 @@ ghost use Rattle.trace_text.specs.TraceForms.{is_version_2};
 ghost use Rattle.world_core.specs.Replays.{IsFirstDisabled};
 ghost use Rattle.world_merge.specs.Merges.{events_of};
 ghost use Rattle.world_rules.specs.Images.{image};
-ghost use Rattle.world_rules.specs.Runs.{IsRun, after};
+ghost use Rattle.world_rules.specs.WorldRuns.{IsRun, after};
 ghost use Rattle.world_rules.specs.Worlds.{start};
 
 use crate::forms::{head_of, lines_behind, of_lines, plan_of, table_of};

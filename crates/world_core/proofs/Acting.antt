@@ -13,7 +13,7 @@ use Rattle.flood.specs.Frames.{SpellsNothing}
 use Rattle.world_core.specs.declared.acts.Act.{Act}
 use Rattle.world_core.specs.declared.acts.Act.TheVariants as act
 use Rattle.world_core.specs.Replays.{HasActed, HasStepped, IsDisabled, IsUnable, StandsFor, WorldState}
-use Rattle.world_rules.specs.Runs.{is_channel, is_event_of, may_act, step}
+use Rattle.world_rules.specs.WorldRuns.{is_channel, is_event_of, may_act, step}
 use Rattle.world_core.specs.Seats.{HasDoneAt, SeatStands, SeatState, can_do, frame_there, is_able, is_at, is_channel_there}
 use Rattle.world_rules.specs.Worlds.{World, frame_at}
 use Rattle.world_core.proofs.Finding.{IsFirst, all-get, also-found, found-has, is-first, item-found, not-found, same_number}

@@ -6,7 +6,7 @@ use Rattle.ason_base.specs.declared.ids.NodeId.{NodeId}
 use Rattle.ason_base.specs.Network.{Network, are_ends, is_node_id}
 use Rattle.world_core.specs.Channels.{ChannelState, channel_to, frame_on}
 use Rattle.world_core.specs.Replays.{StandsFor, WorldState}
-use Rattle.world_rules.specs.Runs.{is_channel}
+use Rattle.world_rules.specs.WorldRuns.{is_channel}
 use Rattle.world_core.specs.Seats.{SeatStands, SeatState, channel_of, frame_there, is_at, is_channel_there}
 use Rattle.world_rules.specs.Worlds.{World, frame_at, numbered_at}
 use Rattle.world_core.proofs.Finding.{found-has, same_number}

@@ -11,7 +11,7 @@ use Rattle.flood.specs.declared.frames.Content.TheVariants.{Message, Flood}
 use Rattle.hop_reliable.specs.Schedules.{HopEnd}
 use Rattle.flood.specs.State.{pending_count}
 use Rattle.world_core.specs.Replays.{IsNowhere}
-use Rattle.world_rules.specs.Runs.{is_event_of, step}
+use Rattle.world_rules.specs.WorldRuns.{is_event_of, step}
 use Rattle.world_rules.specs.Standing.{IsUntouched}
 use Rattle.world_rules.specs.Worlds.{World, delivered, frame_at, handed_up, taken, with_event}
 use Rattle.world_rules.specs.Worlds as worlds

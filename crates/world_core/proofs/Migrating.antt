@@ -5,7 +5,7 @@ use Rattle.ason_base.specs.Network.{Network}
 use Rattle.world_core.specs.Migration.{AllOfARunAreKept, AreKept, EveryMigrationIsOne, NoneOfARunIsLeftOut, WhatIsKeptIsARun, WhatIsRefusedIsLeftOut}
 use Rattle.world_core.specs.Replays.{HasStepped, IsDisabled, StandsFor, WorldState}
 use Rattle.world_core.proofs.Replaying.{after-more, next-event, not_in_run}
-use Rattle.world_rules.specs.Runs.{IsEnabled, IsRun, after, step}
+use Rattle.world_rules.specs.WorldRuns.{IsEnabled, IsRun, after, step}
 use Rattle.world_rules.specs.Worlds.{World, start}
 
 -- One event more, which is enabled, or isn't

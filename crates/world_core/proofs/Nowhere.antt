@@ -9,7 +9,7 @@ use Rattle.mesh_nodes.proofs.Cases.{both_left}
 use Rattle.mesh_rules.specs.Commands.{is_again, is_valid}
 use Rattle.mesh_rules.specs.Events.{has_first}
 use Rattle.world_core.specs.Replays.{IsNowhere}
-use Rattle.world_rules.specs.Runs.{IsEnabled, IsRun, after, is_channel, may_act, step}
+use Rattle.world_rules.specs.WorldRuns.{IsEnabled, IsRun, after, is_channel, may_act, step}
 use Rattle.world_rules.specs.Worlds.{World, frame_at, start}
 use Rattle.world_core.proofs.Left.{still-nowhere}
 use Rattle.world_core.proofs.Beginning.{nothing-due}

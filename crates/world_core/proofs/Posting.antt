@@ -17,7 +17,7 @@ use Rattle.mesh_rules.specs.Failures.{all_news, failed_after}
 use Rattle.mesh_rules.proofs.LinkNews.{no-news}
 use Rattle.mesh_nodes.proofs.Cases.{both_left}
 use Rattle.world_core.specs.Replays.{HasStepped, IsDisabled, IsForNobody, HaveHeard, IsGiven, IsNowhere, IsPut, StandsFor, WorldState, ingress_of, numbers_of}
-use Rattle.world_rules.specs.Runs.{posted}
+use Rattle.world_rules.specs.WorldRuns.{posted}
 use Rattle.world_core.specs.Seats.{SeatStands, SeatState, is_at, told, with_item}
 use Rattle.world_rules.specs.Worlds.{World}
 use Rattle.world_rules.proofs.Counted.{made_posted}

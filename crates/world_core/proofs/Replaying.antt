@@ -4,7 +4,7 @@ use Rattle.std.proofs.lemmas.List.{length-take-le, take_more}
 use Rattle.ason_base.specs.declared.commands.Event.{Event}
 use Rattle.ason_base.specs.Network.{Network}
 use Rattle.world_core.specs.Replays.{HasStepped, IsDisabled, IsFirstDisabled, StandsFor, WorldState}
-use Rattle.world_rules.specs.Runs.{IsEnabled, IsRun, after, step}
+use Rattle.world_rules.specs.WorldRuns.{IsEnabled, IsRun, after, step}
 use Rattle.world_rules.specs.Worlds.{World, start}
 
 -- the events up to the next one

@@ -22,7 +22,7 @@ use Rattle.control_channels.specs.Frames.{AllSpelled, frames_to}
 use Rattle.control_channels.proofs.Reaching.{hop-new, peers-new}
 use Rattle.world_core.specs.declared.acts.Act.TheVariants as act
 use Rattle.world_core.specs.Channels.{AreSent, ChannelState, HasFrames, after_frames, channel_to, receivers}
-use Rattle.world_rules.specs.Runs.{step}
+use Rattle.world_rules.specs.WorldRuns.{step}
 use Rattle.world_core.specs.Seats.{HasDone, HasReacted, SeatStands, SeatState, new_seat}
 use Rattle.world_rules.specs.Standing.{IsStepOf, IsUntouched, contents_to}
 use Rattle.world_rules.specs.Worlds.{World, delivered, frame_at, handed_up, start, taken, with_event}

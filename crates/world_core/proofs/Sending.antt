@@ -14,7 +14,7 @@ use Rattle.flood.specs.Frames.{IsFrame, frame_bytes}
 use Rattle.control_channels.specs.declared.frames.Frame.{Frame}
 use Rattle.control_channels.specs.Frames.{AllSpelled, Sending, frames_to}
 use Rattle.world_core.specs.Channels.{AreSent, ChannelState, HasFrames, IsChangedAt, after_frame, after_frames, channel_to, frame_numbered, leads_to, new_channel, receivers, with_frame}
-use Rattle.world_rules.specs.Runs.{is_channel}
+use Rattle.world_rules.specs.WorldRuns.{is_channel}
 use Rattle.world_rules.specs.Standing.{contents_to}
 use Rattle.world_rules.specs.Worlds.{numbered_at}
 use Rattle.world_core.proofs.Finding.{IsFirst, also-found, found-passes, is-first, not-found, same_number}

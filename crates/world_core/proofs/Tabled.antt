@@ -13,7 +13,7 @@ use Rattle.mesh_rules.specs.LocalNodes.{LocalNode, local_node}
 use Rattle.mesh_rules.specs.State.{NodeState}
 use Rattle.control_channels.specs.declared.adjacencies.Adjacency.{Adjacency}
 use Rattle.control_channels.specs.Adjacencies.{hop_at, hop_of, is_to}
-use Rattle.control_channels.specs.Kept.{unacknowledged}
+use Rattle.control_channels.specs.ReadyControllers.{unacknowledged}
 use Rattle.control_channels.proofs.Reaching.{each-to_neighbour}
 use Rattle.world_rules.specs.Images.{IsQuiet}
 use Rattle.world_core.specs.Replays.{StandsFor, WorldState}

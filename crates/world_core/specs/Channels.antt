@@ -7,7 +7,7 @@ use Rattle.ason_base.specs.Network.{Network}
 use Rattle.flood.specs.declared.frames.Content.{Content}
 use Rattle.flood.specs.Frames.{IsFrame, frame_bytes}
 use Rattle.control_channels.specs.declared.frames.Frame.{Frame}
-use Rattle.world_rules.specs.Runs.{is_channel}
+use Rattle.world_rules.specs.WorldRuns.{is_channel}
 
 -- the node to which it leads, and the frames, the oldest first
 pub record ChannelState : Type 0 where

@@ -3,7 +3,7 @@ use Rattle.std.specs.Prelude.{◌≡◌, ◌≢◌, ◌+◌, ◌⊎◌, ◌↔�
 use Rattle.ason_base.specs.declared.commands.Event.{Event}
 use Rattle.ason_base.specs.Network.{Network}
 use Rattle.world_core.specs.Replays.{IsFirstDisabled}
-use Rattle.world_rules.specs.Runs.{IsEnabled, IsRun, step}
+use Rattle.world_rules.specs.WorldRuns.{IsEnabled, IsRun, step}
 use Rattle.world_rules.specs.Worlds.{World, start}
 
 -- Of these events, taken in turn from this world on, just those are kept that are enabled after the ones kept before,

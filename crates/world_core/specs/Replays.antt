@@ -21,7 +21,7 @@ use Rattle.world_core.specs.declared.faults.Fault.TheVariants.{NotEnabled}
 use Rattle.world_rules.specs.Images.{IsQuiet, image}
 use Rattle.world_core.specs.Seats.{HasDoneAt, SeatStands, SeatState, can_do, is_able, is_at, told, with_item}
 use Rattle.world_rules.specs.Worlds.{World, start}
-use Rattle.world_rules.specs.Runs.{IsEnabled, IsRun, after, step}
+use Rattle.world_rules.specs.WorldRuns.{IsEnabled, IsRun, after, step}
 
 -- the seats of all nodes, in order of number, the call numbers of the setups that were posted, and the groups that have
 -- failed

@@ -15,11 +15,11 @@ use Rattle.control_channels.specs.declared.inputs.CoreInput.{CoreInput}
 use Rattle.control_channels.specs.declared.inputs.CoreInput.TheVariants as input
 use Rattle.control_channels.specs.Adjacencies.{neighbours, peer_numbers}
 use Rattle.control_channels.specs.Controllers.{ControllerState, IsStep, meaning}
-use Rattle.control_channels.specs.Kept.{new_controller, unacknowledged}
+use Rattle.control_channels.specs.ReadyControllers.{new_controller, unacknowledged}
 use Rattle.world_core.specs.declared.acts.Act.{Act}
 use Rattle.world_core.specs.declared.acts.Act.TheVariants.{Take, Tick, Handle}
 use Rattle.world_core.specs.Channels.{AreSent, ChannelState, HasFrames, channel_to, frame_on, new_channel, receivers}
-use Rattle.world_rules.specs.Runs.{is_channel}
+use Rattle.world_rules.specs.WorldRuns.{is_channel}
 use Rattle.world_rules.specs.Standing.{StandsAt}
 use Rattle.world_rules.specs.Worlds.{World}
 

@@ -5,7 +5,7 @@ ghost use Rattle.std.specs.List.{list_any};
 ghost use Rattle.std.specs.Option.{option_copied};
 ghost use Rattle.ason_base.specs.Network.{are_ends};
 ghost use Rattle.world_core.specs.Channels.{AreSent, ChannelState, IsChangedAt, channel_to, frame_numbered, frame_on, leads_to, new_channel, receivers, with_frame};
-ghost use Rattle.world_rules.specs.Runs.{is_channel};
+ghost use Rattle.world_rules.specs.WorldRuns.{is_channel};
 
 use ason_base::{Bytes, NodeId, OutOfMemory, Topology};
 use controller::{Frame, Frames};

@@ -3,7 +3,7 @@
 ghost use Rattle.std.specs.Prelude.{◌≡◌, ℕ, IfErr, IfOk};
 ghost use Rattle.world_core.specs.declared.replays.ReplayError.{ReplayError};
 ghost use Rattle.world_core.specs.Replays.{IsFirstDisabled, StandsFor};
-ghost use Rattle.world_rules.specs.Runs.{IsRun, after};
+ghost use Rattle.world_rules.specs.WorldRuns.{IsRun, after};
 ghost use Rattle.world_rules.specs.Worlds.{start};
 
 use crate::faults::Fault;

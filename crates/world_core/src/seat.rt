@@ -4,7 +4,7 @@ ghost use Rattle.std.specs.Prelude.{◌≡◌, ◌==◌, ◌<◌, [], ◌∷◌,
 ghost use Rattle.std.specs.Option.{option_copied};
 ghost use Rattle.ason_base.specs.Network.{find_node};
 ghost use Rattle.mesh_rules.specs.Rows.{call_rows, leg_rows};
-ghost use Rattle.control_channels.specs.Kept.{IsFromNeighbour};
+ghost use Rattle.control_channels.specs.ReadyControllers.{IsFromNeighbour};
 ghost use Rattle.world_core.specs.declared.acts.Act.{Act};
 ghost use Rattle.world_core.specs.declared.faults.Fault.{Fault};
 ghost use Rattle.world_core.specs.Channels.{channel_to, frame_on};
@@ -23,14 +23,14 @@ use std::marker::Model;
 
 /// A node's controller, its desk, and the channels that lead from it.
 #[derive(Drop)]
-pub struct Seat {
+pub struct WorldSeat {
     node: NodeId,
     controller: Controller,
     desk: VecDeque<DeskItem>,
     channels: Vec<Channel>,
 }
 
-impl Model for Seat {
+impl Model for WorldSeat {
     ghost use Rattle.world_core.specs.Seats.{SeatState};
 
     ghost Value = { SeatState };
@@ -43,13 +43,13 @@ impl Model for Seat {
     } };
 }
 
-impl Seat {
+impl WorldSeat {
     /// The seat of node `id`, which keeps nothing and sent nothing.
-    pub(crate) fn new(alloc: Global, t: &Topology, id: NodeId) -> Result<Seat, OutOfMemory>
+    pub(crate) fn new(alloc: Global, t: &Topology, id: NodeId) -> Result<WorldSeat, OutOfMemory>
         requires { IsSome (find_node t.now id) }
         ensures { IfOk result (λ s. s ≡ new_seat t.now id) }
     {
-        Ok(Seat {
+        Ok(WorldSeat {
             node: id,
             controller: Controller::new(alloc, t, id)?,
             desk: VecDeque::new(alloc),

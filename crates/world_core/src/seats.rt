@@ -9,40 +9,40 @@ ghost use Rattle.world_core.specs.Seats.{HasDoneAt, SeatState, can_do, frame_the
 
 use crate::acts::Act;
 use crate::faults::Fault;
-use crate::seat::Seat;
+use crate::seat::WorldSeat;
 use ason_base::{
     Bytes, CallRows, DeskItem, Group, LegRows, NodeId, OutOfMemory, TableRows, Topology,
 };
 use std::alloc::Global;
 
 /// A seat for each node.
-pub(crate) fn new_seats(alloc: Global, t: &Topology) -> Result<Vec<Seat>, OutOfMemory>
+pub(crate) fn new_seats(alloc: Global, t: &Topology) -> Result<Vec<WorldSeat>, OutOfMemory>
     ensures { IfOk result (λ v. v.items ≡ map (λ m. new_seat t.now m.id) t.now.nodes) }
 {
     let mut seats = Vec::new(alloc);
     for m in t.nodes() {
-        let seat = Seat::new(alloc, t, m.id)?;
+        let seat = WorldSeat::new(alloc, t, m.id)?;
         seats.push(seat)?;
     }
     Ok(seats)
 }
 
 /// Where the seat of this node is.
-pub(crate) fn place_of(seats: &[Seat], n: NodeId) -> Option<usize>
+pub(crate) fn place_of(seats: &[WorldSeat], n: NodeId) -> Option<usize>
     ensures { result ≡ position (is_at n.0) seats.now }
 {
     seats.iter().position(|seat| seat.node() == n)
 }
 
 /// Where the seat of this node is, if the node may make an event more.
-pub(crate) fn able_place(seats: &[Seat], n: NodeId) -> Option<usize>
+pub(crate) fn able_place(seats: &[WorldSeat], n: NodeId) -> Option<usize>
     ensures { result ≡ position (is_able n.0) seats.now }
 {
     seats.iter().position(|seat| seat.is_able(n))
 }
 
 /// The node at this place does this, where it can be done.
-pub(crate) fn act_at(seats: &mut Vec<Seat>, place: usize, act: Act) -> Result<(), Fault>
+pub(crate) fn act_at(seats: &mut Vec<WorldSeat>, place: usize, act: Act) -> Result<(), Fault>
     requires within { place < length seats.old.items }
     requires few { (s : SeatState) → slice_get seats.old.items place ≡ Some s →
         s.controller.steps < 50000 }
@@ -58,7 +58,11 @@ pub(crate) fn act_at(seats: &mut Vec<Seat>, place: usize, act: Act) -> Result<()
 }
 
 /// Puts an item on the desk at this place.
-pub(crate) fn put_at(seats: &mut Vec<Seat>, place: usize, item: DeskItem) -> Result<(), OutOfMemory>
+pub(crate) fn put_at(
+    seats: &mut Vec<WorldSeat>,
+    place: usize,
+    item: DeskItem,
+) -> Result<(), OutOfMemory>
     requires { place < length seats.old.items }
     ensures { OnOk result ((s : SeatState) → slice_get seats.old.items place ≡ Some s →
         seats.new.items ≡ slice_set seats.old.items place (with_item item s)) }
@@ -69,7 +73,7 @@ pub(crate) fn put_at(seats: &mut Vec<Seat>, place: usize, item: DeskItem) -> Res
 
 /// Puts what each node is told at the end of its desk, where other groups have failed than before.
 pub(crate) fn tell_all(
-    seats: &mut [Seat],
+    seats: &mut [WorldSeat],
     t: &Topology,
     before: &[Group],
     after: &[Group],
@@ -82,14 +86,14 @@ pub(crate) fn tell_all(
     Ok(())
 }
 
-fn seat_at(seats: &[Seat], n: NodeId) -> Option<&Seat>
+fn seat_at(seats: &[WorldSeat], n: NodeId) -> Option<&WorldSeat>
     ensures { option_copied result ≡ find (is_at n.0) seats.now }
 {
     seats.iter().find(|seat| seat.node() == n)
 }
 
 /// Whether a channel leads from one node to the other.
-pub(crate) fn is_channel_there(seats: &[Seat], u: NodeId, d: NodeId) -> bool
+pub(crate) fn is_channel_there(seats: &[WorldSeat], u: NodeId, d: NodeId) -> bool
     ensures { result ≡ is_channel_there seats.now u d }
 {
     match seat_at(seats, u) {
@@ -99,7 +103,7 @@ pub(crate) fn is_channel_there(seats: &[Seat], u: NodeId, d: NodeId) -> bool
 }
 
 /// The frame with this number on the channel from one node to the other.
-pub(crate) fn frame_there(seats: &[Seat], u: NodeId, d: NodeId, number: u64) -> Option<&Bytes>
+pub(crate) fn frame_there(seats: &[WorldSeat], u: NodeId, d: NodeId, number: u64) -> Option<&Bytes>
     ensures { option_copied result ≡ frame_there seats.now u d number }
 {
     match seat_at(seats, u) {
@@ -109,7 +113,7 @@ pub(crate) fn frame_there(seats: &[Seat], u: NodeId, d: NodeId, number: u64) -> 
 }
 
 /// What a table shows of each node, one after the other.
-pub(crate) fn rows_of(alloc: Global, seats: &[Seat]) -> Result<TableRows, OutOfMemory>
+pub(crate) fn rows_of(alloc: Global, seats: &[WorldSeat]) -> Result<TableRows, OutOfMemory>
     ensures calls { IfOk result
         (λ rows. rows.calls ≡ flat_map
         (λ s. call_rows s.controller.node.place.id s.controller.node.state) seats.now) }
@@ -130,7 +134,7 @@ pub(crate) fn rows_of(alloc: Global, seats: &[Seat]) -> Result<TableRows, OutOfM
 }
 
 /// Whether nothing waits at any node.
-pub(crate) fn are_quiet(seats: &[Seat]) -> bool
+pub(crate) fn are_quiet(seats: &[WorldSeat]) -> bool
     ensures { result ≡ list_all is_quiet seats.now }
 {
     seats.iter().all(|seat| seat.is_quiet())

@@ -14,7 +14,7 @@ ghost use Rattle.world_rules.specs.Worlds.{start};
 use crate::acts::Act;
 use crate::faults::Fault;
 use crate::noise::spells_nothing;
-use crate::seat::Seat;
+use crate::seat::WorldSeat;
 use crate::seats::{
     able_place, act_at, are_quiet, frame_there, is_channel_there, new_seats, place_of, put_at,
     rows_of, tell_all,
@@ -32,7 +32,7 @@ use std::marker::Model;
 /// were posted, and the groups that have failed.
 #[derive(Drop)]
 pub struct World {
-    seats: Vec<Seat>,
+    seats: Vec<WorldSeat>,
     posted: Vec<CallNo>,
     failed: Vec<Group>,
 }

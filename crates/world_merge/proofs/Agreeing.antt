@@ -29,7 +29,7 @@ use Rattle.mesh_rules.specs.Waits.{on_tick}
 use Rattle.control_channels.specs.Controllers.{with_learnt}
 use Rattle.world_rules.specs.Worlds.{World, commit, delivered, floods_ticked, handed_up, handled, hops_ticked}
 use Rattle.world_rules.specs.Worlds.{numbered_after, sends_all, taken, with_event, with_floods, with_packets}
-use Rattle.world_rules.specs.Runs.{step, with_failed, with_item, with_posted, without_item}
+use Rattle.world_rules.specs.WorldRuns.{step, with_failed, with_item, with_posted, without_item}
 use Rattle.world_merge.specs.Deeds.{Deed, Handled, Heard, Posted, Ticked, Took, done}
 use Rattle.world_merge.specs.Merges.{Agrees}
 

@@ -9,7 +9,7 @@ use Rattle.ason_base.specs.Network.{Network}
 use Rattle.flood.specs.declared.frames.Content.{Content}
 use Rattle.flood.specs.declared.frames.Content.TheVariants.{Message, Flood}
 use Rattle.world_rules.specs.Worlds.{World, delivered, frame_at, handed_up, handled, taken, with_event}
-use Rattle.world_rules.specs.Runs.{is_event_of, step}
+use Rattle.world_rules.specs.WorldRuns.{is_event_of, step}
 use Rattle.world_rules.specs.Standing.{IsUntouched}
 use Rattle.world_rules.proofs.Sent.{turned}
 use Rattle.world_rules.proofs.Untouched.{others-are-untouched}

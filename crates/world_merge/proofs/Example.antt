@@ -7,7 +7,7 @@ use Rattle.ason_base.specs.declared.commands.Entry.{Entry}
 use Rattle.ason_base.specs.Network.{Network, row_of}
 use Rattle.flood.specs.declared.frames.Content.TheVariants.{Flood}
 use Rattle.flood.specs.declared.messages.FloodMsg.TheVariants.{Row}
-use Rattle.world_rules.specs.Runs.{after}
+use Rattle.world_rules.specs.WorldRuns.{after}
 use Rattle.world_rules.specs.Worlds.{start}
 use Rattle.world_merge.specs.Deeds.{AreDoable, Deed, Ticked, Took}
 use Rattle.world_merge.specs.Histories.{AreGenuine, AreHistories, at}

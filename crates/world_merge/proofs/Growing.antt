@@ -24,7 +24,7 @@ use Rattle.mesh_rules.specs.Messages.{on_message}
 use Rattle.mesh_rules.specs.Waits.{on_tick}
 use Rattle.world_rules.specs.Worlds.{World, commit, delivered, floods_ticked, frame_at, handed_up, handled, hops_ticked}
 use Rattle.world_rules.specs.Worlds.{numbered_after, taken, with_event, with_floods, with_packets}
-use Rattle.world_rules.specs.Runs.{posted, step, without_item}
+use Rattle.world_rules.specs.WorldRuns.{posted, step, without_item}
 use Rattle.world_merge.specs.Deeds.{Deed, Handled, Heard, Posted, Ticked, Took, alone_from, done}
 
 -- the channel has more at its end

@@ -4,7 +4,7 @@ use Rattle.ason_base.specs.declared.ids.NodeId.{NodeId}
 use Rattle.ason_base.specs.declared.commands.Entry.{Entry}
 use Rattle.ason_base.specs.Network.{Network}
 use Rattle.world_rules.specs.Worlds.{World, start}
-use Rattle.world_rules.specs.Runs.{IsRun, after, step}
+use Rattle.world_rules.specs.WorldRuns.{IsRun, after, step}
 use Rattle.world_merge.specs.Deeds.{Deed, alone}
 use Rattle.world_merge.specs.Histories.{AreHistories, Histories, at}
 use Rattle.world_merge.specs.Logs.{line_of}

@@ -11,7 +11,7 @@ use Rattle.flood.specs.declared.frames.Content.{Content}
 use Rattle.mesh_rules.specs.Commands.{is_again, is_valid}
 use Rattle.mesh_rules.specs.Events.{has_first}
 use Rattle.world_rules.specs.Worlds.{World, delivered, frame_at, start, with_event}
-use Rattle.world_rules.specs.Runs.{IsEnabled, is_channel, is_event_of, may_act, step}
+use Rattle.world_rules.specs.WorldRuns.{IsEnabled, is_channel, is_event_of, may_act, step}
 use Rattle.world_rules.proofs.Stepping.{self_test}
 use Rattle.world_merge.specs.Deeds.{AreDoable, Deed, Handled, Heard, IsDoable, Posted, Ticked, Took, alone, done}
 use Rattle.world_merge.specs.Deeds.{stamp_of}

@@ -7,7 +7,7 @@ use Rattle.ason_base.specs.declared.commands.Command.TheVariants.{Setup, Release
 use Rattle.ason_base.specs.declared.commands.Event.TheVariants.{Post}
 use Rattle.ason_base.specs.Network.{Network}
 use Rattle.mesh_rules.specs.Failures.{with_group, without_group}
-use Rattle.world_rules.specs.Runs.{step}
+use Rattle.world_rules.specs.WorldRuns.{step}
 use Rattle.world_rules.specs.Worlds.{World, start, with_event}
 use Rattle.world_merge.specs.Deeds.{Deed, Handled, Heard, Posted, Ticked, Took, alone, alone_from, done}
 use Rattle.world_merge.specs.Logs.{is_posted}

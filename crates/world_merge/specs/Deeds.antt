@@ -9,7 +9,7 @@ use Rattle.flood.specs.Frames.{SpellsNothing}
 use Rattle.mesh_rules.specs.Commands.{is_valid, is_again}
 use Rattle.mesh_rules.specs.Events.{has_first}
 use Rattle.world_rules.specs.Worlds.{World, delivered, start, with_event}
-use Rattle.world_rules.specs.Runs.{is_channel, may_act, step}
+use Rattle.world_rules.specs.WorldRuns.{is_channel, may_act, step}
 
 -- One thing that happens at a node, with its stamp: the node ticks, handles the first item of its desk, takes a frame,
 -- or hears noise; or a command is posted, which every node has in its list. Of a frame stands what it bears, since a

@@ -5,7 +5,7 @@ use Rattle.ason_base.specs.declared.commands.Entry.{Entry}
 use Rattle.ason_base.specs.declared.commands.Event.{Event}
 use Rattle.ason_base.specs.Network.{Network}
 use Rattle.world_rules.specs.Worlds.{World, start}
-use Rattle.world_rules.specs.Runs.{IsRun, after}
+use Rattle.world_rules.specs.WorldRuns.{IsRun, after}
 use Rattle.world_merge.specs.Deeds.{alone}
 use Rattle.world_merge.specs.Histories.{AreHistories, Histories, at}
 use Rattle.world_merge.specs.Logs.{line_of}

@@ -13,8 +13,8 @@ use Rattle.mesh_rules.specs.Events.{has_first}
 use Rattle.flood.specs.declared.frames.Content.{Content}
 use Rattle.flood.specs.declared.frames.Content.TheVariants.{Message, Flood}
 use Rattle.world_rules.specs.Worlds.{World, delivered, frame_at, handed_up, handled, start, taken, with_event}
-use Rattle.world_rules.specs.Runs.{IsEnabled, IsRun, after, events_of, is_channel, is_event_of, may_act, posted, step}
-use Rattle.world_rules.specs.Laws.{EventsAreCounted}
+use Rattle.world_rules.specs.WorldRuns.{IsEnabled, IsRun, after, events_of, is_channel, is_event_of, may_act, posted, step}
+use Rattle.world_rules.specs.WorldLaws.{EventsAreCounted}
 
 made_handled : (t : Network) (w : World) (d u : NodeId) (ms : List Msg) → (handled t w d u ms).made ≡ w.made
 made_handled t w d u [] = refl

@@ -11,11 +11,11 @@ use Rattle.mesh_nodes.specs.Learnt.{NothingElseIsLearnt}
 use Rattle.mesh_rules.specs.declared.events.MeshEvent.{MeshEvent}
 use Rattle.mesh_rules.specs.Machine.{Mesh}
 use Rattle.mesh_rules.specs.Events as mesh_runs
-use Rattle.mesh_laws.specs.Laws.{EveryRunKeepsTheLaws}
+use Rattle.mesh_laws.specs.StateLaws.{EveryRunKeepsTheLaws}
 use Rattle.world_rules.specs.Worlds.{World, start}
-use Rattle.world_rules.specs.Runs.{IsRun, after, step}
+use Rattle.world_rules.specs.WorldRuns.{IsRun, after, step}
 use Rattle.world_rules.specs.Images.{given_by, image, mesh_events}
-use Rattle.world_rules.specs.Laws.{ChannelsHaveTheFrames, EachIsFound, EveryImageHasTheLaws, EveryRunIsShown, IsWithoutMessages, JoinedKnowTheLinks, JoinedKnowTheSame, KnownIsTrue, QuietIsShown}
+use Rattle.world_rules.specs.WorldLaws.{ChannelsHaveTheFrames, EachIsFound, EveryImageHasTheLaws, EveryRunIsShown, IsWithoutMessages, JoinedKnowTheLinks, JoinedKnowTheSame, KnownIsTrue, QuietIsShown}
 use Rattle.world_rules.proofs.Flooded.{AreFlooded, flooded-run, flooded-start, flooded-step}
 use Rattle.world_rules.proofs.Learnt.{is-true}
 use Rattle.world_rules.proofs.Reached.{AreReached, are-reached-run, are-reached-start, are-reached-step}

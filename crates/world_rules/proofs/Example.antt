@@ -19,7 +19,7 @@ use Rattle.flood.specs.declared.frames.Content.TheVariants.{Message, Flood}
 use Rattle.flood.specs.Frames.{SpellsNothing}
 use Rattle.world_rules.specs.Frames.{packets_of}
 use Rattle.world_rules.specs.Worlds.{World, start}
-use Rattle.world_rules.specs.Runs.{IsEnabled, IsRun, after, step}
+use Rattle.world_rules.specs.WorldRuns.{IsEnabled, IsRun, after, step}
 use Rattle.world_rules.specs.Images.{mesh_events}
 
 a : NodeId

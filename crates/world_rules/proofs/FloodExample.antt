@@ -9,9 +9,9 @@ use Rattle.flood.specs.declared.frames.Content.TheVariants.{Flood}
 use Rattle.flood.specs.declared.messages.FloodMsg.TheVariants.{Row, Ack}
 use Rattle.flood.specs.State.{pending_count}
 use Rattle.mesh_rules.specs.declared.events.MeshEvent.TheVariants.{Learn, Tick}
-use Rattle.world_rules.specs.Laws.{known_at}
+use Rattle.world_rules.specs.WorldLaws.{known_at}
 use Rattle.world_rules.specs.Worlds.{World, start}
-use Rattle.world_rules.specs.Runs.{IsRun, after}
+use Rattle.world_rules.specs.WorldRuns.{IsRun, after}
 use Rattle.world_rules.specs.Images.{mesh_events}
 
 a : NodeId

@@ -33,8 +33,8 @@ use Rattle.control_channels.specs.Controllers.{with_learnt}
 use Rattle.control_channels.proofs.Beginning.{own-are}
 use Rattle.control_channels.proofs.RowsLearnt.{learnt-rows}
 use Rattle.world_rules.specs.Frames.{floods_of}
-use Rattle.world_rules.specs.Laws.{FloodingIsANetworks, KnownIsFlooded, flooding, known_at}
-use Rattle.world_rules.specs.Runs.{after, posted, step, without_item}
+use Rattle.world_rules.specs.WorldLaws.{FloodingIsANetworks, KnownIsFlooded, flooding, known_at}
+use Rattle.world_rules.specs.WorldRuns.{after, posted, step, without_item}
 use Rattle.world_rules.specs.Worlds.{World, commit, delivered, flooded, floods_ticked, frame_at, handed_up, handled, hops_ticked, start, taken, with_event, with_packets}
 use Rattle.world_rules.proofs.Channels.{flood-sent, floods-added, floods-stay}
 

@@ -24,8 +24,8 @@ use Rattle.mesh_rules.specs.LocalNodes.{local_node}
 use Rattle.control_channels.proofs.RowsLearnt.{new-facts}
 use Rattle.world_rules.specs.Frames.{floods_of}
 use Rattle.world_rules.specs.Images.{image}
-use Rattle.world_rules.specs.Laws.{EachIsFound, TopologiesFindEach}
-use Rattle.world_rules.specs.Runs.{is_channel}
+use Rattle.world_rules.specs.WorldLaws.{EachIsFound, TopologiesFindEach}
+use Rattle.world_rules.specs.WorldRuns.{is_channel}
 use Rattle.world_rules.specs.Worlds.{World, frame_at}
 use Rattle.world_rules.proofs.Channels.{flood-sent}
 use Rattle.world_rules.proofs.Flooded.{AreFlooded}

@@ -23,7 +23,7 @@ use Rattle.mesh_rules.specs.Machine.{sent_to}
 use Rattle.mesh_rules.specs.Messages.{on_message}
 use Rattle.mesh_rules.specs.Waits.{on_tick}
 use Rattle.world_rules.specs.Worlds.{World, commit, delivered, flooded, floods_ticked, frame_at, handed_up, handled, hops_ticked, sends_all, start, taken, with_event}
-use Rattle.world_rules.specs.Runs.{IsEnabled, IsRun, after, is_channel, may_act, posted, step, without_item}
+use Rattle.world_rules.specs.WorldRuns.{IsEnabled, IsRun, after, is_channel, may_act, posted, step, without_item}
 use Rattle.world_rules.proofs.Channels.{HasPackets, IsMade, has-flooded, has-sent, has-taken, has-ticked, is-made}
 use Rattle.world_rules.proofs.Ends.{IsReached, pair, reached-east, reached-sends, reached-start, reached-ticks, reached-west}
 use Rattle.world_rules.proofs.Ways.{up-sends}

@@ -25,9 +25,9 @@ use Rattle.mesh_rules.specs.Waits.{on_tick}
 use Rattle.mesh_rules.specs.State.{NodeState}
 use Rattle.control_channels.specs.Controllers.{with_learnt}
 use Rattle.world_rules.specs.Worlds.{World, delivered, flooded, floods_ticked, frame_at, handed_up, heard_at, hops_ticked, taken, with_event}
-use Rattle.world_rules.specs.Runs.{IsEnabled, is_channel, may_act, posted, step, without_item}
+use Rattle.world_rules.specs.WorldRuns.{IsEnabled, is_channel, may_act, posted, step, without_item}
 use Rattle.world_rules.specs.Images.{given_by, given_by_frame, image, learnt_by}
-use Rattle.world_rules.specs.Laws.{EachIsFound, NoiseIsNotShown, OnlyNewRowsAreShown, OnlyTheNextIsShown}
+use Rattle.world_rules.specs.WorldLaws.{EachIsFound, NoiseIsNotShown, OnlyNewRowsAreShown, OnlyTheNextIsShown}
 use Rattle.world_rules.proofs.Reached.{AreReached, is-other, reached-event, reached-floods, reached-frame, reached-hops, reached-item}
 use Rattle.world_rules.proofs.Learnt.{IsTrue, MayLearnIt, may-learn-it}
 use Rattle.world_rules.proofs.PacketsShown.{image-commit, image-hops, image_unmoved, Shows, shows_handled, at_most_one, nothing_up, handled_none}

@@ -28,7 +28,7 @@ use Rattle.control_channels.specs.Controllers.{Meaning, acks_to, after_tick, car
 use Rattle.control_channels.specs.Frames.{Sending}
 use Rattle.world_rules.specs.Worlds.{World, commit, delivered, flooded, floods_ticked, handed_up, heard_at, hops_ticked, taken, with_event, with_floods, with_packets}
 use Rattle.world_rules.specs.Worlds as world
-use Rattle.world_rules.specs.Runs.{without_item}
+use Rattle.world_rules.specs.WorldRuns.{without_item}
 use Rattle.world_rules.specs.Standing.{ContentsAreTaken, DeliveriesAreTaken, IsStepOf, ItemsAreHandled, NoiseMovesNothing, StandsAt, TicksAreTicked, contents_to}
 use Rattle.world_rules.proofs.Again.{again-packets, are-apart, contents-append}
 use Rattle.world_rules.proofs.Sent.{IsSent, is-sent, turned}

@@ -10,8 +10,8 @@ use Rattle.mesh_rules.specs.Events as mesh_runs
 use Rattle.mesh_rules.specs.Machine.{Mesh}
 use Rattle.mesh_rules.specs.Machine as mesh
 use Rattle.world_rules.specs.Images.{image, mesh_events}
-use Rattle.world_rules.specs.Laws.{IsShown}
-use Rattle.world_rules.specs.Runs.{IsRun, after}
+use Rattle.world_rules.specs.WorldLaws.{IsShown}
+use Rattle.world_rules.specs.WorldRuns.{IsRun, after}
 use Rattle.world_rules.specs.Worlds.{start}
 
 a : NodeId

@@ -17,7 +17,7 @@ use Rattle.mesh_rules.specs.LocalNodes.{local_node}
 use Rattle.mesh_rules.specs.Messages.{on_message}
 use Rattle.mesh_rules.specs.Waits.{on_tick}
 use Rattle.world_rules.specs.Worlds.{World, commit, delivered, floods_ticked, frame_at, handed_up, handled, hops_ticked, taken, with_event}
-use Rattle.world_rules.specs.Runs.{posted, step, without_item}
+use Rattle.world_rules.specs.WorldRuns.{posted, step, without_item}
 use Rattle.world_rules.specs.Standing.{ChannelsJoinNeighbours, IsUntouched, OthersAreUntouched}
 use Rattle.world_rules.proofs.Sent.{turned}
 

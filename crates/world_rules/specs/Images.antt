@@ -14,7 +14,7 @@ use Rattle.mesh_rules.specs.declared.events.MeshEvent.{MeshEvent}
 use Rattle.mesh_rules.specs.declared.events.MeshEvent.TheVariants.{Take, Desk, Tick, Learn, Post}
 use Rattle.mesh_rules.specs.Machine.{Mesh}
 use Rattle.world_rules.specs.Worlds.{World, frame_at, handed_up}
-use Rattle.world_rules.specs.Runs.{step}
+use Rattle.world_rules.specs.WorldRuns.{step}
 
 -- Between two nodes are the messages that the sender's hop took for sending, in order, beyond those that the receiver's
 -- hop handed up, whatever the channel has of them. All else is the world's. What is flooded is no part of it but for

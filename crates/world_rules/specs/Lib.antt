@@ -1,6 +1,6 @@
 pub mod Frames
 pub mod Images
-pub mod Laws
-pub mod Runs
 pub mod Standing
+pub mod WorldLaws
+pub mod WorldRuns
 pub mod Worlds

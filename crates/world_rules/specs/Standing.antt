@@ -16,7 +16,7 @@ use Rattle.control_channels.specs.Adjacencies.{hop_at, neighbours, peer_numbers}
 use Rattle.control_channels.specs.Controllers.{ControllerState, Meaning, Stepped, after_tick, flood_after, handled, meaning, took_frame, unmoved}
 use Rattle.control_channels.specs.Frames.{Sending}
 use Rattle.world_rules.specs.Worlds.{World, delivered, frame_at, with_event}
-use Rattle.world_rules.specs.Runs.{is_channel, is_event_of, step}
+use Rattle.world_rules.specs.WorldRuns.{is_channel, is_event_of, step}
 
 pub record StandsAt (w : World) (n : ℕ) (c : Meaning) : Type 0 where
   pub state : c.state ≡ w.nodes n

@@ -1,8 +1,8 @@
 //! Laws over every run of a world.
 
-ghost use Rattle.world_rules.specs.Laws.{ChannelsHaveTheFrames, EventsAreCounted, EveryImageHasTheLaws, EveryRunIsShown};
-ghost use Rattle.world_rules.specs.Laws.{FloodingIsANetworks, JoinedKnowTheLinks, JoinedKnowTheSame, KnownIsFlooded, KnownIsTrue};
-ghost use Rattle.world_rules.specs.Laws.{NoiseIsNotShown, OnlyNewRowsAreShown, OnlyTheNextIsShown, QuietIsShown, TopologiesFindEach};
+ghost use Rattle.world_rules.specs.WorldLaws.{ChannelsHaveTheFrames, EventsAreCounted, EveryImageHasTheLaws, EveryRunIsShown};
+ghost use Rattle.world_rules.specs.WorldLaws.{FloodingIsANetworks, JoinedKnowTheLinks, JoinedKnowTheSame, KnownIsFlooded, KnownIsTrue};
+ghost use Rattle.world_rules.specs.WorldLaws.{NoiseIsNotShown, OnlyNewRowsAreShown, OnlyTheNextIsShown, QuietIsShown, TopologiesFindEach};
 ghost use Rattle.world_rules.specs.Standing.{ChannelsJoinNeighbours, ContentsAreTaken, DeliveriesAreTaken, ItemsAreHandled};
 ghost use Rattle.world_rules.specs.Standing.{NoiseMovesNothing, OthersAreUntouched, TicksAreTicked};
 

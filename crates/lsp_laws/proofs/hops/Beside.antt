@@ -23,12 +23,12 @@ use Rattle.mesh_nodes.proofs.CallList.{all-calls_found}
 use Rattle.mesh_nodes.proofs.LegList.{all-found, found-lsp}
 use Rattle.lsp_laws.proofs.nodes.CallParts.{named-lsp}
 use Rattle.lsp_laws.proofs.nodes.Facts.{MeshFacts}
-use Rattle.lsp_laws.proofs.nodes.Runs.{facts-hold}
+use Rattle.lsp_laws.proofs.nodes.NodeRuns.{facts-hold}
 use Rattle.lsp_laws.proofs.hops.Plans.{Plan, plan, node_at, same_node}
 use Rattle.lsp_laws.proofs.hops.Purposes.{Purpose, Carries, Guards, Tells, role_of}
 use Rattle.lsp_laws.proofs.hops.Chain.{LegFits}
 use Rattle.lsp_laws.proofs.hops.Planned.{Follows, IsGuarded, StandsBeside}
-use Rattle.lsp_laws.proofs.hops.Laws.{follows}
+use Rattle.lsp_laws.proofs.hops.HopLaws.{follows}
 
 module _ (t : Network) (events : List MeshEvent) (run : IsRun t start events) where
   abbrev s : Mesh

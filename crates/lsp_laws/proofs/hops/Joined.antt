@@ -32,14 +32,14 @@ use Rattle.lsp_laws.specs.LabelLaw.{BackLabelsFit, HasBackLabels}
 use Rattle.mesh_nodes.proofs.CallList.{all-calls_found}
 use Rattle.lsp_laws.proofs.nodes.CallParts.{named-lsp}
 use Rattle.lsp_laws.proofs.nodes.Facts.{MeshFacts}
-use Rattle.lsp_laws.proofs.nodes.Runs.{facts-hold}
+use Rattle.lsp_laws.proofs.nodes.NodeRuns.{facts-hold}
 use Rattle.lsp_laws.proofs.hops.Plans.{Plan, plan, node_at}
 use Rattle.lsp_laws.proofs.hops.Purposes.{Purpose, role_of}
 use Rattle.lsp_laws.proofs.hops.Chain.{Chain}
 use Rattle.lsp_laws.proofs.hops.Planned.{Routes, Planned, Follows}
 use Rattle.lsp_laws.proofs.hops.Law.{link_there, node_is, far_is, route_fits}
 use Rattle.lsp_laws.proofs.hops.JoinedLegs.{GoesAlong, InPhase, JoinedLegs, held_along, joined_legs, labelled_along, live_along, takes_back}
-use Rattle.lsp_laws.proofs.hops.Laws.{follows}
+use Rattle.lsp_laws.proofs.hops.HopLaws.{follows}
 
 -- the phases of a call's legs, in each of its states that has them
 abbrev PhasesOf : CallState → Option Phase → Option Phase → Type 0

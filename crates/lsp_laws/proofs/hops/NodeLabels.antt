@@ -15,11 +15,11 @@ use Rattle.lsp_laws.specs.HopLaw.{leg_at}
 use Rattle.lsp_laws.specs.LabelLaw.{EveryLegKeepsLabels, KeepsLabels}
 use Rattle.mesh_nodes.proofs.LegList.{all-found}
 use Rattle.lsp_laws.proofs.nodes.Facts.{MeshFacts}
-use Rattle.lsp_laws.proofs.nodes.Runs.{facts-hold}
+use Rattle.lsp_laws.proofs.nodes.NodeRuns.{facts-hold}
 use Rattle.lsp_laws.proofs.hops.Plans.{plan, node_at, same_node}
 use Rattle.lsp_laws.proofs.hops.Chain.{LegFits}
 use Rattle.lsp_laws.proofs.hops.Planned.{Follows}
-use Rattle.lsp_laws.proofs.hops.Laws.{follows}
+use Rattle.lsp_laws.proofs.hops.HopLaws.{follows}
 
 module _ (t : Network) (events : List MeshEvent) where
   abbrev s : Mesh

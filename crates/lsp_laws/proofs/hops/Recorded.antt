@@ -21,12 +21,12 @@ use Rattle.lsp_laws.specs.HopLaw.{leg_at}
 use Rattle.lsp_laws.specs.RiskLaw.{EveryBackupRecordsItsRisks, RecordsRisks, rows_of}
 use Rattle.mesh_nodes.proofs.LegList.{all-found}
 use Rattle.lsp_laws.proofs.nodes.Facts.{MeshFacts}
-use Rattle.lsp_laws.proofs.nodes.Runs.{facts-hold}
+use Rattle.lsp_laws.proofs.nodes.NodeRuns.{facts-hold}
 use Rattle.lsp_laws.proofs.hops.Plans.{Plan, plan, node_at, same_node}
 use Rattle.lsp_laws.proofs.hops.Purposes.{Purpose, Carries, Guards, Tells, role_of}
 use Rattle.lsp_laws.proofs.hops.Chain.{LegFits, RisksFit}
 use Rattle.lsp_laws.proofs.hops.Planned.{Follows, IsGuarded}
-use Rattle.lsp_laws.proofs.hops.Laws.{follows}
+use Rattle.lsp_laws.proofs.hops.HopLaws.{follows}
 
 module _ (t : Network) (events : List MeshEvent) (searchable : is_searchable t ≡ true) where
   abbrev s : Mesh

@@ -4,8 +4,8 @@ use Rattle.mesh_rules.specs.Machine.{start}
 use Rattle.mesh_rules.specs.Events.{after}
 use Rattle.lsp_laws.specs.ReportLaw.{EveryReportIsOfItsRoute, ReportsAreOfRoutes}
 use Rattle.mesh_nodes.proofs.CallList.{all-calls_found}
-use Rattle.lsp_laws.proofs.nodes.Runs.{facts-hold}
-use Rattle.lsp_laws.proofs.hops.Laws.{carried}
+use Rattle.lsp_laws.proofs.nodes.NodeRuns.{facts-hold}
+use Rattle.lsp_laws.proofs.hops.HopLaws.{carried}
 
 pub every_report_of_route : EveryReportIsOfItsRoute
 every_report_of_route t events run n =

@@ -25,10 +25,10 @@ use Rattle.lsp_laws.specs.LabelLaw.{KeepsLabels}
 use Rattle.lsp_laws.specs.StandLaw.{has_backup, is_standing_call}
 use Rattle.lsp_laws.specs.WavelengthLaw.{CallKeepsWavelengths, ComesBackOnOneOfLink, EveryCallKeepsItsWavelengths, KeepsWavelength, KeepsWavelengthFor, LspKeepsWavelength, wavelength_back, wavelength_from}
 use Rattle.lsp_laws.proofs.nodes.Facts.{MeshFacts}
-use Rattle.lsp_laws.proofs.nodes.Runs.{facts-hold}
+use Rattle.lsp_laws.proofs.nodes.NodeRuns.{facts-hold}
 use Rattle.lsp_laws.proofs.hops.Joined.{call_joined_there}
 use Rattle.lsp_laws.proofs.hops.Law.{far_is, link_there, node_is}
-use Rattle.lsp_laws.proofs.hops.Laws.{follows}
+use Rattle.lsp_laws.proofs.hops.HopLaws.{follows}
 use Rattle.lsp_laws.proofs.hops.NodeLabels.{keeps}
 use Rattle.lsp_laws.proofs.hops.Planned.{Follows, Planned, Routes}
 use Rattle.lsp_laws.proofs.hops.Plans.{Plan, distinct, found_id, link_at, node_at, own_far, own_near, plan}

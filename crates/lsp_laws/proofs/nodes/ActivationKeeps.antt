@@ -28,7 +28,7 @@ use Rattle.mesh_rules.specs.Paths.{PathRequest, path_with}
 use Rattle.mesh_rules.specs.State.{NodeState}
 use Rattle.mesh_rules.specs.Turns.{decide}
 use Rattle.mesh_nodes.proofs.Cases.{both_left, both_right, if_cases, not-true}
-use Rattle.mesh_nodes.proofs.Kept.{in_use-beyond}
+use Rattle.mesh_nodes.proofs.FitLists.{in_use-beyond}
 use Rattle.mesh_nodes.proofs.LegList.{find-with_leg, found-lsp}
 use Rattle.lsp_laws.specs.CallLaw.{fits, phase_of}
 use Rattle.lsp_laws.proofs.nodes.Facts.{LegFacts, NodeFacts}

@@ -36,7 +36,7 @@ use Rattle.lsp_laws.proofs.nodes.CallChanges.{AreChanges, EachCall, OfAny}
 use Rattle.lsp_laws.proofs.nodes.CallsHold.{alarm-holds, clear-holds, message-holds, protect-holds, release-holds, retry-holds, revert-holds, tick-holds}
 use Rattle.lsp_laws.proofs.nodes.SetupsHold.{setup-holds}
 use Rattle.lsp_laws.proofs.nodes.Facts.{MeshFacts}
-use Rattle.lsp_laws.proofs.nodes.Runs.{facts-hold, facts-step}
+use Rattle.lsp_laws.proofs.nodes.NodeRuns.{facts-hold, facts-step}
 
 -- the call of this number stands on
 abbrev pub Stands : CallRec → CallNo → List CallRec → Type 0

@@ -22,7 +22,7 @@ use Rattle.mesh_nodes.proofs.routes.Learnt.{found-row, network-rows-may, rows-st
 use Rattle.mesh_nodes.proofs.routes.Topologies.{new-rows}
 use Rattle.lsp_laws.specs.LearntLaw.{EveryNodeCanSearch}
 use Rattle.lsp_laws.proofs.nodes.Facts.{MeshFacts}
-use Rattle.lsp_laws.proofs.nodes.Runs.{facts-start, facts-step, first-learns_nothing, first_item-learns_nothing}
+use Rattle.lsp_laws.proofs.nodes.NodeRuns.{facts-start, facts-step, first-learns_nothing, first_item-learns_nothing}
 
 abbrev CanSearch : Network → Mesh → Type 0
 CanSearch t s = (n : NodeId) → RowsFit (local_node t n) (s.nodes n.0)

@@ -9,16 +9,16 @@ use Rattle.mesh_rules.proofs.Conjunctions.{and_first}
 use Rattle.mesh_rules.proofs.Topologies.{topology_searchable}
 use Rattle.mesh_nodes.proofs.LegList.{all-then}
 use Rattle.lsp_laws.proofs.hops.Beside.{every_backup_beside}
-use Rattle.lsp_laws.proofs.hops.Laws.{follows}
+use Rattle.lsp_laws.proofs.hops.HopLaws.{follows}
 use Rattle.lsp_laws.proofs.hops.Recorded.{every_backup_records}
-use Rattle.lsp_laws.proofs.nodes.Runs.{facts-hold}
+use Rattle.lsp_laws.proofs.nodes.NodeRuns.{facts-hold}
 use Rattle.mesh_laws.specs.AloneLaw.{AllConcern, EveryActivationIsAdmitted, EveryRunStartsCalm}
 use Rattle.mesh_laws.specs.AloneLaw.{FailsOnly as OneFails}
 use Rattle.mesh_laws.proofs.alone.Groups.{FailsOnly}
 use Rattle.mesh_laws.proofs.alone.Known.{mesh-knows}
 use Rattle.mesh_laws.proofs.alone.Facts.{MeshKnows, Routes}
 use Rattle.mesh_laws.proofs.alone.One.{fails-one, mesh-one, msg-alone, shares-alone}
-use Rattle.mesh_laws.proofs.alone.Runs.{AllApart, EachKnows, StayApart, after-append, append-one, from-calm, run-first}
+use Rattle.mesh_laws.proofs.alone.AloneRuns.{AllApart, EachKnows, StayApart, after-append, append-one, from-calm, run-first}
 use Rattle.mesh_laws.proofs.sent.Run.{sound}
 
 -- what the laws of every run tell of each state

@@ -24,10 +24,10 @@ use Rattle.mesh_nodes.proofs.LegList.{all-then, found-lsp}
 use Rattle.lsp_laws.specs.HopLaw.{LspFits, leg_at}
 use Rattle.lsp_laws.specs.LabelLaw.{MayShare}
 use Rattle.lsp_laws.specs.RiskLaw.{rows_of}
-use Rattle.lsp_laws.proofs.hops.Laws.{every_hop, follows}
+use Rattle.lsp_laws.proofs.hops.HopLaws.{every_hop, follows}
 use Rattle.lsp_laws.proofs.nodes.Facts.{MeshFacts}
 use Rattle.lsp_laws.proofs.nodes.Marks.{other}
-use Rattle.lsp_laws.proofs.nodes.Runs.{facts-hold}
+use Rattle.lsp_laws.proofs.nodes.NodeRuns.{facts-hold}
 use Rattle.mesh_laws.specs.AloneLaw.{risk_of}
 use Rattle.mesh_laws.specs.ContendLaw.{Contend, GoesOnWith, NoContend, NoneContend}
 use Rattle.mesh_laws.specs.HeardLaw.{primary_of}
@@ -35,10 +35,10 @@ use Rattle.mesh_laws.proofs.alone.Facts.{Routes}
 use Rattle.mesh_laws.proofs.alone.Groups.{FailsOnly, has_one}
 use Rattle.mesh_laws.proofs.alone.Law.{each-knows}
 use Rattle.mesh_laws.proofs.alone.Legs.{Apart}
-use Rattle.mesh_laws.proofs.alone.Runs.{from-calm, run-first}
+use Rattle.mesh_laws.proofs.alone.AloneRuns.{from-calm, run-first}
 use Rattle.mesh_laws.proofs.kept.Phases.{LegsUp}
 use Rattle.mesh_laws.proofs.kept.Places.{legs-are-up}
-use Rattle.mesh_laws.proofs.kept.Runs.{fails-only, stay-apart}
+use Rattle.mesh_laws.proofs.kept.KeptRuns.{fails-only, stay-apart}
 use Rattle.mesh_laws.proofs.contends.MayTurn.{may-turn}
 use Rattle.mesh_laws.proofs.sent.Run.{sound}
 use Rattle.mesh_laws.proofs.sent.Sound.{Sound, standing}

@@ -8,7 +8,7 @@ use Rattle.mesh_rules.specs.Machine.{start}
 use Rattle.mesh_nodes.proofs.LegList.{same_lsp-refl}
 use Rattle.lsp_laws.specs.HopLaw.{HasOneLegEach}
 use Rattle.lsp_laws.specs.LabelLaw.{NoBackupsCross}
-use Rattle.lsp_laws.proofs.hops.Laws.{one_leg_each}
+use Rattle.lsp_laws.proofs.hops.HopLaws.{one_leg_each}
 use Rattle.mesh_laws.proofs.sent.Run.{sound}
 
 not-both : (a b : Bool) → (a ≡ true → b ≡ true → ⊥) → (a && b) ≡ false

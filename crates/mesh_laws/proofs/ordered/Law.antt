@@ -27,9 +27,9 @@ use Rattle.mesh_nodes.proofs.Cases.{if_cases}
 use Rattle.lsp_laws.specs.CallLaw.{EveryCallIsTidy, IsTidy}
 use Rattle.lsp_laws.proofs.nodes.CallChanges.{ArePut, EachCall, each-after}
 use Rattle.lsp_laws.proofs.nodes.Facts.{MeshFacts}
-use Rattle.lsp_laws.proofs.nodes.Runs.{facts-hold, facts-start, facts-step}
+use Rattle.lsp_laws.proofs.nodes.NodeRuns.{facts-hold, facts-start, facts-step}
 use Rattle.lsp_laws.proofs.hops.Stepped.{grown, grown-grow}
-use Rattle.lsp_laws.proofs.hops.Laws.{carried, step_facts}
+use Rattle.lsp_laws.proofs.hops.HopLaws.{carried, step_facts}
 use Rattle.lsp_laws.proofs.hops.Planned.{EachFollows, Grow, Routes, or_assoc, or_none}
 use Rattle.lsp_laws.proofs.hops.Run.{Carried, step_carries, step_routes}
 use Rattle.mesh_laws.specs.KnownLaw.{ComesIn, EveryKnownFibreComesIn}

@@ -45,7 +45,7 @@ use Rattle.lsp_laws.proofs.nodes.CallsHold.{alarm-holds, clear-holds, message-ho
 use Rattle.lsp_laws.proofs.nodes.SetupsHold.{setup-holds}
 use Rattle.lsp_laws.proofs.hops.Stepped.{grown, grown-grow}
 use Rattle.lsp_laws.proofs.hops.GivenRoutes.{sent-over}
-use Rattle.lsp_laws.proofs.hops.Laws.{carried}
+use Rattle.lsp_laws.proofs.hops.HopLaws.{carried}
 use Rattle.lsp_laws.proofs.hops.Planned.{EachFollows, Grow, Routes}
 use Rattle.mesh_laws.specs.KnownLaw.{ComesIn}
 use Rattle.mesh_laws.specs.OrderLaw.{IsOrdered, WasPosted}

@@ -19,11 +19,11 @@ use Rattle.mesh_rules.specs.LocalNodes.{local_node}
 use Rattle.mesh_rules.specs.Machine.{Mesh, commit, without_first, without_item}
 use Rattle.mesh_rules.specs.Orders.{on_item}
 use Rattle.mesh_rules.specs.Waits.{on_tick}
-use Rattle.mesh_nodes.specs.Kept.{NodeFits}
+use Rattle.mesh_nodes.specs.FitNodes.{NodeFits}
 use Rattle.mesh_nodes.proofs.CallList.{all-calls_found}
 use Rattle.lsp_laws.proofs.nodes.Facts.{MeshFacts}
 use Rattle.lsp_laws.proofs.hops.Stepped.{grown}
-use Rattle.lsp_laws.proofs.hops.Laws.{step_facts}
+use Rattle.lsp_laws.proofs.hops.HopLaws.{step_facts}
 use Rattle.lsp_laws.proofs.hops.Planned.{or_none}
 use Rattle.lsp_laws.proofs.hops.Run.{Carried, StepFacts, backs_here, calls_may_pair, link_quiet, step_routes}
 use Rattle.lsp_laws.proofs.hops.Ticked.{all_ticked_stays}

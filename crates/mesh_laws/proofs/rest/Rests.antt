@@ -17,14 +17,14 @@ use Rattle.mesh_rules.specs.Learnt.{on_link}
 use Rattle.mesh_rules.specs.LocalNodes.{local_node}
 use Rattle.mesh_rules.specs.Machine.{Mesh, commit, start}
 use Rattle.mesh_rules.specs.Waits.{on_tick}
-use Rattle.mesh_nodes.specs.Kept.{NodeFits}
+use Rattle.mesh_nodes.specs.FitNodes.{NodeFits}
 use Rattle.mesh_nodes.proofs.Cases.{if_cases}
 use Rattle.mesh_nodes.proofs.Items.{items-fit}
 use Rattle.mesh_nodes.proofs.Messages.{messages-fit}
 use Rattle.mesh_nodes.proofs.NewNodes.{new-fits, new-place}
 use Rattle.mesh_nodes.proofs.Ticks.{tick-kept}
-use Rattle.lsp_laws.proofs.nodes.Runs.{facts-start, facts-step}
-use Rattle.lsp_laws.proofs.hops.Laws.{step_facts}
+use Rattle.lsp_laws.proofs.nodes.NodeRuns.{facts-start, facts-step}
+use Rattle.lsp_laws.proofs.hops.HopLaws.{step_facts}
 use Rattle.lsp_laws.proofs.hops.Plans.{same_node}
 use Rattle.lsp_laws.proofs.hops.Run.{step_carries, step_routes}
 use Rattle.mesh_laws.specs.Weights.{Routes}

@@ -9,14 +9,14 @@ use Rattle.mesh_rules.proofs.Conjunctions.{and_first}
 use Rattle.mesh_rules.proofs.Topologies.{topology_searchable}
 use Rattle.lsp_laws.proofs.hops.Beside.{every_backup_beside}
 use Rattle.lsp_laws.proofs.hops.Joined.{every_call_joined}
-use Rattle.lsp_laws.proofs.hops.Laws.{every_hop}
+use Rattle.lsp_laws.proofs.hops.HopLaws.{every_hop}
 use Rattle.lsp_laws.proofs.hops.Recorded.{every_backup_records}
-use Rattle.lsp_laws.proofs.nodes.Laws.{every_call}
+use Rattle.lsp_laws.proofs.nodes.NodeLaws.{every_call}
 use Rattle.mesh_laws.specs.AloneLaw.{ActivationsAreAdmitted, CallConcerns}
 use Rattle.mesh_laws.specs.RestorationLaw.{EveryHitCallIsRestored, RestorationHolds}
 use Rattle.mesh_laws.proofs.alone.Law.{every_activation_admitted}
 use Rattle.mesh_laws.proofs.reports.Desks.{every_desk_tells}
-use Rattle.mesh_laws.proofs.reports.Laws.{every_report_tells}
+use Rattle.mesh_laws.proofs.reports.ReportLaws.{every_report_tells}
 use Rattle.mesh_laws.proofs.restoration.Calls.{LawsOf, call-restored}
 
 pub restored : (t : Network) (events : List MeshEvent) → IsTopology t → LawsOf t events →

@@ -9,7 +9,7 @@ use Rattle.ason_base.specs.declared.network.LinkSpec.{LinkSpec}
 use Rattle.ason_base.specs.declared.steps.Step.{Step}
 use Rattle.lsp_laws.specs.ReportLaw.{place_at}
 use Rattle.lsp_laws.proofs.hops.Plans.{IsRoute, distinct, joined, link_at, node_at, plan, route_made}
-use Rattle.mesh_laws.proofs.reports.Laws.{place-is}
+use Rattle.mesh_laws.proofs.reports.ReportLaws.{place-is}
 
 -- a step over a link of the network, at this place of a route to e
 pub record GoesOn (route : List Step) (e : NodeId) (i : ℕ) (hop : Step) (link : LinkSpec) : Type 0 where

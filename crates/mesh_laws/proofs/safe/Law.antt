@@ -15,7 +15,7 @@ use Rattle.mesh_rules.specs.Machine.{Mesh, start}
 use Rattle.mesh_nodes.proofs.LabelPlaces.{at-is, either, or-second}
 use Rattle.mesh_nodes.proofs.LegList.{same_lsp-eq, same_lsp-refl}
 use Rattle.lsp_laws.specs.HopLaw.{HasOneLegEach, leg_at}
-use Rattle.lsp_laws.proofs.hops.Laws.{one_leg_each}
+use Rattle.lsp_laws.proofs.hops.HopLaws.{one_leg_each}
 use Rattle.lsp_laws.proofs.hops.Planned.{Routes}
 use Rattle.lsp_laws.proofs.nodes.LegParts.{taken-used}
 use Rattle.mesh_laws.specs.SafeLaw.{EveryRunIsSafe, StandsAt}

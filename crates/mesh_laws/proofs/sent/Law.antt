@@ -15,7 +15,7 @@ use Rattle.lsp_laws.specs.HopLaw.{leg_at}
 use Rattle.lsp_laws.specs.LabelLaw.{EverySentLabelIsShared, MaySend, SendLawfully}
 use Rattle.lsp_laws.specs.RiskLaw.{rows_of}
 use Rattle.lsp_laws.proofs.hops.Planned.{Routes}
-use Rattle.lsp_laws.proofs.nodes.Laws.{pairs}
+use Rattle.lsp_laws.proofs.nodes.NodeLaws.{pairs}
 use Rattle.mesh_laws.specs.HeardLaw.{AreApart, EveryListIsLawful, primary_of, sends_of}
 use Rattle.mesh_laws.proofs.sent.Run.{sound}
 use Rattle.mesh_laws.proofs.sent.Sound.{Sound, standing}

@@ -12,12 +12,12 @@ use Rattle.mesh_rules.specs.Learnt.{on_link}
 use Rattle.mesh_rules.specs.LocalNodes.{local_node}
 use Rattle.mesh_rules.specs.Machine.{Mesh, start, without_item}
 use Rattle.mesh_rules.specs.Waits.{on_tick}
-use Rattle.lsp_laws.proofs.hops.Laws.{carried, step_facts}
+use Rattle.lsp_laws.proofs.hops.HopLaws.{carried, step_facts}
 use Rattle.lsp_laws.proofs.hops.Planned.{Routes, or_assoc, or_none}
 use Rattle.lsp_laws.proofs.hops.Plans.{same}
 use Rattle.lsp_laws.proofs.hops.Run.{Carried, step_carries, step_routes}
 use Rattle.lsp_laws.proofs.nodes.Facts.{MeshFacts}
-use Rattle.lsp_laws.proofs.nodes.Runs.{facts-start, facts-step}
+use Rattle.lsp_laws.proofs.nodes.NodeRuns.{facts-start, facts-step}
 use Rattle.mesh_laws.specs.HeardLaw.{heard, primary_at, primary_of}
 use Rattle.mesh_laws.proofs.sent.ItemsHear.{ticks-calm}
 use Rattle.mesh_laws.proofs.sent.May.{no_gift}

@@ -25,7 +25,7 @@ use Rattle.mesh_rules.specs.State.{NodeState}
 use Rattle.lsp_laws.specs.HopLaw.{leg_at}
 use Rattle.mesh_nodes.proofs.Cases.{if_cases}
 use Rattle.mesh_nodes.proofs.LegList.{found-lsp}
-use Rattle.lsp_laws.proofs.hops.Laws.{carried}
+use Rattle.lsp_laws.proofs.hops.HopLaws.{carried}
 use Rattle.lsp_laws.proofs.hops.Planned.{Routes}
 use Rattle.lsp_laws.proofs.hops.Plans.{other, same}
 use Rattle.lsp_laws.proofs.hops.Run.{Carried, step_routes}

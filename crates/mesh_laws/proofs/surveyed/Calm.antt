@@ -36,12 +36,12 @@ use Rattle.mesh_nodes.proofs.routes.Nodes.{find-there}
 use Rattle.lsp_laws.specs.CallLaw.{FitsLegs, IsNamed, fits, fits_reports, phase_of}
 use Rattle.lsp_laws.specs.HopLaw.{LspFits, leg_at}
 use Rattle.lsp_laws.specs.ReportLaw.{AreOf, IsOfRoute, reports_of}
-use Rattle.lsp_laws.proofs.hops.Laws.{every_hop}
+use Rattle.lsp_laws.proofs.hops.HopLaws.{every_hop}
 use Rattle.lsp_laws.proofs.hops.ReportedFibres.{every_report_of_route}
 use Rattle.lsp_laws.proofs.nodes.CallParts.{named-lsp}
 use Rattle.lsp_laws.proofs.nodes.Facts.{MeshFacts}
-use Rattle.lsp_laws.proofs.nodes.Laws.{every_call}
-use Rattle.lsp_laws.proofs.nodes.Runs.{facts-hold}
+use Rattle.lsp_laws.proofs.nodes.NodeLaws.{every_call}
+use Rattle.lsp_laws.proofs.nodes.NodeRuns.{facts-hold}
 use Rattle.mesh_laws.specs.AloneLaw.{CallIsCalm, Calm, LegIsCalm, is_idle}
 use Rattle.mesh_laws.specs.KnownLaw.{ComesIn}
 use Rattle.mesh_laws.specs.SurveyLaw.{CalmIsShown, IsShownCalm, ShowsAll, is_reserved_row}

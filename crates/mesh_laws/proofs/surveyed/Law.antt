@@ -15,9 +15,9 @@ use Rattle.mesh_rules.specs.Legs.{takes}
 use Rattle.mesh_rules.specs.Machine.{Mesh, start}
 use Rattle.mesh_rules.specs.Rows.{call_row}
 use Rattle.lsp_laws.specs.HopLaw.{LspFits, leg_at}
-use Rattle.lsp_laws.proofs.hops.Laws.{every_hop}
+use Rattle.lsp_laws.proofs.hops.HopLaws.{every_hop}
 use Rattle.lsp_laws.proofs.nodes.Facts.{MeshFacts}
-use Rattle.lsp_laws.proofs.nodes.Runs.{facts-hold}
+use Rattle.lsp_laws.proofs.nodes.NodeRuns.{facts-hold}
 use Rattle.mesh_laws.specs.declared.survey.Contend.{Contend as Listed}
 use Rattle.mesh_laws.specs.HeardLaw.{primary_of}
 use Rattle.mesh_laws.specs.ContendLaw.{Contend}
@@ -31,7 +31,7 @@ use Rattle.mesh_laws.proofs.sent.Uses.{takes-to}
 use Rattle.mesh_laws.proofs.surveyed.Listed.{between-has, either-order, group-there}
 use Rattle.mesh_laws.proofs.surveyed.Rows.{label-there, shown-turn}
 use Rattle.mesh_laws.proofs.surveyed.Stands.{comes-into, own-end}
-use Rattle.mesh_laws.proofs.alone.Runs.{run-first}
+use Rattle.mesh_laws.proofs.alone.AloneRuns.{run-first}
 
 module _ (t : Network) (valid : IsTopology t) (s : Mesh) (o : Routes) (hops : (l : Lsp) → LspFits t s l (o l))
     (facts : MeshFacts t s) (calls : List CallRow) (legs : List LegRow) (shows : ShowsAll t s calls legs)

@@ -27,14 +27,14 @@ use Rattle.lsp_laws.specs.HopLaw.{LspFits, RouteFits, leg_at}
 use Rattle.lsp_laws.specs.HopShapes.{leg_kind, phase_kind}
 use Rattle.lsp_laws.specs.ReportLaw.{IsOfRoute, StandsTo, is_reported, is_standing, place_at}
 use Rattle.lsp_laws.proofs.hops.Law.{step_at}
-use Rattle.lsp_laws.proofs.hops.Laws.{every_hop}
+use Rattle.lsp_laws.proofs.hops.HopLaws.{every_hop}
 use Rattle.lsp_laws.proofs.hops.Plans.{IsRoute, link_at, node_at, plan, route_made}
 use Rattle.lsp_laws.proofs.hops.RowStates.{ArmedStands, HeldStands, LiveStands, Stands}
 use Rattle.lsp_laws.proofs.nodes.Facts.{MeshFacts}
-use Rattle.lsp_laws.proofs.nodes.Runs.{facts-hold}
+use Rattle.lsp_laws.proofs.nodes.NodeRuns.{facts-hold}
 use Rattle.mesh_laws.proofs.alone.Facts.{Routes}
 use Rattle.mesh_laws.proofs.reports.Desks.{every_desk_tells}
-use Rattle.mesh_laws.proofs.reports.Laws.{every_report_tells, place-is}
+use Rattle.mesh_laws.proofs.reports.ReportLaws.{every_report_tells, place-is}
 use Rattle.mesh_laws.proofs.reports.Reported.{first-is, low-first}
 use Rattle.mesh_laws.proofs.restoration.Reported.{reported-cut}
 use Rattle.mesh_laws.proofs.restoration.Settled.{all-alike, kind_at, leg-in}
@@ -42,7 +42,7 @@ use Rattle.mesh_laws.proofs.restoration.Steps.{begins-at, ends-at, goes-on}
 use Rattle.mesh_laws.proofs.kept.Phases.{IsUp, LegsUp}
 use Rattle.mesh_laws.proofs.kept.Places.{legs-are-up}
 use Rattle.mesh_laws.proofs.contends.MayTurn.{up-not_closing}
-use Rattle.mesh_laws.proofs.reports.Laws.{low-first as low-end}
+use Rattle.mesh_laws.proofs.reports.ReportLaws.{low-first as low-end}
 
 -- Legs
 

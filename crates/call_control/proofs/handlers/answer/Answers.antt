@@ -1,6 +1,6 @@
 use Rattle.leg_table.specs.States.{state_of}
 use Rattle.call_control.proofs.Followed.{follows, kept-after, sent-after}
-use Rattle.call_control.proofs.Kept.{carried-fits, if-ok, keeps-may, on-ok}
+use Rattle.call_control.proofs.FitIngresses.{carried-fits, if-ok, keeps-may, on-ok}
 use Rattle.call_control.proofs.handlers.answer.Goals as goal
 
 pub answer_change-requires-clause-links : goal.answer_change-requires-clause-links

@@ -1,4 +1,4 @@
-use Rattle.call_control.proofs.Kept.{command-keeps, either-fits, keeps-may}
+use Rattle.call_control.proofs.FitIngresses.{command-keeps, either-fits, keeps-may}
 use Rattle.call_control.proofs.handlers.command.Goals as goal
 
 pub carry_out-requires-clause-may : goal.carry_out-requires-clause-may

@@ -1,4 +1,4 @@
-use Rattle.call_control.proofs.Kept.{either-fits, keeps-may, setup-keeps}
+use Rattle.call_control.proofs.FitIngresses.{either-fits, keeps-may, setup-keeps}
 use Rattle.call_control.proofs.handlers.setup.Goals as goal
 
 pub carry_out-requires-clause-may : goal.carry_out-requires-clause-may

@@ -1,5 +1,5 @@
 use Rattle.std.proofs.Common.{◌≡◌, ◌≤◌, ◌*◌, ◌^◌, take}
-use Rattle.control_channels.specs.Kept.{unacknowledged}
+use Rattle.control_channels.specs.ReadyControllers.{unacknowledged}
 use Rattle.control_channels.proofs.adjacencies.pending.Given as goal
 
 abbrev pub invariant-loop-adjacency : goal.invariant-loop-adjacency

@@ -5,7 +5,7 @@ use Rattle.flood.specs.NetworkLaws.{AreRowsOfLinks}
 use Rattle.flood.specs.Networks.{begun_node, new_flood}
 use Rattle.mesh_rules.specs.LocalNodes.{local_node}
 use Rattle.mesh_rules.specs.State.{new_node}
-use Rattle.control_channels.specs.Kept.{FloodFits}
+use Rattle.control_channels.specs.ReadyControllers.{FloodFits}
 use Rattle.control_channels.proofs.Beginning.{begun-fits, beside-are}
 use Rattle.control_channels.proofs.floods.begun.Goals as goal
 

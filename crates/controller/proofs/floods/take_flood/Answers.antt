@@ -6,7 +6,7 @@ use Rattle.flood.specs.Messages.{CanBeWritten}
 use Rattle.flood.specs.State.{sends_after}
 use Rattle.control_channels.specs.Controllers.{floods_to, with_learnt}
 use Rattle.control_channels.specs.Frames.{AllSpelled}
-use Rattle.control_channels.specs.Kept.{AllToNeighbours}
+use Rattle.control_channels.specs.ReadyControllers.{AllToNeighbours}
 use Rattle.controller.proofs.FloodCounts.{answer-few, answer-frames, answer-written, answers-near}
 use Rattle.controller.proofs.FloodKept.{fits-after}
 use Rattle.control_channels.proofs.NearFrames.{frames-near}

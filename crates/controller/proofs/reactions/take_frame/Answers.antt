@@ -4,7 +4,7 @@ use Rattle.flood.specs.Frames.{IsFrame}
 use Rattle.ason_base.proofs.Results.{if_ok, on_ok, on_ok_always}
 use Rattle.flood.specs.declared.frames.Content.TheVariants.{Message, Flood}
 use Rattle.control_channels.specs.declared.frames.Frame.{Frame}
-use Rattle.control_channels.specs.Kept.{IsKept}
+use Rattle.control_channels.specs.ReadyControllers.{IsKept}
 use Rattle.control_channels.specs.Controllers.{AreMade, flood_after, frame_step, parts}
 use Rattle.controller.proofs.FloodKept.{fits-kept}
 use Rattle.controller.proofs.Reacting.{flood-made}

@@ -3,7 +3,7 @@ use Rattle.hop_reliable.specs.Hop.{handed_up_of, heard_as}
 use Rattle.mesh_rules.specs.Events.{on_first}
 use Rattle.control_channels.specs.Adjacencies.{hop_at}
 use Rattle.control_channels.specs.Controllers.{acks_to, heard_hops}
-use Rattle.control_channels.specs.Kept.{IsKept}
+use Rattle.control_channels.specs.ReadyControllers.{IsKept}
 use Rattle.control_channels.proofs.Counting.{acks-few, frames-few, heard-waits}
 use Rattle.control_channels.proofs.RowsLearnt.{first-learns_nothing, same-learnt}
 use Rattle.control_channels.proofs.NearFrames.{acks-near, made-near}

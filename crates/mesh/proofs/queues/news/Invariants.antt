@@ -1,6 +1,6 @@
 use Rattle.std.proofs.Common.{◌≡◌, take}
 use Rattle.std.specs.Prelude.{flat_map}
-use Rattle.mesh.specs.Kept.{told_of}
+use Rattle.mesh.specs.MeshLists.{told_of}
 use Rattle.mesh.proofs.queues.news.Given as goal
 
 abbrev pub invariant-loop-link : goal.invariant-loop-link

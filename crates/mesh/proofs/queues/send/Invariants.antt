@@ -1,7 +1,7 @@
 use Rattle.std.proofs.Common.{◌≡◌, ◌≤◌, ◌+◌, ◌++◌, vec_len, vec_capacity}
 use Rattle.std.specs.Prelude.{map}
 use Rattle.std.specs.Vec.Iter.{into_iter_items, into_iter_len}
-use Rattle.mesh.specs.Kept.{sent_by}
+use Rattle.mesh.specs.MeshLists.{sent_by}
 use Rattle.mesh.proofs.queues.send.Given as goal
 
 abbrev pub invariant-loop-out : goal.invariant-loop-out

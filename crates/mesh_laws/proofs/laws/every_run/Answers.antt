@@ -1,19 +1,19 @@
 use Rattle.lsp_laws.proofs.hops.Beside.{every_backup_beside}
 use Rattle.lsp_laws.proofs.hops.Joined.{every_call_joined}
-use Rattle.lsp_laws.proofs.hops.Laws.{every_hop}
+use Rattle.lsp_laws.proofs.hops.HopLaws.{every_hop}
 use Rattle.lsp_laws.proofs.hops.NodeLabels.{every_leg_keeps}
 use Rattle.lsp_laws.proofs.hops.Recorded.{every_backup_records}
 use Rattle.lsp_laws.proofs.hops.ReportedFibres.{every_report_of_route}
 use Rattle.lsp_laws.proofs.hops.Wavelengths.{every_call_keeps}
 use Rattle.lsp_laws.proofs.nodes.CallsStand.{every_call_stands, every_call_stands_until_released}
-use Rattle.lsp_laws.proofs.nodes.Laws.{every_back, every_call, every_label, every_learnt_row, every_live}
+use Rattle.lsp_laws.proofs.nodes.NodeLaws.{every_back, every_call, every_label, every_learnt_row, every_live}
 use Rattle.lsp_laws.proofs.nodes.Searches.{every_search}
 use Rattle.mesh_laws.proofs.EveryRun.{laws_hold}
 use Rattle.mesh_laws.proofs.alone.Law.{every_activation_admitted, run_starts_calm}
 use Rattle.mesh_laws.proofs.crossing.Law.{no_backups_cross}
 use Rattle.mesh_laws.proofs.ordered.Law.{every_known, every_ordered, every_tidy}
 use Rattle.mesh_laws.proofs.reports.Desks.{every_desk_tells}
-use Rattle.mesh_laws.proofs.reports.Laws.{every_report_tells}
+use Rattle.mesh_laws.proofs.reports.ReportLaws.{every_report_tells}
 use Rattle.mesh_laws.proofs.rest.Rests.{every_rest_quiet, every_run_ends, every_run_rests}
 use Rattle.mesh_laws.proofs.restoration.Law.{every_hit_call}
 use Rattle.mesh_laws.proofs.safe.Law.{every_run_safe}

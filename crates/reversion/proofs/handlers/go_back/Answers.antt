@@ -1,4 +1,4 @@
-use Rattle.call_control.proofs.Kept.{either-fits}
+use Rattle.call_control.proofs.FitIngresses.{either-fits}
 use Rattle.reversion.proofs.Handled.{go_back-handled}
 use Rattle.reversion.proofs.handlers.go_back.Goals as goal
 

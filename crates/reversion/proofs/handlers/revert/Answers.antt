@@ -1,4 +1,4 @@
-use Rattle.call_control.proofs.Kept.{either-fits}
+use Rattle.call_control.proofs.FitIngresses.{either-fits}
 use Rattle.reversion.proofs.Handled.{revert-handled}
 use Rattle.reversion.proofs.handlers.revert.Goals as goal
 

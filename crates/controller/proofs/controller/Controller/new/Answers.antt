@@ -1,7 +1,7 @@
 use Rattle.std.proofs.Common.{sym, ap, subst}
 use Rattle.mesh_rules.specs.LocalNodes.{LocalNode}
 use Rattle.node_rules.specs.Nodes.{NodeView}
-use Rattle.control_channels.specs.Kept.{FloodFits, IsKept}
+use Rattle.control_channels.specs.ReadyControllers.{FloodFits, IsKept}
 use Rattle.controller.proofs.controller.Controller.new.Goals as goal
 
 pub invariant_of-result : goal.invariant_of-result

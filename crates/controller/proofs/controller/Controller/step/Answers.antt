@@ -1,7 +1,7 @@
 use Rattle.std.proofs.Common.{◌∙◌, ◌<◌, ◌+◌, sym, ap, subst}
 use Rattle.controller.specs.declared.controller.TheConstants.{MOST_STEPS}
 use Rattle.control_channels.specs.Controllers.{ControllerState}
-use Rattle.control_channels.specs.Kept.{IsKept, IsReady}
+use Rattle.control_channels.specs.ReadyControllers.{IsKept, IsReady}
 use Rattle.control_channels.proofs.Keeping.{is-ready}
 use Rattle.control_channels.proofs.Loops.{whole}
 use Rattle.controller.proofs.controller.Controller.step.Goals as goal

@@ -8,7 +8,7 @@ use Rattle.fleet.specs.Commands.{but_room}
 use Rattle.fleet.specs.Posting.{HaveRoom, news_for}
 use Rattle.fleet.specs.Standing.{FleetState}
 use Rattle.fleet.specs.Views.{shown_by}
-use Rattle.fleet.proofs.Kept.{items-links, seats-back, seats-count, seats-roomed}
+use Rattle.fleet.proofs.KeptSeats.{items-links, seats-back, seats-count, seats-roomed}
 use Rattle.fleet.proofs.Taking.{room-clocks, stamp-above, take-roomed, take-same}
 use Rattle.fleet.proofs.Unwatched.{items-shown, room-shown}
 use Rattle.fleet.proofs.fleet.Fleet.change.Goals as goal

@@ -4,7 +4,7 @@ use Rattle.std.specs.Vec.{with_items}
 use Rattle.std.proofs.lemmas.List.{with_items_is}
 use Rattle.ason_base.specs.Network.{Network}
 use Rattle.ason_base.proofs.Results.{on_both, on_err, on_ok}
-use Rattle.world_rules.specs.Runs.{is_channel}
+use Rattle.world_rules.specs.WorldRuns.{is_channel}
 use Rattle.station_doings.specs.States.{StationState}
 use Rattle.fleet_rounds.proofs.Nodes.{joins-nodes}
 use Rattle.fleet.specs.Commands.{is_seat}
@@ -13,7 +13,7 @@ use Rattle.fleet.specs.Standing.{FleetState}
 use Rattle.fleet.specs.Views.{shown_by}
 use Rattle.fleet.proofs.Channels.{sent-is-count}
 use Rattle.fleet.proofs.Finding.{IsFirst, first-at, seat-lost}
-use Rattle.fleet.proofs.Kept.{line-links, links_of, seats-back, seats-count}
+use Rattle.fleet.proofs.KeptSeats.{line-links, links_of, seats-back, seats-count}
 use Rattle.fleet.proofs.Lines.{line-stands}
 use Rattle.fleet.proofs.Taking.{within-at}
 use Rattle.fleet.proofs.fleet.Fleet.disturb.Goals as goal

@@ -2,7 +2,7 @@ use Rattle.std.proofs.Common.{◌≡◌, nat_eq, sym, ap, ◌∙◌, subst, arit
 use Rattle.std.specs.Prelude.{List, Some, position, slice_get, slice_set}
 use Rattle.ason_base.specs.Network.{Network}
 use Rattle.ason_base.proofs.Results.{on_err, on_ok}
-use Rattle.world_rules.specs.Runs.{is_channel}
+use Rattle.world_rules.specs.WorldRuns.{is_channel}
 use Rattle.station_doings.specs.States.{StationState}
 use Rattle.fleet_rounds.proofs.Nodes.{joins-nodes}
 use Rattle.fleet.specs.Commands.{is_seat, lines_in, station_in}
@@ -11,7 +11,7 @@ use Rattle.station.specs.Watched.{ShowsNoiseMore}
 use Rattle.fleet.specs.Views.{ShowNoiseMore}
 use Rattle.fleet.proofs.Finding.{seat-lost}
 use Rattle.fleet.proofs.FoundStation.{station-read, station-within}
-use Rattle.fleet.proofs.Kept.{seats-kept, set-links, set-same}
+use Rattle.fleet.proofs.KeptSeats.{seats-kept, set-links, set-same}
 use Rattle.fleet.proofs.Lines.{noise-stands}
 use Rattle.fleet.proofs.Heard.{shows-self}
 use Rattle.fleet.proofs.Places.{zip-self, zip-set}

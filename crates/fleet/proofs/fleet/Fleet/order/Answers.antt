@@ -11,7 +11,7 @@ use Rattle.fleet.specs.Posting.{HaveRoom, TakesOrder, order_for}
 use Rattle.fleet.specs.Standing.{FleetState}
 use Rattle.fleet.specs.Views.{shown_by}
 use Rattle.fleet.proofs.Finding.{IsFirst, first-at, seat-lost}
-use Rattle.fleet.proofs.Kept.{order-links, seats-back, seats-count, seats-roomed}
+use Rattle.fleet.proofs.KeptSeats.{order-links, seats-back, seats-count, seats-roomed}
 use Rattle.fleet.proofs.Posted.{groups-left}
 use Rattle.fleet.proofs.Taking.{order-takes, room-clocks, stamp-above, take-roomed, within-at}
 use Rattle.fleet.proofs.Unwatched.{order-shown, room-shown}

@@ -2,7 +2,7 @@ use Rattle.std.proofs.Common.{◌<◌, ◌^◌, ◌+◌, length, sym, ap, ◌∙
 use Rattle.ason_base.proofs.Results.{on_err, on_ok}
 use Rattle.fleet.specs.Posting.{greatest_of}
 use Rattle.fleet.specs.Standing.{FleetState}
-use Rattle.fleet.proofs.Kept.{room-stands}
+use Rattle.fleet.proofs.KeptSeats.{room-stands}
 use Rattle.fleet.proofs.Posted.{groups-stand, order-stands}
 use Rattle.fleet.proofs.fleet.Fleet.post.Goals as goal
 

@@ -7,7 +7,7 @@ use Rattle.fleet.specs.Commands.{is_seat, station_in}
 use Rattle.fleet.specs.Standing.{FleetState}
 use Rattle.fleet.specs.Views.{publisher_in}
 use Rattle.fleet.proofs.FoundStation.{station-read, station-within}
-use Rattle.fleet.proofs.Kept.{seats-kept, set-links, set-same}
+use Rattle.fleet.proofs.KeptSeats.{seats-kept, set-links, set-same}
 use Rattle.fleet.proofs.fleet.Fleet.told.Goals as goal
 
 pub index_mut-requires : goal.index_mut-requires

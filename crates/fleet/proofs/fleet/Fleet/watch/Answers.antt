@@ -3,7 +3,7 @@ use Rattle.std.specs.Prelude.{Some, position, slice_get, slice_set}
 use Rattle.fleet.specs.Commands.{is_seat}
 use Rattle.fleet.specs.Standing.{FleetState}
 use Rattle.fleet.proofs.FoundStation.{station-read, station-within}
-use Rattle.fleet.proofs.Kept.{seats-kept, set-links}
+use Rattle.fleet.proofs.KeptSeats.{seats-kept, set-links}
 use Rattle.fleet.proofs.Watching.{watches-links}
 use Rattle.fleet.proofs.fleet.Fleet.watch.Goals as goal
 

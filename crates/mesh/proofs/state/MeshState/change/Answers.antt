@@ -1,7 +1,7 @@
 use Rattle.std.proofs.Common.{◌≡◌, ◌++◌, ◌∙◌, ap, subst}
 use Rattle.std.specs.Prelude.{flat_map}
 use Rattle.ason_base.specs.Network.{IsTopology, Network}
-use Rattle.mesh.specs.Kept.{HasFailed, Kept, told_of}
+use Rattle.mesh.specs.MeshLists.{HasFailed, Kept, told_of}
 use Rattle.mesh.proofs.Telling.{has_failed}
 use Rattle.mesh.proofs.state.MeshState.change.Goals as goal
 

@@ -1,6 +1,6 @@
 use Rattle.std.proofs.Common.{refl, subst}
 use Rattle.mesh_rules.specs.declared.events.MeshEvent.TheVariants.{Post}
-use Rattle.mesh.specs.Kept.{IsStep, Kept}
+use Rattle.mesh.specs.MeshLists.{IsStep, Kept}
 use Rattle.mesh.proofs.NodePlaces.{on_ok}
 use Rattle.mesh.proofs.Steps.{is_ordered}
 use Rattle.mesh.proofs.state.MeshState.deliver.Goals as goal

@@ -1,6 +1,6 @@
 use Rattle.std.proofs.Common.{◌≡◌, sym, ◌∙◌, ap}
 use Rattle.std.specs.Prelude.{position, None, Some}
-use Rattle.mesh.specs.Kept.{fault_if, is_waiting}
+use Rattle.mesh.specs.MeshLists.{fault_if, is_waiting}
 use Rattle.mesh.proofs.Firsts.{has_none, has_some}
 use Rattle.mesh.proofs.state.MeshState.handle.Goals as goal
 

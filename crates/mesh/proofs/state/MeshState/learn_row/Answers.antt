@@ -1,6 +1,6 @@
 use Rattle.std.proofs.Common.{ap, ◌∙◌, subst, sym}
 use Rattle.mesh_rules.specs.declared.events.MeshEvent.TheVariants.{Learn}
-use Rattle.mesh.specs.Kept.{IsStep, Kept, row_in}
+use Rattle.mesh.specs.MeshLists.{IsStep, Kept, row_in}
 use Rattle.mesh.proofs.Steps.{is_learnt}
 use Rattle.mesh.proofs.state.MeshState.learn_row.Goals as goal
 

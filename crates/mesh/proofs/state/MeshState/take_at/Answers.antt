@@ -2,7 +2,7 @@ use Rattle.std.proofs.Common.{◌≡◌, ◌∙◌, ap, subst}
 use Rattle.std.specs.Prelude.{Some, position, remove}
 use Rattle.mesh_rules.specs.declared.events.MeshEvent.TheVariants.{Take}
 use Rattle.node_rules.specs.declared.inputs.Input.TheVariants as inputs
-use Rattle.mesh.specs.Kept.{IsStep, Kept, is_between}
+use Rattle.mesh.specs.MeshLists.{IsStep, Kept, is_between}
 use Rattle.mesh.proofs.Steps.{is_taken}
 use Rattle.mesh.proofs.state.MeshState.take_at.Goals as goal
 

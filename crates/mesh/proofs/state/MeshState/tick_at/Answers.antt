@@ -1,6 +1,6 @@
 use Rattle.std.proofs.Common.{subst}
 use Rattle.mesh_rules.specs.declared.events.MeshEvent.TheVariants.{Tick}
-use Rattle.mesh.specs.Kept.{IsStep, Kept}
+use Rattle.mesh.specs.MeshLists.{IsStep, Kept}
 use Rattle.mesh.proofs.NodePlaces.{on_both_ok}
 use Rattle.mesh.proofs.Steps.{is_ticked}
 use Rattle.mesh.proofs.state.MeshState.tick_at.Goals as goal

@@ -1,0 +1,33 @@
+-- What holds of every fleet, whatever it stands for.
+use Rattle.std.specs.Prelude.{◌≡◌, ◌↔◌, ◌==◌, IsTrue, List, length, true}
+use Rattle.ason_base.specs.declared.commands.Disturb.{Disturb}
+use Rattle.ason_base.specs.declared.ids.NodeId.{NodeId}
+use Rattle.ason_base.specs.Network.{Network}
+use Rattle.world_rules.specs.Images.{IsQuiet}
+use Rattle.world_rules.specs.WorldRuns.{is_channel}
+use Rattle.round_rules.specs.Records.{IsRecord, Record, log_at, world_of}
+use Rattle.fleet_rounds.specs.Waiting.{is_quiet}
+use Rattle.fleet.specs.Commands.{is_full}
+use Rattle.fleet.specs.Standing.{FleetState, HasMade, StandsFor}
+
+-- what the nodes did is a record: it could happen, so each merge of its logs and posts is a run of a world
+abbrev pub StandingIsARecord : Type 0
+StandingIsARecord =
+    (t : Network) (lines : List Disturb) (f : FleetState) (r : Record) → StandsFor t lines f r → IsRecord t r
+
+-- its logs and posts are those that the fleet has
+abbrev pub StandingHasMade : Type 0
+StandingHasMade =
+    (t : Network) (lines : List Disturb) (f : FleetState) (r : Record) → StandsFor t lines f r → HasMade t f r
+
+-- where nothing waits at the nodes and on their links, nothing waits in the world
+abbrev pub QuietIsTheWorlds : Type 0
+QuietIsTheWorlds =
+    (t : Network) (lines : List Disturb) (f : FleetState) (r : Record) → StandsFor t lines f r →
+    IsTrue (is_quiet t (world_of t r)) ↔ IsQuiet (world_of t r)
+
+-- the log of a node that has a neighbour is full just where its station's is
+abbrev pub FullIsTheLogs : Type 0
+FullIsTheLogs =
+    (t : Network) (lines : List Disturb) (f : FleetState) (r : Record) (u d : NodeId) → StandsFor t lines f r →
+    is_channel t u d ≡ true → is_full d f ≡ (length (log_at r d.0) == 50000)

@@ -1,0 +1,164 @@
+-- While nothing is set up, released or protected legs change their phases alone; so backups that were apart in a quiet
+-- state stay so.
+use Rattle.std.proofs.Common.{◌≡◌, ℕ, List, [], ◌∷◌, ◌++◌, refl, sym, ap, ◌∙◌, subst}
+use Rattle.std.specs.Prelude.{Option, Some, None}
+use Rattle.std.specs.List.{AllByRecursion}
+use Rattle.ason_base.specs.Lsps.{same_lsp}
+use Rattle.ason_base.specs.Network.{Network, find_link}
+use Rattle.ason_base.specs.declared.ids.Lsp.{Lsp}
+use Rattle.ason_base.specs.declared.ids.NodeId.{NodeId}
+use Rattle.ason_base.specs.declared.calls.Phase.TheVariants.{Held}
+use Rattle.ason_base.specs.declared.commands.Command.TheVariants.{Setup, Release, Protect, Retry, Revert, Fail, Repair}
+use Rattle.ason_base.specs.declared.commands.DeskItem.{DeskItem}
+use Rattle.ason_base.specs.declared.commands.Group.{Group}
+use Rattle.ason_base.specs.declared.messages.Msg.{Msg}
+use Rattle.ason_base.specs.declared.messages.Msg.TheVariants.{Path, Resv, PathTear, PathErr, Notify}
+use Rattle.ason_base.specs.declared.tables.Leg.{Leg}
+use Rattle.mesh_rules.specs.declared.events.MeshEvent.{MeshEvent}
+use Rattle.mesh_rules.specs.declared.events.MeshEvent.TheVariants.{Take, Desk, Tick, Learn, Post}
+use Rattle.mesh_rules.specs.Events.{IsRun, after, on_first, on_first_item, route_of, step}
+use Rattle.mesh_rules.specs.Failures.{with_group, without_group}
+use Rattle.mesh_rules.specs.Legs.{find_leg, uses, with_phase}
+use Rattle.mesh_rules.specs.LocalNodes.{local_node}
+use Rattle.mesh_rules.specs.Machine.{Mesh, start, without_first, without_item}
+use Rattle.mesh_rules.specs.Quiet.{IsQuiet}
+use Rattle.mesh_nodes.proofs.LegList.{found-all}
+use Rattle.lsp_laws.specs.HopLaw.{LspFits}
+use Rattle.lsp_laws.proofs.hops.HopLaws.{every_hop}
+use Rattle.mesh_laws.specs.ContendLaw.{GoesOnWith}
+use Rattle.mesh_laws.proofs.alone.Facts.{Routes}
+use Rattle.mesh_laws.proofs.alone.Groups.{FailsOnly, has_one}
+use Rattle.mesh_laws.proofs.alone.Legs.{Apart, MsgApart}
+use Rattle.mesh_laws.proofs.alone.AloneRuns.{after-append, append-one, run-first, StayApart}
+use Rattle.mesh_laws.proofs.kept.Items.{item-kept, link-kept, tick-kept}
+use Rattle.mesh_laws.proofs.kept.Messages.{ComesToLeg, message-kept, up-not_asked}
+use Rattle.mesh_laws.proofs.kept.Phases.{IsUp, ItemKept, Kept, LegsUp, MeshKept, MsgKept, SameLegs, but_phase, commit-kept, failed-kept, handled-kept, kept-nothing, ordered-kept, taken-kept}
+use Rattle.mesh_laws.proofs.kept.Places.{path-there}
+
+-- What stays apart
+
+record WasThere (was : List Leg) (l : Lsp) (a : Leg) : Type 0 where
+  leg : Leg
+  found : find_leg l was ≡ Some leg
+  same : with_phase Held leg ≡ with_phase Held a
+
+was-there : (was now : List Leg) → SameLegs was now → (l : Lsp) (a : Leg) → find_leg l now ≡ Some a → WasThere was l a
+was-there was now same l a found = go (find_leg l was) refl (sym (same l) ∙ ap but_phase found)
+  where
+    go : (b : Option Leg) → find_leg l was ≡ b → but_phase b ≡ Some (with_phase Held a) → WasThere was l a
+    go None is e = absurd (cc e)
+    go (Some b) is e = record { leg = b; found = is; same = cc e }
+
+-- what a leg uses doesn't depend on its phase
+apart-kept : (gs : List Group) (was now : List Leg) → SameLegs was now → Apart gs was → Apart gs now
+apart-kept gs was now same apart l a at_l f x m b differ at_m uses_a uses_b back_a back_b has_a has_b =
+    let p = was-there was now same l a at_l in
+    let q = was-there was now same m b at_m in
+    apart l p.leg p.found f x m q.leg (ap (λ (z : Leg). same_lsp z.lsp m) p.same ∙ differ) q.found
+    (ap (uses f x) p.same ∙ uses_a) (ap (uses f x) q.same ∙ uses_b)
+    (ap (λ (z : Leg). z.role) p.same ∙ back_a) (ap (λ (z : Leg). z.role) q.same ∙ back_b)
+    (ap (λ (z : Leg). has_one z.risks gs) p.same ∙ has_a) (ap (λ (z : Leg). has_one z.risks gs) q.same ∙ has_b)
+
+-- and no leg that is up waits for its label
+gifts-apart : (gs : List Group) (legs : List Leg) → LegsUp legs → (u : NodeId) (m : Msg) → MsgApart gs legs u m
+gifts-apart gs legs up u (Path l e k route set back r) = tt
+gifts-apart gs legs up u (Resv l e k x) =
+    λ b found asked over. absurd (up-not_asked b.phase (found-all IsUp l legs b found up) asked)
+gifts-apart gs legs up u (PathTear l e k) = tt
+gifts-apart gs legs up u (PathErr l e at gone code) = tt
+gifts-apart gs legs up u (Notify l e at k code) = tt
+
+-- One step
+
+-- no other group fails
+pub fails-only : (gs : List Group) (e : MeshEvent) → GoesOnWith gs e → FailsOnly gs e
+fails-only gs (Take d u) only = tt
+fails-only gs (Desk n) only = tt
+fails-only gs (Tick n) only = tt
+fails-only gs (Learn n k) only = tt
+fails-only gs (Post (Setup n from to protected both via backup)) only = tt
+fails-only gs (Post (Release n from)) only = tt
+fails-only gs (Post (Protect n from)) only = tt
+fails-only gs (Post (Retry n from)) only = tt
+fails-only gs (Post (Revert n from)) only = tt
+fails-only gs (Post (Fail h)) only = only
+fails-only gs (Post (Repair h)) only = tt
+
+module _ (t : Network) (gs : List Group) (was s : Mesh) (o : Routes) (hops : (l : Lsp) → LspFits t s l (o l))
+    (kept : MeshKept was s) where
+  comes : (d u : NodeId) (m : Msg) (ms : List Msg) → s.mail u.0 d.0 ≡ m ∷ ms →
+      ComesToLeg (local_node t d) (s.nodes d.0) (kept.up d.0) m
+  comes d u (Path l e k route set up r) ms is =
+      λ none. path-there t s o hops kept.up l e k route set up r ms u d is none
+  comes d u (Resv l e k x) ms is = tt
+  comes d u (PathTear l e k) ms is = tt
+  comes d u (PathErr l e at gone code) ms is = tt
+  comes d u (Notify l e at k code) ms is = tt
+
+  first-kept : (d u : NodeId) (ms : List Msg) → s.mail u.0 d.0 ≡ ms →
+      Kept (s.nodes d.0).legs (on_first (local_node t d) (s.nodes d.0) u ms)
+  first-kept d u [] is = kept-nothing (s.nodes d.0).legs
+  first-kept d u (m ∷ ms) is =
+      let all : AllByRecursion MsgKept (m ∷ ms) = subst (AllByRecursion MsgKept) is (kept.mail u.0 d.0) in
+      message-kept (local_node t d) (s.nodes d.0) (kept.up d.0) u m all.0 (comes d u m ms is)
+
+  item-first-kept : (n : NodeId) (items : List DeskItem) → s.desks n.0 ≡ items →
+      Kept (s.nodes n.0).legs (on_first_item (local_node t n) (s.nodes n.0) items)
+  item-first-kept n [] is = kept-nothing (s.nodes n.0).legs
+  item-first-kept n (i ∷ items) is =
+      let all : AllByRecursion ItemKept (i ∷ items) = subst (AllByRecursion ItemKept) is (kept.desks n.0) in
+      item-kept (local_node t n) (s.nodes n.0) i all.0
+
+  step-kept : (e : MeshEvent) → GoesOnWith gs e → MeshKept was (step t s e)
+  step-kept (Take d u) only =
+      commit-kept was (without_first s u.0 d.0) d.0 (on_first (local_node t d) (s.nodes d.0) u (s.mail u.0 d.0))
+      (first-kept d u (s.mail u.0 d.0) refl) (taken-kept was s u.0 d.0 kept)
+  step-kept (Desk n) only =
+      commit-kept was (without_item s n.0) n.0 (on_first_item (local_node t n) (s.nodes n.0) (s.desks n.0))
+      (item-first-kept n (s.desks n.0) refl) (handled-kept was s n.0 kept)
+  step-kept (Tick n) only =
+      commit-kept was s n.0 _ (tick-kept (local_node t n) (s.nodes n.0)) kept
+  step-kept (Learn n k) only =
+      commit-kept was s n.0 _ (link-kept (local_node t n) (s.nodes n.0) (find_link t k)) kept
+  step-kept (Post (Setup n from to protected both via backup)) only = absurd only
+  step-kept (Post (Release n from)) only = absurd only
+  step-kept (Post (Protect n from)) only = absurd only
+  step-kept (Post (Retry n from)) only = ordered-kept was s from.0 (Retry n from) tt kept
+  step-kept (Post (Revert n from)) only = ordered-kept was s from.0 (Revert n from) tt kept
+  step-kept (Post (Fail h)) only = failed-kept was t s (with_group h s.failed) kept
+  step-kept (Post (Repair h)) only = failed-kept was t s (without_group h s.failed) kept
+
+-- A run
+
+-- from a state on in which backups are apart, they stay apart
+module _ (t : Network) (gs : List Group) (was : Mesh) (apart : (n : ℕ) → Apart gs (was.nodes n).legs) where
+  stays : (before since : List MeshEvent) → IsRun t start (before ++ since) → AllByRecursion (GoesOnWith gs) since →
+      MeshKept was (after t start before) → StayApart t gs (after t start before) since
+  stays before [] run only kept = tt
+  stays before (e ∷ es) run only kept =
+      let s : Mesh = after t start before in
+      let first = run-first t start before (e ∷ es) run in
+      let next : after t start (before ++ e ∷ []) ≡ step t s e = after-append t start before (e ∷ []) in
+      let kept_on = step-kept t gs was s (route_of t start before) (every_hop t before first).1 kept e only.0 in (
+        record {
+          legs = λ n. apart-kept gs (was.nodes n).legs (s.nodes n).legs (kept.legs n) (apart n);
+          firsts = λ u d m ms is. gifts-apart gs (s.nodes d.0).legs (kept.up d.0) u m;
+        },
+        subst (λ x. StayApart t gs x es) next
+            (stays (before ++ e ∷ []) es (subst (IsRun t start) (sym (append-one before e es)) run) only.1
+            (subst (MeshKept was) (sym next) kept_on)),
+      )
+
+-- from a quiet state of the run on
+pub stay-apart : (t : Network) (gs : List Group) (before since : List MeshEvent) → IsRun t start (before ++ since) →
+    AllByRecursion (GoesOnWith gs) since → IsQuiet (after t start before) →
+    ((n : ℕ) → LegsUp ((after t start before).nodes n).legs) →
+    ((n : ℕ) → Apart gs ((after t start before).nodes n).legs) →
+    StayApart t gs (after t start before) since
+stay-apart t gs before since run only quiet up apart =
+    stays t gs (after t start before) apart before since run only (record {
+      legs = λ n l. refl;
+      up = up;
+      mail = λ u d. rw (quiet.mail u d) tt;
+      desks = λ n. rw (quiet.desks n) tt;
+    })
