@@ -177,6 +177,41 @@ fn follow_resv(
     }
 }
 
+// The call of the LSP that the message is of.
+fn follow(
+    alloc: Global,
+    change: &mut Change,
+    parts: &IngressParts<'_>,
+    shares: &Shares,
+    msg: &Msg,
+    backup: Option<&Steps>,
+) -> Result<(), OutOfMemory>
+    requires links { LocalNodeFits (local_of parts.now.tables.now) }
+    requires rows { RowsAreKnown parts.now.tables.now }
+    requires node { AreOfOneNode parts.now.tables.now parts.now.owner.now shares.now }
+    requires backup { IsBackupFor parts.now.tables.now
+        (sought_by_answer parts.now.tables.now parts.now.calls.now msg.now)
+        (option_copied backup) }
+    ensures { OnOk result (change.new ≡ followed_by change.old
+        (answer_here parts.now.tables.now parts.now.calls.now msg.now)) }
+{
+    match msg {
+        Msg::Resv { lsp, .. } => follow_resv(alloc, change, parts, shares, *lsp, backup),
+        Msg::PathErr {
+            lsp,
+            removed: true,
+            code,
+            ..
+        } => refuse_gone(alloc, change, parts.calls, *lsp, *code),
+        Msg::PathErr { lsp, .. } => match parts.tables.get(lsp) {
+            None => Ok(()),
+            Some(leg) => answer_busy(alloc, change, parts, leg),
+        },
+        Msg::Notify { .. } => answer_report(alloc, change, parts, msg),
+        Msg::Path { .. } | Msg::PathTear { .. } => Ok(()),
+    }
+}
+
 fn answer_change(
     alloc: Global,
     parts: &IngressParts<'_>,
@@ -194,24 +229,7 @@ fn answer_change(
         (λ c. c ≡ answer_here parts.now.tables.now parts.now.calls.now msg.now) }
 {
     let mut change = Change::nothing(alloc);
-    match msg {
-        Msg::Resv { lsp, .. } => {
-            follow_resv(alloc, &mut change, parts, shares, *lsp, backup)?;
-        }
-        Msg::PathErr {
-            lsp,
-            removed: true,
-            code,
-            ..
-        } => refuse_gone(alloc, &mut change, parts.calls, *lsp, *code)?,
-        Msg::PathErr { lsp, .. } => {
-            if let Some(leg) = parts.tables.get(lsp) {
-                answer_busy(alloc, &mut change, parts, leg)?;
-            }
-        }
-        Msg::Notify { .. } => answer_report(alloc, &mut change, parts, msg)?,
-        Msg::Path { .. } | Msg::PathTear { .. } => {}
-    }
+    follow(alloc, &mut change, parts, shares, msg, backup)?;
     Ok(change)
 }
 

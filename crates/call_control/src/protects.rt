@@ -67,18 +67,18 @@ pub fn protect(
     ensures { IfOk result
         (λ c. c ≡ protect_here parts.now.tables.now parts.now.calls.now number from) }
 {
-    let mut change = Change::nothing(alloc);
     let Some(call) = unprotected(parts.tables, parts.calls, number, from) else {
-        return Ok(change);
+        return Ok(Change::nothing(alloc));
     };
     let Some(work) = leg_of(parts.tables, call.work) else {
-        return Ok(change);
+        return Ok(Change::nothing(alloc));
     };
     let request = PairRequest {
         call,
         work,
         found: backup,
     };
+    let mut change = Change::nothing(alloc);
     pair(alloc, &mut change, parts, shares, &request)?;
     Ok(change)
 }

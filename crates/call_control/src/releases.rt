@@ -3,11 +3,12 @@
 ghost use Rattle.std.specs.Prelude.{◌≡◌, IfOk, OnOk};
 ghost use Rattle.std.specs.Option.{option_copied};
 ghost use Rattle.mesh_rules.specs.Changes.{followed_by};
-ghost use Rattle.mesh_rules.specs.Releases.{tears};
+ghost use Rattle.mesh_rules.specs.Releases.{releases, tears};
+ghost use Rattle.leg_table.specs.States.{legs_state};
 ghost use Rattle.call_control.specs.Rules.{release_here};
 
 use crate::ingress::{id_of, leg_of};
-use ason_base::{CallNo, Leg, Msg, NodeId, OutOfMemory};
+use ason_base::{CallNo, CallRec, Leg, Msg, NodeId, OutOfMemory};
 use leg_table::one_leg::{closed, following};
 use leg_table::{Calls, Change, NodeTables};
 use std::alloc::Global;
@@ -30,6 +31,21 @@ fn tear(alloc: Global, change: &mut Change, leg: Option<&Leg>) -> Result<(), Out
     change.put(closed(alloc, leg)?)
 }
 
+// The LSPs of the call are torn, and the call goes.
+fn let_go(
+    alloc: Global,
+    change: &mut Change,
+    tables: &NodeTables,
+    call: &CallRec,
+) -> Result<(), OutOfMemory>
+    ensures { OnOk result
+        (change.new ≡ followed_by change.old (releases (legs_state tables.now) call.now)) }
+{
+    tear(alloc, change, leg_of(tables, call.work))?;
+    tear(alloc, change, leg_of(tables, call.back))?;
+    change.remove_call(call.call)
+}
+
 /// What a release does: the LSPs of the call are torn, and the call goes.
 pub fn release(
     alloc: Global,
@@ -40,15 +56,13 @@ pub fn release(
 ) -> Result<Change, OutOfMemory>
     ensures { IfOk result (λ c. c ≡ release_here tables.now calls.now number from) }
 {
-    let mut change = Change::nothing(alloc);
     if from != id_of(tables) {
-        return Ok(change);
+        return Ok(Change::nothing(alloc));
     }
     let Some(call) = calls.get(number) else {
-        return Ok(change);
+        return Ok(Change::nothing(alloc));
     };
-    tear(alloc, &mut change, leg_of(tables, call.work))?;
-    tear(alloc, &mut change, leg_of(tables, call.back))?;
-    change.remove_call(call.call)?;
+    let mut change = Change::nothing(alloc);
+    let_go(alloc, &mut change, tables, call)?;
     Ok(change)
 }

@@ -23,16 +23,18 @@ pub fn retry(
     ensures { IfOk result
         (λ c. c ≡ retry_here parts.now.tables.now parts.now.calls.now number from) }
 {
-    let mut change = Change::nothing(alloc);
     if from != id_of(parts.tables) {
-        return Ok(change);
+        return Ok(Change::nothing(alloc));
     }
     let Some(call) = parts.calls.get(number) else {
-        return Ok(change);
+        return Ok(Change::nothing(alloc));
     };
-    if is_stuck(call.state) && has_any(&call.work_reports) && !has_any(&call.back_reports) {
-        let back = leg_of(parts.tables, call.back);
-        turn(alloc, &mut change, parts, call.copy(alloc)?, back)?;
+    if !is_stuck(call.state) || !has_any(&call.work_reports) || has_any(&call.back_reports) {
+        return Ok(Change::nothing(alloc));
     }
+    let call = call.copy(alloc)?;
+    let back = leg_of(parts.tables, call.back);
+    let mut change = Change::nothing(alloc);
+    turn(alloc, &mut change, parts, call, back)?;
     Ok(change)
 }
