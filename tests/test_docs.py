@@ -118,14 +118,23 @@ class PagesTest(unittest.TestCase):
                         self.assertIn(f"`{name}`", told[crate])
         self.assertGreater(seen, 50)
 
+    def sources(self, crate: str) -> str:
+        files = (path for path in (TOP / "crates" / crate).rglob("*") if path.suffix in (".rt", ".antt"))
+        return "\n".join(path.read_text() for path in files)
+
     def test_each_clause_that_is_told_is_there(self) -> None:
         words = re.findall(r"`(\w+)`", sections(self.page("docs/calls.md"), "##")["Causes"])
         everywhere = set(words)
         named: dict[str, set[str]] = {}
-        for crate in crates():
-            files = [path.read_text() for path in (TOP / "crates" / crate).rglob("*") if path.suffix in (".rt", ".antt")]
-            text = "\n".join(files)
-            named[crate] = set(re.findall(r"\b(?:ensures|requires|ghost|fn) (\w+)", text)) | set(re.findall(r"^ *pub (\w+) :", text, re.MULTILINE))
+        texts = {crate: self.sources(crate) for crate in crates()}
+        records = dict(re.findall(r"^pub record (\w+)(.*\n(?:  .*\n|\n(?=  ))*)", "\n".join(texts.values()), re.MULTILINE))
+        for crate, text in texts.items():
+            # A contract has the clauses of the words that it says, and of those within them.
+            words = set(re.findall(r"\w+", "\n".join(re.findall(r"^ *(?:ensures|requires) [^{]*\{[^}]*\}", text, re.MULTILINE))))
+            said = "\n".join(records[word] for word in words & records.keys())
+            within = "\n".join(records[word] for word in set(re.findall(r"\w+", said)) & records.keys())
+            named[crate] = set(re.findall(r"\b(?:ensures|requires|ghost|fn) (\w+)", text))
+            named[crate] |= set(re.findall(r"^ *pub (\w+) :", "\n".join((text, said, within)), re.MULTILINE))
             everywhere |= set(re.findall(r"^(?:(?:abbrev|unfoldable|pub) )*([a-z]\w*) *:", text, re.MULTILINE))
         for crate, text in sections(self.page("docs/crates.md"), "##").items():
             told = {name for inner in re.findall(r"\(([^()]*)\)", text) for name in re.findall(r"`([a-z]\w*)`", inner)}
