@@ -1,5 +1,5 @@
 -- A run after which a backup is activated at its egress, and the Resv goes back.
-use Rattle.std.proofs.Common.{◌≡◌, true, List, [], ◌∷◌, ◌++◌, refl}
+use Rattle.std.proofs.Common.{List, [], ◌∷◌, ◌++◌, refl}
 use Rattle.std.specs.Prelude.{Some, None}
 use Rattle.ason_base.specs.Labels as labels
 use Rattle.ason_base.specs.Network.{Network}
@@ -11,7 +11,7 @@ use Rattle.mesh_rules.specs.Machine.{start}
 use Rattle.lsp_laws.specs.HopLaw.{HasShape}
 use Rattle.lsp_laws.specs.HopShapes as row
 use Rattle.mesh_examples.proofs.BothArmed as both_armed
-use Rattle.mesh_examples.proofs.Scene.{all_enabled, among, leg, lsp, node, Seen, seen, takes}
+use Rattle.mesh_examples.proofs.Scene.{among, leg, lsp, node, Reaches, Seen, takes}
 
 abbrev network : Network
 network = both_armed.network
@@ -30,13 +30,9 @@ as_reached = record both_armed.as_reached {
   mail = (0, 0) ∷ (0, 0) ∷ (0, 0) ∷ (1, 0) ∷ (0, 0) ∷ (0, 0) ∷ (0, 0) ∷ [];
 }
 
-enabled : all_enabled network start events ≡ true
+reaches : Reaches network events as_reached
 unfolding labels.numbers_from
-enabled = refl
-
-reached : seen network (after network start events) ≡ as_reached
-unfolding labels.numbers_from
-reached = refl
+reaches = record { enabled = refl; reached = refl }
 
 in_row : HasShape (after network start events) Back (lsp 1 1 2) (node 5) (node 2)
 unfolding labels.numbers_from

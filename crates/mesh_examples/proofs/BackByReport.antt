@@ -1,15 +1,13 @@
 -- A run after which a turned call goes back, since its backup is hit and its working route is repaired.
-use Rattle.std.proofs.Common.{◌≡◌, true, List, [], ◌∷◌, ◌++◌, refl}
+use Rattle.std.proofs.Common.{List, [], ◌∷◌, ◌++◌, refl}
 use Rattle.ason_base.specs.Codes.{set_code}
 use Rattle.ason_base.specs.Labels as labels
 use Rattle.ason_base.specs.Network.{Network}
 use Rattle.ason_base.specs.declared.calls.CallState.TheVariants.{Blocked, Guarded}
 use Rattle.ason_base.specs.declared.calls.Cause.TheVariants.{Code, Unset}
 use Rattle.mesh_rules.specs.declared.events.MeshEvent.{MeshEvent}
-use Rattle.mesh_rules.specs.Events.{after}
-use Rattle.mesh_rules.specs.Machine.{start}
 use Rattle.mesh_examples.proofs.Deactivating as deactivating
-use Rattle.mesh_examples.proofs.Scene.{all_enabled, alone, called, desk, fails_link, learns, over, repairs_link, reported, reverts, Seen, seen, sets_up, takes, takes_each, ticks}
+use Rattle.mesh_examples.proofs.Scene.{alone, called, desk, fails_link, learns, over, Reaches, repairs_link, reported, reverts, Seen, sets_up, takes, takes_each, ticks}
 
 abbrev network : Network
 network = deactivating.network
@@ -57,10 +55,6 @@ as_reached = record deactivating.as_reached {
   down = 1 ∷ 0 ∷ 0 ∷ 0 ∷ 0 ∷ 1 ∷ [];
 }
 
-enabled : all_enabled network start events ≡ true
+reaches : Reaches network events as_reached
 unfolding labels.numbers_from
-enabled = refl
-
-reached : seen network (after network start events) ≡ as_reached
-unfolding labels.numbers_from
-reached = refl
+reaches = record { enabled = refl; reached = refl }

@@ -1,5 +1,5 @@
 -- A run after which one of two reported fibres of a backup route is repaired.
-use Rattle.std.proofs.Common.{◌≡◌, true, false, List, [], ◌∷◌, ◌++◌, refl}
+use Rattle.std.proofs.Common.{true, false, List, [], ◌∷◌, ◌++◌, refl}
 use Rattle.std.specs.Prelude.{Some, None}
 use Rattle.ason_base.specs.Codes.{set_code}
 use Rattle.ason_base.specs.Labels as labels
@@ -8,9 +8,7 @@ use Rattle.ason_base.specs.declared.calls.CallState.TheVariants.{Blocked, Guarde
 use Rattle.ason_base.specs.declared.calls.Cause.TheVariants.{Code, Unset}
 use Rattle.ason_base.specs.declared.calls.Phase.TheVariants.{Held, Live}
 use Rattle.mesh_rules.specs.declared.events.MeshEvent.{MeshEvent}
-use Rattle.mesh_rules.specs.Events.{after}
-use Rattle.mesh_rules.specs.Machine.{start}
-use Rattle.mesh_examples.proofs.Scene.{all_enabled, among, called, desk, fails_link, joins, learns, leg, over, repairs_link, reported, reverts, Seen, seen, sets_up, sets_up_alone, spec, takes, takes_each, ticks}
+use Rattle.mesh_examples.proofs.Scene.{among, called, desk, fails_link, joins, learns, leg, over, Reaches, repairs_link, reported, reverts, Seen, sets_up, sets_up_alone, spec, takes, takes_each, ticks}
 
 abbrev network : Network
 network = record {
@@ -78,10 +76,6 @@ as_reached = record {
   mail = (0, 0) ∷ (0, 0) ∷ (0, 0) ∷ (0, 0) ∷ (0, 0) ∷ (0, 0) ∷ (0, 0) ∷ [];
 }
 
-enabled : all_enabled network start events ≡ true
+reaches : Reaches network events as_reached
 unfolding labels.numbers_from
-enabled = refl
-
-reached : seen network (after network start events) ≡ as_reached
-unfolding labels.numbers_from
-reached = refl
+reaches = record { enabled = refl; reached = refl }

@@ -2,7 +2,7 @@
 -- working LSPs over links 1 and 2, and share the one label of link 3 for their backups. Link 1 fails, and the first
 -- backup is activated. Node 1 sends the label for it, so when link 2 fails too the second call is stuck without sending
 -- anything.
-use Rattle.std.proofs.Common.{◌≡◌, true, false, List, [], ◌∷◌, ◌++◌, refl}
+use Rattle.std.proofs.Common.{false, List, [], ◌∷◌, ◌++◌, refl}
 use Rattle.std.specs.Prelude.{Some, None}
 use Rattle.ason_base.specs.Codes.{busy_code}
 use Rattle.ason_base.specs.Labels as labels
@@ -11,9 +11,7 @@ use Rattle.ason_base.specs.declared.calls.CallState.TheVariants.{Stuck, Turning}
 use Rattle.ason_base.specs.declared.calls.Cause.TheVariants.{Code, Unset}
 use Rattle.ason_base.specs.declared.calls.Phase.TheVariants.{Armed, Held, Live}
 use Rattle.mesh_rules.specs.declared.events.MeshEvent.{MeshEvent}
-use Rattle.mesh_rules.specs.Events.{after}
-use Rattle.mesh_rules.specs.Machine.{start}
-use Rattle.mesh_examples.proofs.Scene.{all_enabled, desk, fails_link, joins, leg, over, reported, Seen, seen, sets_up, spec, takes, takes_each}
+use Rattle.mesh_examples.proofs.Scene.{desk, fails_link, joins, leg, over, Reaches, reported, Seen, sets_up, spec, takes, takes_each}
 
 abbrev network : Network
 network = record {
@@ -58,10 +56,6 @@ as_reached = record {
   mail = (1, 0) ∷ (1, 0) ∷ (1, 0) ∷ [];
 }
 
-enabled : all_enabled network start events ≡ true
+reaches : Reaches network events as_reached
 unfolding labels.numbers_from
-enabled = refl
-
-reached : seen network (after network start events) ≡ as_reached
-unfolding labels.numbers_from
-reached = refl
+reaches = record { enabled = refl; reached = refl }

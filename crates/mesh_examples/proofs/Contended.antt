@@ -1,7 +1,7 @@
 -- A run after which an activation is refused. Both calls that share the label of link 5 are hit; the first one's backup
 -- is activated as far as node 5. Node 5 takes a label of its own for either backup, from link 3 and from link 6, and
 -- sends the shared one alone: it refuses the second activation before that comes to node 6, which takes the label.
-use Rattle.std.proofs.Common.{◌≡◌, true, List, [], ◌∷◌, ◌++◌, refl}
+use Rattle.std.proofs.Common.{List, [], ◌∷◌, ◌++◌, refl}
 use Rattle.std.specs.Prelude.{Some, None}
 use Rattle.ason_base.specs.Labels as labels
 use Rattle.ason_base.specs.declared.calls.CallState.TheVariants.{Turning}
@@ -13,7 +13,7 @@ use Rattle.mesh_rules.specs.Events.{after}
 use Rattle.mesh_rules.specs.Machine.{start}
 use Rattle.lsp_laws.specs.HopLaw.{HasShape}
 use Rattle.lsp_laws.specs.HopShapes as row
-use Rattle.mesh_examples.proofs.Scene.{all_enabled, among, desk, fails_link, leg, lsp, node, reported, Seen, seen, takes_each}
+use Rattle.mesh_examples.proofs.Scene.{among, desk, fails_link, leg, lsp, node, Reaches, reported, Seen, takes_each}
 use Rattle.mesh_examples.proofs.SharedLabel.{network}
 use Rattle.mesh_examples.proofs.SharedLabel as shared
 
@@ -48,13 +48,9 @@ as_reached = record {
   mail = (0, 0) ∷ (0, 0) ∷ (0, 0) ∷ (0, 0) ∷ (1, 0) ∷ (0, 1) ∷ (0, 0) ∷ [];
 }
 
-enabled : all_enabled network start events ≡ true
+reaches : Reaches network events as_reached
 unfolding labels.numbers_from
-enabled = refl
-
-reached : seen network (after network start events) ≡ as_reached
-unfolding labels.numbers_from
-reached = refl
+reaches = record { enabled = refl; reached = refl }
 
 in_row : HasShape (after network start events) Back (lsp 3 1 2) (node 3) (node 5)
 unfolding labels.numbers_from

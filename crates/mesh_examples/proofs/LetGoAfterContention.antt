@@ -1,6 +1,6 @@
 -- A run after which a torn backup is let go behind the refusal of its activation: node 5, which refused, answers the
 -- PathTear and tears on, and its own leg goes once node 6 has let go. Node 6 takes the Path of the other backup first.
-use Rattle.std.proofs.Common.{◌≡◌, true, List, [], ◌∷◌, ◌++◌, refl}
+use Rattle.std.proofs.Common.{List, [], ◌∷◌, ◌++◌, refl}
 use Rattle.std.specs.Prelude.{Some, None}
 use Rattle.ason_base.specs.Labels as labels
 use Rattle.ason_base.specs.declared.calls.CallState.TheVariants.{Turning}
@@ -12,7 +12,7 @@ use Rattle.mesh_rules.specs.Events.{after}
 use Rattle.mesh_rules.specs.Machine.{start}
 use Rattle.lsp_laws.specs.HopLaw.{HasShape}
 use Rattle.lsp_laws.specs.HopShapes as row
-use Rattle.mesh_examples.proofs.Scene.{all_enabled, alone, among, leg, lsp, node, reported, Seen, seen, takes}
+use Rattle.mesh_examples.proofs.Scene.{alone, among, leg, lsp, node, Reaches, reported, Seen, takes}
 use Rattle.mesh_examples.proofs.SharedLabel.{network}
 use Rattle.mesh_examples.proofs.TornContended as torn
 
@@ -37,13 +37,9 @@ as_reached = record {
   mail = (0, 0) ∷ (1, 0) ∷ (0, 0) ∷ (0, 1) ∷ (0, 0) ∷ (0, 2) ∷ (0, 1) ∷ [];
 }
 
-enabled : all_enabled network start events ≡ true
+reaches : Reaches network events as_reached
 unfolding labels.numbers_from
-enabled = refl
-
-reached : seen network (after network start events) ≡ as_reached
-unfolding labels.numbers_from
-reached = refl
+reaches = record { enabled = refl; reached = refl }
 
 in_row : HasShape (after network start events) Back (lsp 3 1 2) (node 3) (node 5)
 unfolding labels.numbers_from

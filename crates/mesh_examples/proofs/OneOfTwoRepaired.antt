@@ -1,5 +1,5 @@
 -- A run after which one of two reported fibres of a working route is repaired.
-use Rattle.std.proofs.Common.{◌≡◌, true, false, List, [], ◌∷◌, ◌++◌, refl}
+use Rattle.std.proofs.Common.{true, false, List, [], ◌∷◌, ◌++◌, refl}
 use Rattle.std.specs.Prelude.{Some, None}
 use Rattle.ason_base.specs.Labels as labels
 use Rattle.ason_base.specs.Network.{Network}
@@ -7,9 +7,7 @@ use Rattle.ason_base.specs.declared.calls.CallState.TheVariants.{Asking, Bare}
 use Rattle.ason_base.specs.declared.calls.Cause.TheVariants.{Unset}
 use Rattle.ason_base.specs.declared.calls.Phase.TheVariants.{Asked, Live}
 use Rattle.mesh_rules.specs.declared.events.MeshEvent.{MeshEvent}
-use Rattle.mesh_rules.specs.Events.{after}
-use Rattle.mesh_rules.specs.Machine.{start}
-use Rattle.mesh_examples.proofs.Scene.{all_enabled, among, called, desk, fails_link, fails_srlg, joins, learns, leg, over, repairs_link, repairs_srlg, reported, Seen, seen, sets_up, sets_up_alone, spec, takes, takes_each}
+use Rattle.mesh_examples.proofs.Scene.{among, called, desk, fails_link, fails_srlg, joins, learns, leg, over, Reaches, repairs_link, repairs_srlg, reported, Seen, sets_up, sets_up_alone, spec, takes, takes_each}
 
 abbrev network : Network
 network = record {
@@ -79,10 +77,6 @@ as_reached = record {
   mail = (0, 0) ∷ (0, 0) ∷ (0, 0) ∷ (0, 0) ∷ (0, 0) ∷ (0, 1) ∷ (0, 0) ∷ (0, 0) ∷ (0, 0) ∷ (0, 0) ∷ [];
 }
 
-enabled : all_enabled network start events ≡ true
+reaches : Reaches network events as_reached
 unfolding labels.numbers_from
-enabled = refl
-
-reached : seen network (after network start events) ≡ as_reached
-unfolding labels.numbers_from
-reached = refl
+reaches = record { enabled = refl; reached = refl }

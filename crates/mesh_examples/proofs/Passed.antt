@@ -1,5 +1,5 @@
 -- A run after which the Path of a backup has gone on.
-use Rattle.std.proofs.Common.{◌≡◌, true, List, [], ◌∷◌, ◌++◌, refl}
+use Rattle.std.proofs.Common.{List, [], ◌∷◌, ◌++◌, refl}
 use Rattle.std.specs.Prelude.{Some, None}
 use Rattle.ason_base.specs.Labels as labels
 use Rattle.ason_base.specs.Network.{Network}
@@ -13,7 +13,7 @@ use Rattle.mesh_rules.specs.Machine.{start}
 use Rattle.lsp_laws.specs.HopLaw.{HasShape}
 use Rattle.lsp_laws.specs.HopShapes as row
 use Rattle.mesh_examples.proofs.Answered as answered
-use Rattle.mesh_examples.proofs.Scene.{all_enabled, alone, among, called, desk, learns, leg, lsp, node, over, Seen, seen, sets_up, takes_each}
+use Rattle.mesh_examples.proofs.Scene.{alone, among, called, desk, learns, leg, lsp, node, over, Reaches, Seen, sets_up, takes_each}
 
 abbrev network : Network
 network = answered.network
@@ -38,13 +38,9 @@ as_reached = record {
   mail = (0, 0) ∷ (0, 0) ∷ (0, 0) ∷ (0, 1) ∷ (0, 0) ∷ (0, 0) ∷ (0, 0) ∷ [];
 }
 
-enabled : all_enabled network start events ≡ true
+reaches : Reaches network events as_reached
 unfolding labels.numbers_from
-enabled = refl
-
-reached : seen network (after network start events) ≡ as_reached
-unfolding labels.numbers_from
-reached = refl
+reaches = record { enabled = refl; reached = refl }
 
 in_row : HasShape (after network start events) Back (lsp 4 1 2) (node 4) (node 3)
 unfolding labels.numbers_from

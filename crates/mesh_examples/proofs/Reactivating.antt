@@ -1,5 +1,5 @@
 -- A run after which a backup is activated again behind the Path that takes its activation back.
-use Rattle.std.proofs.Common.{◌≡◌, true, false, List, [], ◌∷◌, ◌++◌, refl}
+use Rattle.std.proofs.Common.{true, false, List, [], ◌∷◌, ◌++◌, refl}
 use Rattle.std.specs.Prelude.{Some, None}
 use Rattle.ason_base.specs.Labels as labels
 use Rattle.ason_base.specs.Network.{Network}
@@ -12,7 +12,7 @@ use Rattle.mesh_rules.specs.Events.{after}
 use Rattle.mesh_rules.specs.Machine.{start}
 use Rattle.lsp_laws.specs.HopLaw.{HasShape}
 use Rattle.lsp_laws.specs.HopShapes as row
-use Rattle.mesh_examples.proofs.Scene.{all_enabled, alone, among, desk, fails_link, joins, learns, leg, lsp, node, over, repairs_link, reported, Seen, seen, sets_up, spec, takes, takes_each, ticks}
+use Rattle.mesh_examples.proofs.Scene.{alone, among, desk, fails_link, joins, learns, leg, lsp, node, over, Reaches, repairs_link, reported, Seen, sets_up, spec, takes, takes_each, ticks}
 
 abbrev pub network : Network
 network = record {
@@ -63,13 +63,9 @@ as_reached = record {
   mail = (0, 0) ∷ (0, 0) ∷ (0, 0) ∷ (0, 0) ∷ (0, 0) ∷ (0, 0) ∷ (2, 0) ∷ (0, 0) ∷ (0, 0) ∷ [];
 }
 
-enabled : all_enabled network start events ≡ true
+reaches : Reaches network events as_reached
 unfolding labels.numbers_from
-enabled = refl
-
-reached : seen network (after network start events) ≡ as_reached
-unfolding labels.numbers_from
-reached = refl
+reaches = record { enabled = refl; reached = refl }
 
 in_row : HasShape (after network start events) Back (lsp 3 1 2) (node 3) (node 5)
 unfolding labels.numbers_from

@@ -1,5 +1,5 @@
 -- A run after which a backup is refused over a fibre that is known to be down.
-use Rattle.std.proofs.Common.{◌≡◌, true, List, [], ◌∷◌, ◌++◌, refl}
+use Rattle.std.proofs.Common.{List, [], ◌∷◌, ◌++◌, refl}
 use Rattle.std.specs.Prelude.{Some, None}
 use Rattle.ason_base.specs.Codes.{down_code}
 use Rattle.ason_base.specs.Labels as labels
@@ -8,10 +8,8 @@ use Rattle.ason_base.specs.declared.calls.CallState.TheVariants.{Bare}
 use Rattle.ason_base.specs.declared.calls.Cause.TheVariants.{Code}
 use Rattle.ason_base.specs.declared.calls.Phase.TheVariants.{Closing, Held, Live}
 use Rattle.mesh_rules.specs.declared.events.MeshEvent.{MeshEvent}
-use Rattle.mesh_rules.specs.Events.{after}
-use Rattle.mesh_rules.specs.Machine.{start}
 use Rattle.mesh_examples.proofs.SharedLabel as shared_label
-use Rattle.mesh_examples.proofs.Scene.{all_enabled, alone, among, desk, fails_link, learns, leg, over, protects, releases, reported, reverts, Seen, seen, sets_up, takes, takes_each, ticks}
+use Rattle.mesh_examples.proofs.Scene.{alone, among, desk, fails_link, learns, leg, over, protects, Reaches, releases, reported, reverts, Seen, sets_up, takes, takes_each, ticks}
 
 abbrev network : Network
 network = shared_label.network
@@ -64,10 +62,6 @@ as_reached = record {
   mail = (0, 0) ∷ (0, 0) ∷ (0, 0) ∷ (0, 0) ∷ (0, 1) ∷ (0, 1) ∷ (0, 1) ∷ [];
 }
 
-enabled : all_enabled network start events ≡ true
+reaches : Reaches network events as_reached
 unfolding labels.numbers_from
-enabled = refl
-
-reached : seen network (after network start events) ≡ as_reached
-unfolding labels.numbers_from
-reached = refl
+reaches = record { enabled = refl; reached = refl }

@@ -13,7 +13,7 @@ use Rattle.mesh_rules.specs.Machine.{start}
 use Rattle.mesh_laws.specs.AloneLaw.{Alone}
 use Rattle.mesh_laws.specs.RestorationLaw.{is_guarded, is_hit}
 use Rattle.mesh_laws.proofs.alone.Law.{run_starts_calm}
-use Rattle.mesh_examples.proofs.Scene.{all_enabled, among, desk, fails_link, joins, learns, leg, link, lsp, over, reported, Seen, seen, sets_up, spec, takes_each}
+use Rattle.mesh_examples.proofs.Scene.{among, desk, fails_link, joins, learns, leg, link, lsp, over, Reaches, reported, Seen, sets_up, spec, takes_each}
 
 abbrev network : Network
 network = record {
@@ -48,13 +48,9 @@ as_reached = record {
   mail = (0, 0) ∷ (0, 0) ∷ (0, 0) ∷ [];
 }
 
-enabled : all_enabled network start events ≡ true
+reaches : Reaches network events as_reached
 unfolding labels.numbers_from
-enabled = refl
-
-reached : seen network (after network start events) ≡ as_reached
-unfolding labels.numbers_from
-reached = refl
+reaches = record { enabled = refl; reached = refl }
 
 alone : Alone network events (Link (link 1))
 alone = record { before = []; since = events; parts = refl; calm = run_starts_calm; only = assumption (tt, refl) }

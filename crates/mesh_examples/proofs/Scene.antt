@@ -1,6 +1,6 @@
 -- What is looked at of a mesh of some nodes after a run: the legs and calls of each node, how many links each node
 -- knows, how many fibres it knows to be down, and how many messages are under way.
-use Rattle.std.proofs.Common.{ℕ, zero, suc, Bool, true, false, cond, nat_eq, List, [], ◌∷◌}
+use Rattle.std.proofs.Common.{◌≡◌, ℕ, zero, suc, Bool, true, false, cond, nat_eq, List, [], ◌∷◌}
 use Rattle.std.specs.Prelude.{◌&&◌, length, map, Option, Some, None}
 use Rattle.ason_base.specs.Network.{Network}
 use Rattle.ason_base.specs.declared.calls.CallState.{CallState}
@@ -21,10 +21,10 @@ use Rattle.ason_base.specs.declared.tables.CallRec.{CallRec}
 use Rattle.ason_base.specs.declared.tables.Leg.{Leg}
 use Rattle.mesh_rules.specs.declared.events.MeshEvent.{MeshEvent}
 use Rattle.mesh_rules.specs.declared.events.MeshEvent.TheVariants.{Desk, Learn, Post, Take, Tick}
-use Rattle.mesh_rules.specs.Events.{is_enabled, step}
+use Rattle.mesh_rules.specs.Events.{after, is_enabled, step}
 use Rattle.mesh_rules.specs.KnownRows.{known_rows}
 use Rattle.mesh_rules.specs.LocalNodes.{local_node}
-use Rattle.mesh_rules.specs.Machine.{Mesh}
+use Rattle.mesh_rules.specs.Machine.{Mesh, start}
 
 -- Networks
 
@@ -228,3 +228,8 @@ row l role n phase in_link in_label out_link out_label back_in back_out = record
 abbrev pub waiting : ℕ → CallState → Cause → ℕ → ℕ → ℕ → SeenCall
 waiting number state cause works backs ticks =
     record { number = number; state = state; cause = cause; work_reports = works; back_reports = backs; ticks = ticks }
+
+-- each event of the run is enabled, and this is seen after it
+pub record Reaches (t : Network) (events : List MeshEvent) (shown : Seen) : Type 0 where
+  pub enabled : all_enabled t start events ≡ true
+  pub reached : seen t (after t start events) ≡ shown

@@ -1,5 +1,5 @@
 -- A run after which a call is stuck as soon as its backup is reserved: both its routes are hit.
-use Rattle.std.proofs.Common.{◌≡◌, true, false, List, [], ◌∷◌, ◌++◌, refl}
+use Rattle.std.proofs.Common.{false, List, [], ◌∷◌, ◌++◌, refl}
 use Rattle.std.specs.Prelude.{Some, None}
 use Rattle.ason_base.specs.Labels as labels
 use Rattle.ason_base.specs.Network.{Network}
@@ -7,9 +7,7 @@ use Rattle.ason_base.specs.declared.calls.CallState.TheVariants.{Asking, Stuck}
 use Rattle.ason_base.specs.declared.calls.Cause.TheVariants.{BackDown, Unset}
 use Rattle.ason_base.specs.declared.calls.Phase.TheVariants.{Asked, Held, Live}
 use Rattle.mesh_rules.specs.declared.events.MeshEvent.{MeshEvent}
-use Rattle.mesh_rules.specs.Events.{after}
-use Rattle.mesh_rules.specs.Machine.{start}
-use Rattle.mesh_examples.proofs.Scene.{all_enabled, among, called, desk, fails_link, joins, learns, leg, over, reported, Seen, seen, sets_up, spec, takes, takes_each}
+use Rattle.mesh_examples.proofs.Scene.{among, called, desk, fails_link, joins, learns, leg, over, Reaches, reported, Seen, sets_up, spec, takes, takes_each}
 
 abbrev network : Network
 network = record {
@@ -69,10 +67,6 @@ as_reached = record {
   mail = (0, 0) ∷ (0, 0) ∷ (0, 0) ∷ (0, 1) ∷ (0, 0) ∷ (0, 0) ∷ (0, 0) ∷ (0, 1) ∷ [];
 }
 
-enabled : all_enabled network start events ≡ true
+reaches : Reaches network events as_reached
 unfolding labels.numbers_from
-enabled = refl
-
-reached : seen network (after network start events) ≡ as_reached
-unfolding labels.numbers_from
-reached = refl
+reaches = record { enabled = refl; reached = refl }

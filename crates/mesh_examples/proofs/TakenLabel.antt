@@ -1,6 +1,6 @@
 -- Two calls whose backups meet on link 5, which has one label, and whose primaries have an SRLG in common. When the
 -- Resv of the second one comes the label is taken, and its call is bare.
-use Rattle.std.proofs.Common.{◌≡◌, true, false, List, [], ◌∷◌, ◌++◌, refl}
+use Rattle.std.proofs.Common.{true, false, List, [], ◌∷◌, ◌++◌, refl}
 use Rattle.std.specs.Prelude.{Some, None}
 use Rattle.ason_base.specs.Codes.{label_code}
 use Rattle.ason_base.specs.Labels as labels
@@ -9,9 +9,7 @@ use Rattle.ason_base.specs.declared.calls.CallState.TheVariants.{Bare, Guarded}
 use Rattle.ason_base.specs.declared.calls.Cause.TheVariants.{Code, Unset}
 use Rattle.ason_base.specs.declared.calls.Phase.TheVariants.{Held, Live}
 use Rattle.mesh_rules.specs.declared.events.MeshEvent.{MeshEvent}
-use Rattle.mesh_rules.specs.Events.{after}
-use Rattle.mesh_rules.specs.Machine.{start}
-use Rattle.mesh_examples.proofs.Scene.{all_enabled, among, called, desk, joins, learns, leg, over, Seen, seen, sets_up, spec, takes_each}
+use Rattle.mesh_examples.proofs.Scene.{among, called, desk, joins, learns, leg, over, Reaches, Seen, sets_up, spec, takes_each}
 
 abbrev pub network : Network
 network = record {
@@ -54,10 +52,6 @@ as_reached = record {
   mail = (0, 0) ∷ (0, 0) ∷ (0, 0) ∷ (0, 0) ∷ (0, 0) ∷ (0, 0) ∷ (0, 0) ∷ [];
 }
 
-enabled : all_enabled network start events ≡ true
+reaches : Reaches network events as_reached
 unfolding labels.numbers_from
-enabled = refl
-
-reached : seen network (after network start events) ≡ as_reached
-unfolding labels.numbers_from
-reached = refl
+reaches = record { enabled = refl; reached = refl }

@@ -1,5 +1,5 @@
 -- A run after which a tick counts nothing while a fibre of the working route is reported.
-use Rattle.std.proofs.Common.{◌≡◌, true, false, List, [], ◌∷◌, ◌++◌, refl}
+use Rattle.std.proofs.Common.{true, false, List, [], ◌∷◌, ◌++◌, refl}
 use Rattle.std.specs.Prelude.{Some, None}
 use Rattle.ason_base.specs.Labels as labels
 use Rattle.ason_base.specs.Network.{Network}
@@ -7,9 +7,7 @@ use Rattle.ason_base.specs.declared.calls.CallState.TheVariants.{Turned}
 use Rattle.ason_base.specs.declared.calls.Cause.TheVariants.{Unset}
 use Rattle.ason_base.specs.declared.calls.Phase.TheVariants.{Live}
 use Rattle.mesh_rules.specs.declared.events.MeshEvent.{MeshEvent}
-use Rattle.mesh_rules.specs.Events.{after}
-use Rattle.mesh_rules.specs.Machine.{start}
-use Rattle.mesh_examples.proofs.Scene.{all_enabled, alone, among, desk, fails_link, joins, learns, leg, over, protects, reported, retries, Seen, seen, sets_up, spec, takes, takes_each, ticks}
+use Rattle.mesh_examples.proofs.Scene.{alone, among, desk, fails_link, joins, learns, leg, over, protects, Reaches, reported, retries, Seen, sets_up, spec, takes, takes_each, ticks}
 
 abbrev network : Network
 network = record {
@@ -60,10 +58,6 @@ as_reached = record {
   mail = (0, 0) ∷ (0, 0) ∷ (0, 0) ∷ (0, 0) ∷ (0, 0) ∷ (0, 0) ∷ (0, 0) ∷ (0, 0) ∷ (0, 0) ∷ [];
 }
 
-enabled : all_enabled network start events ≡ true
+reaches : Reaches network events as_reached
 unfolding labels.numbers_from
-enabled = refl
-
-reached : seen network (after network start events) ≡ as_reached
-unfolding labels.numbers_from
-reached = refl
+reaches = record { enabled = refl; reached = refl }

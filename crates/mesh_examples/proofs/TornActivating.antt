@@ -1,5 +1,5 @@
 -- A run after which a backup is torn while the Path that activates it is under way.
-use Rattle.std.proofs.Common.{◌≡◌, true, false, List, [], ◌∷◌, ◌++◌, refl}
+use Rattle.std.proofs.Common.{true, false, List, [], ◌∷◌, ◌++◌, refl}
 use Rattle.std.specs.Prelude.{Some, None}
 use Rattle.ason_base.specs.Labels as labels
 use Rattle.ason_base.specs.Network.{Network}
@@ -10,7 +10,7 @@ use Rattle.mesh_rules.specs.Events.{after}
 use Rattle.mesh_rules.specs.Machine.{start}
 use Rattle.lsp_laws.specs.HopLaw.{HasShape}
 use Rattle.lsp_laws.specs.HopShapes as row
-use Rattle.mesh_examples.proofs.Scene.{all_enabled, among, desk, fails_link, joins, learns, leg, lsp, node, over, releases, Seen, seen, sets_up, spec, takes, takes_each}
+use Rattle.mesh_examples.proofs.Scene.{among, desk, fails_link, joins, learns, leg, lsp, node, over, Reaches, releases, Seen, sets_up, spec, takes, takes_each}
 
 abbrev pub network : Network
 network = record {
@@ -59,13 +59,9 @@ as_reached = record {
   mail = (0, 0) ∷ (0, 0) ∷ (0, 0) ∷ (0, 0) ∷ (0, 0) ∷ (0, 0) ∷ (2, 0) ∷ (1, 0) ∷ (0, 0) ∷ [];
 }
 
-enabled : all_enabled network start events ≡ true
+reaches : Reaches network events as_reached
 unfolding labels.numbers_from
-enabled = refl
-
-reached : seen network (after network start events) ≡ as_reached
-unfolding labels.numbers_from
-reached = refl
+reaches = record { enabled = refl; reached = refl }
 
 in_row : HasShape (after network start events) Back (lsp 3 1 2) (node 3) (node 4)
 unfolding labels.numbers_from

@@ -1,6 +1,6 @@
 -- A run after which a backup is torn whose activation was refused: its call is released before the refusal is taken, so
 -- the Armed leg falls, and the refusal finds no leg any more that waits for an answer.
-use Rattle.std.proofs.Common.{◌≡◌, true, List, [], ◌∷◌, ◌++◌, refl}
+use Rattle.std.proofs.Common.{List, [], ◌∷◌, ◌++◌, refl}
 use Rattle.std.specs.Prelude.{Some, None}
 use Rattle.ason_base.specs.Labels as labels
 use Rattle.ason_base.specs.declared.calls.CallState.TheVariants.{Turning}
@@ -13,7 +13,7 @@ use Rattle.mesh_rules.specs.Machine.{start}
 use Rattle.lsp_laws.specs.HopLaw.{HasShape}
 use Rattle.lsp_laws.specs.HopShapes as row
 use Rattle.mesh_examples.proofs.Contended as contended
-use Rattle.mesh_examples.proofs.Scene.{all_enabled, alone, among, desk, leg, lsp, node, releases, reported, Seen, seen}
+use Rattle.mesh_examples.proofs.Scene.{alone, among, desk, leg, lsp, node, Reaches, releases, reported, Seen}
 use Rattle.mesh_examples.proofs.SharedLabel.{network}
 
 -- on the desk of node 3 the alarm of link 2 comes first
@@ -37,13 +37,9 @@ as_reached = record {
   mail = (0, 0) ∷ (1, 0) ∷ (0, 0) ∷ (0, 0) ∷ (1, 0) ∷ (1, 1) ∷ (0, 0) ∷ [];
 }
 
-enabled : all_enabled network start events ≡ true
+reaches : Reaches network events as_reached
 unfolding labels.numbers_from
-enabled = refl
-
-reached : seen network (after network start events) ≡ as_reached
-unfolding labels.numbers_from
-reached = refl
+reaches = record { enabled = refl; reached = refl }
 
 in_row : HasShape (after network start events) Back (lsp 3 1 2) (node 3) (node 5)
 unfolding labels.numbers_from

@@ -1,5 +1,5 @@
 -- A run after which a backup is torn that is activated again.
-use Rattle.std.proofs.Common.{◌≡◌, true, List, [], ◌∷◌, ◌++◌, refl}
+use Rattle.std.proofs.Common.{List, [], ◌∷◌, ◌++◌, refl}
 use Rattle.std.specs.Prelude.{Some, None}
 use Rattle.ason_base.specs.Labels as labels
 use Rattle.ason_base.specs.Network.{Network}
@@ -11,7 +11,7 @@ use Rattle.mesh_rules.specs.Machine.{start}
 use Rattle.lsp_laws.specs.HopLaw.{HasShape}
 use Rattle.lsp_laws.specs.HopShapes as row
 use Rattle.mesh_examples.proofs.Reactivating as reactivating
-use Rattle.mesh_examples.proofs.Scene.{all_enabled, among, desk, leg, lsp, node, releases, Seen, seen}
+use Rattle.mesh_examples.proofs.Scene.{among, desk, leg, lsp, node, Reaches, releases, Seen}
 
 abbrev network : Network
 network = reactivating.network
@@ -39,13 +39,9 @@ as_reached = record reactivating.as_reached {
   mail = (0, 0) ∷ (0, 0) ∷ (0, 0) ∷ (0, 0) ∷ (0, 0) ∷ (1, 0) ∷ (3, 0) ∷ (0, 0) ∷ (0, 0) ∷ [];
 }
 
-enabled : all_enabled network start events ≡ true
+reaches : Reaches network events as_reached
 unfolding labels.numbers_from
-enabled = refl
-
-reached : seen network (after network start events) ≡ as_reached
-unfolding labels.numbers_from
-reached = refl
+reaches = record { enabled = refl; reached = refl }
 
 in_row : HasShape (after network start events) Back (lsp 3 1 2) (node 3) (node 5)
 unfolding labels.numbers_from

@@ -1,12 +1,10 @@
 -- A run after which a call turns as soon as its backup is reserved: its working route is hit.
-use Rattle.std.proofs.Common.{◌≡◌, true, List, [], ◌∷◌, ◌++◌, refl}
+use Rattle.std.proofs.Common.{List, [], ◌∷◌, ◌++◌, refl}
 use Rattle.ason_base.specs.Labels as labels
 use Rattle.ason_base.specs.Network.{Network}
 use Rattle.mesh_rules.specs.declared.events.MeshEvent.{MeshEvent}
-use Rattle.mesh_rules.specs.Events.{after}
-use Rattle.mesh_rules.specs.Machine.{start}
 use Rattle.mesh_examples.proofs.Activating as activating
-use Rattle.mesh_examples.proofs.Scene.{all_enabled, desk, fails_link, learns, over, Seen, seen, sets_up, takes_each}
+use Rattle.mesh_examples.proofs.Scene.{desk, fails_link, learns, over, Reaches, Seen, sets_up, takes_each}
 
 abbrev network : Network
 network = activating.network
@@ -31,10 +29,6 @@ as_reached = record activating.as_reached {
   known = 7 ∷ 7 ∷ 7 ∷ 0 ∷ 7 ∷ 7 ∷ [];
 }
 
-enabled : all_enabled network start events ≡ true
+reaches : Reaches network events as_reached
 unfolding labels.numbers_from
-enabled = refl
-
-reached : seen network (after network start events) ≡ as_reached
-unfolding labels.numbers_from
-reached = refl
+reaches = record { enabled = refl; reached = refl }

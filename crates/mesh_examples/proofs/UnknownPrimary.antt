@@ -1,6 +1,6 @@
 -- Node 6 doesn't know a link of a backup's primary, so it refuses the Path, and the call is bare. An order to protect a
 -- call whose backup is asked for changes nothing.
-use Rattle.std.proofs.Common.{◌≡◌, true, List, [], ◌∷◌, ◌++◌, refl}
+use Rattle.std.proofs.Common.{List, [], ◌∷◌, ◌++◌, refl}
 use Rattle.std.specs.Prelude.{Some, None}
 use Rattle.ason_base.specs.Codes.{primary_code}
 use Rattle.ason_base.specs.Labels as labels
@@ -9,10 +9,8 @@ use Rattle.ason_base.specs.declared.calls.CallState.TheVariants.{Bare, Guarded}
 use Rattle.ason_base.specs.declared.calls.Cause.TheVariants.{Code, Unset}
 use Rattle.ason_base.specs.declared.calls.Phase.TheVariants.{Held, Live}
 use Rattle.mesh_rules.specs.declared.events.MeshEvent.{MeshEvent}
-use Rattle.mesh_rules.specs.Events.{after}
-use Rattle.mesh_rules.specs.Machine.{start}
 use Rattle.mesh_examples.proofs.SharedLabel as shared_label
-use Rattle.mesh_examples.proofs.Scene.{all_enabled, among, called, desk, learns, leg, over, protects, Seen, seen, sets_up, takes_each}
+use Rattle.mesh_examples.proofs.Scene.{among, called, desk, learns, leg, over, protects, Reaches, Seen, sets_up, takes_each}
 
 abbrev network : Network
 network = shared_label.network
@@ -50,10 +48,6 @@ as_reached = record shared_label.as_reached {
   known = 2 ∷ 2 ∷ 2 ∷ 2 ∷ 5 ∷ 4 ∷ [];
 }
 
-enabled : all_enabled network start events ≡ true
+reaches : Reaches network events as_reached
 unfolding labels.numbers_from
-enabled = refl
-
-reached : seen network (after network start events) ≡ as_reached
-unfolding labels.numbers_from
-reached = refl
+reaches = record { enabled = refl; reached = refl }
