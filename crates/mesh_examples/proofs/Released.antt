@@ -16,7 +16,7 @@ use Rattle.mesh_rules.specs.Events.{after}
 use Rattle.mesh_rules.specs.Machine.{Mesh, start}
 use Rattle.lsp_laws.specs.HopLaw.{HasShape}
 use Rattle.lsp_laws.specs.HopShapes as row
-use Rattle.mesh_examples.proofs.Scene.{Seen, all_enabled, desk, joins, learns, lsp, node, over, releases, seen, sets_up, spec, takes}
+use Rattle.mesh_examples.proofs.Scene.{all_enabled, among, desk, joins, learns, lsp, node, over, releases, Seen, seen, sets_up, spec, takes}
 
 abbrev square : Network
 square = record {
@@ -81,8 +81,8 @@ gone =
 -- four nodes and four links
 abbrev nothing_left : List ℕ → Seen
 nothing_left known = record {
-  legs = [] ∷ [] ∷ [] ∷ [] ∷ [];
-  calls = [] ∷ [] ∷ [] ∷ [] ∷ [];
+  legs = among 4 [];
+  calls = among 4 [];
   known = known;
   down = 0 ∷ 0 ∷ 0 ∷ 0 ∷ [];
   mail = (0, 0) ∷ (0, 0) ∷ (0, 0) ∷ (0, 0) ∷ [];

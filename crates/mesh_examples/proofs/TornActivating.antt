@@ -46,14 +46,7 @@ as_reached = record {
         ∷ (4, leg 3 2 Held (Some 1) (Some 1) 1 1 1 ∷ [])
         ∷ (5, leg 3 1 Live (Some 1) None 2 0 0 ∷ leg 3 2 Held (Some 1) None 1 0 0 ∷ [])
         ∷ []);
-  calls =
-      []
-      ∷ []
-      ∷ []
-      ∷ []
-      ∷ []
-      ∷ []
-      ∷ [];
+  calls = among 6 [];
   known = 4 ∷ 3 ∷ 3 ∷ 4 ∷ 4 ∷ 2 ∷ [];
   down = 0 ∷ 0 ∷ 0 ∷ 0 ∷ 1 ∷ 0 ∷ [];
   mail = (0, 0) ∷ (0, 0) ∷ (0, 0) ∷ (0, 0) ∷ (0, 0) ∷ (0, 0) ∷ (2, 0) ∷ (1, 0) ∷ (0, 0) ∷ [];

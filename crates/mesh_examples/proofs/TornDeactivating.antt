@@ -52,14 +52,7 @@ as_reached = record {
         ∷ (4, leg 3 2 Live (Some 1) (Some 1) 1 1 0 ∷ [])
         ∷ (5, leg 3 1 Live (Some 1) None 3 0 0 ∷ leg 3 2 Live (Some 1) None 1 0 0 ∷ [])
         ∷ []);
-  calls =
-      []
-      ∷ []
-      ∷ []
-      ∷ []
-      ∷ []
-      ∷ []
-      ∷ [];
+  calls = among 6 [];
   known = 4 ∷ 3 ∷ 2 ∷ 4 ∷ 3 ∷ 0 ∷ [];
   down = 0 ∷ 0 ∷ 0 ∷ 1 ∷ 0 ∷ 0 ∷ [];
   mail = (0, 0) ∷ (0, 2) ∷ (0, 0) ∷ (0, 0) ∷ (0, 0) ∷ (1, 0) ∷ (0, 0) ∷ [];

@@ -38,14 +38,7 @@ as_reached = record {
         ∷ (2, leg 1 1 Live (Some 1) None 1 0 0 ∷ [])
         ∷ (4, leg 1 2 Asked None None 1 1 1 ∷ [])
         ∷ []);
-  calls =
-      []
-      ∷ []
-      ∷ []
-      ∷ []
-      ∷ []
-      ∷ []
-      ∷ [];
+  calls = among 6 [];
   known = 2 ∷ 3 ∷ 2 ∷ 3 ∷ 2 ∷ 3 ∷ [];
   down = 0 ∷ 0 ∷ 0 ∷ 0 ∷ 0 ∷ 0 ∷ [];
   mail = (1, 0) ∷ (1, 0) ∷ (0, 0) ∷ (0, 0) ∷ (0, 0) ∷ (0, 0) ∷ (1, 0) ∷ [];

@@ -28,14 +28,7 @@ as_reached = record reactivating.as_reached {
         ∷ (5, leg 3 2 Live (Some 1) (Some 1) 2 2 1 ∷ [])
         ∷ (6, leg 3 2 Live (Some 1) (Some 1) 1 1 0 ∷ [])
         ∷ []);
-  calls =
-      []
-      ∷ []
-      ∷ []
-      ∷ []
-      ∷ []
-      ∷ []
-      ∷ [];
+  calls = among 6 [];
   mail = (0, 0) ∷ (0, 0) ∷ (0, 0) ∷ (0, 0) ∷ (0, 0) ∷ (1, 0) ∷ (3, 0) ∷ (0, 0) ∷ (0, 0) ∷ [];
 }
 
