@@ -7,7 +7,7 @@ use Rattle.std.proofs.lemmas.Option.{get_or_from_slice_get, slice_get-get_or, sl
 use Rattle.ason_base.specs.declared.ids.NodeId.{NodeId}
 use Rattle.route_least.specs.declared.places.Arc.{Arc}
 use Rattle.route_least.specs.declared.places.Place.{Place}
-use Rattle.route_least.specs.Network.{AreOnce, HasArc, HasGained, HasNode, HasSeated}
+use Rattle.route_least.specs.Network.{AreOnce, AreSound, HasArc, HasGained, HasNode, HasSeated, IsWithin}
 
 pub some_same : {X : Type 0} {x y : X} → Some x ≡ Some y → x ≡ y
 some_same e = cc
@@ -188,6 +188,13 @@ read_arc places p d arcs i e same within below =
 -- what a loop over arcs reads past their end
 abbrev pub no_arc : Arc
 no_arc = record { row = 0; head = 0; link = record { 0 = 0 }; metric = 0 }
+
+-- an arc that a loop reads leads within the places and rows
+pub arc_read : {rows : ℕ} {places : List Place} (p : ℕ) (d : Place) {arcs : List Arc} (i : ℕ) → AreSound rows places →
+    arcs ≡ (get_or places p d).arcs.items → p < length places → i < length arcs →
+    IsWithin (length places) rows (get_or arcs i no_arc)
+arc_read {rows} {places} p d {arcs} i sound same within below =
+    sound.within p (get_or arcs i no_arc) (read_arc places p d arcs i no_arc same within below)
 
 pub empty_list : {X : Type 0} (xs : List X) → length xs ≡ 0 → xs ≡ []
 empty_list [] e = refl

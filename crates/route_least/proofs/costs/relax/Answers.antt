@@ -1,7 +1,7 @@
 use Rattle.std.proofs.Common.{◌≡◌, ◌∙◌, ◌+◌, ◌<◌, ◌≤◌, get_or, length, sym, subst, take, take_all, true}
 use Rattle.route_least.specs.Network.{IsWithin}
 use Rattle.route_least.proofs.Lowered.{small}
-use Rattle.route_least.proofs.PlaceLists.{no_arc, read_arc}
+use Rattle.route_least.proofs.PlaceLists.{arc_read, no_arc, read_arc}
 use Rattle.route_least.proofs.Relaxed.{IsRelaxing, all_relaxed, relaxed, relaxed_none, relaxing}
 use Rattle.route_least.proofs.costs.relax.Goals as goal
 use Rattle.route_least.proofs.costs.relax.Goals.{then-lower, else-lower}
@@ -12,13 +12,11 @@ loop-arc-init c = relaxing c.args.places.now c.args.closed.now c.args.banned.now
 
 pub lower-requires-clause-arc : goal.lower-requires-clause-arc
 lower-requires-clause-arc c =
-    let places = c.args.places.now in
-    let arcs = c.deref-arc-items.result.now in
-    let same : length c.loop-arc.costs ≡ length places = c.loop-arc.auto.costs ∙ c.requires.costs in
-    let there = read_arc places c.args.place c.index-places-place.result arcs c.loop-arc.arc-index no_arc
-    c.deref-arc-items.ensures.value c.requires.place c.loop-arc-test.true in
-    let arc = get_or arcs c.loop-arc.arc-index no_arc in
-    subst (λ n. IsWithin n (length c.args.closed.now) arc) (sym same) (c.requires.sound.within c.args.place arc there)
+    let same : length c.loop-arc.costs ≡ length c.args.places.now = c.loop-arc.auto.costs ∙ c.requires.costs in
+    subst (λ n. IsWithin n (length c.args.closed.now) (get_or c.deref-arc-items.result.now c.loop-arc.arc-index no_arc))
+    (sym same)
+    (arc_read c.args.place c.index-places-place.result c.loop-arc.arc-index c.requires.sound
+    c.deref-arc-items.ensures.value c.requires.place c.loop-arc-test.true)
 
 pub lower-requires-clause-small : goal.lower-requires-clause-small
 lower-requires-clause-small c =
@@ -27,13 +25,10 @@ lower-requires-clause-small c =
 
 pub bounds-lowered-arc : goal.bounds-lowered-arc
 bounds-lowered-arc c =
-    let places = c.args.places.now in
-    let arcs = c.deref-arc-items.result.now in
-    let same : length c.loop-arc.lowered ≡ length places = c.loop-arc.auto.lowered ∙ c.requires.lowered in
-    let there = read_arc places c.args.place c.index-places-place.result arcs c.loop-arc.arc-index no_arc
-    c.deref-arc-items.ensures.value c.requires.place c.loop-arc-test.true in
-    let arc = get_or arcs c.loop-arc.arc-index no_arc in
-    subst (λ n. arc.head < n) (sym same) (c.requires.sound.within c.args.place arc there).head
+    subst (λ n. (get_or c.deref-arc-items.result.now c.loop-arc.arc-index no_arc).head < n)
+    (sym (c.loop-arc.auto.lowered ∙ c.requires.lowered))
+    (arc_read c.args.place c.index-places-place.result c.loop-arc.arc-index c.requires.sound
+    c.deref-arc-items.ensures.value c.requires.place c.loop-arc-test.true).head
 
 pub loop-arc-preserved : goal.loop-arc-preserved
 loop-arc-preserved c =

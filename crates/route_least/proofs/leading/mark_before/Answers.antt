@@ -1,7 +1,7 @@
-use Rattle.std.proofs.Common.{◌≡◌, ◌∙◌, ◌+◌, ◌<◌, ◌≤◌, get_or, length, ap, set, sym, subst, take, take_all, true, arith}
+use Rattle.std.proofs.Common.{◌≡◌, ◌∙◌, ◌+◌, ◌<◌, get_or, length, ap, set, sym, subst, take, take_all, true, arith}
 use Rattle.route_least.specs.Network.{IsWithin}
 use Rattle.route_least.proofs.Marked.{IsMarkingBefore, all_before, marked_more, marked_same_more, marking_none}
-use Rattle.route_least.proofs.PlaceLists.{no_arc, read_arc}
+use Rattle.route_least.proofs.PlaceLists.{arc_read, no_arc, read_arc}
 use Rattle.route_least.proofs.leading.mark_before.Goals as goal
 use Rattle.route_least.proofs.leading.mark_before.Goals.{then-comes_by+then-not-marks-arc+in_ok-push, else-comes_by, else-comes_by-via-then-comes_by+else-not-marks-arc, else-comes_by-via-else-comes_by}
 
@@ -11,25 +11,21 @@ loop-arc-init c = marking_none c.args.places.now c.args.closed.now c.args.costs.
 
 pub comes_by-requires-clause-row : goal.comes_by-requires-clause-row
 comes_by-requires-clause-row c =
-    let arc = get_or c.deref-arc-items.result.now c.loop-arc.arc-index no_arc in
-    let there = read_arc c.args.places.now c.args.place c.index-places-place.result c.deref-arc-items.result.now
-    c.loop-arc.arc-index no_arc c.deref-arc-items.ensures.value c.requires.place c.loop-arc-test.true in
-    (c.requires.sound.within c.args.place arc there).row
+    (arc_read c.args.place c.index-places-place.result c.loop-arc.arc-index c.requires.sound
+    c.deref-arc-items.ensures.value c.requires.place c.loop-arc-test.true).row
 
 pub comes_by-requires-clause-head : goal.comes_by-requires-clause-head
 comes_by-requires-clause-head c =
-    let arc = get_or c.deref-arc-items.result.now c.loop-arc.arc-index no_arc in
-    let there = read_arc c.args.places.now c.args.place c.index-places-place.result c.deref-arc-items.result.now
-    c.loop-arc.arc-index no_arc c.deref-arc-items.ensures.value c.requires.place c.loop-arc-test.true in
-    subst (λ n. arc.head < n) (sym c.requires.costs) (c.requires.sound.within c.args.place arc there).head
+    subst (λ n. (get_or c.deref-arc-items.result.now c.loop-arc.arc-index no_arc).head < n) (sym c.requires.costs)
+    (arc_read c.args.place c.index-places-place.result c.loop-arc.arc-index c.requires.sound
+    c.deref-arc-items.ensures.value c.requires.place c.loop-arc-test.true).head
 
 pub comes_by-requires-clause-metric : goal.comes_by-requires-clause-metric
 comes_by-requires-clause-metric c =
-    let arc = get_or c.deref-arc-items.result.now c.loop-arc.arc-index no_arc in
-    let there = read_arc c.args.places.now c.args.place c.index-places-place.result c.deref-arc-items.result.now
-    c.loop-arc.arc-index no_arc c.deref-arc-items.ensures.value c.requires.place c.loop-arc-test.true in
-    let h : arc.metric ≤ 65535 = (c.requires.sound.within c.args.place arc there).metric in
-    omega arith
+    let h =
+    (arc_read c.args.place c.index-places-place.result c.loop-arc.arc-index c.requires.sound
+    c.deref-arc-items.ensures.value c.requires.place c.loop-arc-test.true).metric in
+    omega (arith, h)
 
 pub loop-arc-preserved : goal.loop-arc-preserved
 loop-arc-preserved c =

@@ -1,6 +1,6 @@
-use Rattle.std.proofs.Common.{◌∙◌, ◌+◌, ◌<◌, ◌≤◌, get_or, sym, subst, take, take_all, arith}
+use Rattle.std.proofs.Common.{◌∙◌, ◌+◌, ◌<◌, get_or, sym, subst, take, take_all, arith}
 use Rattle.route_least.proofs.BestArc.{IsBestOf, best_of_all, better_at, no_better_at, none_best}
-use Rattle.route_least.proofs.PlaceLists.{no_arc, read_arc}
+use Rattle.route_least.proofs.PlaceLists.{arc_read, no_arc}
 use Rattle.route_least.proofs.trace.best_arc.Goals as goal
 use Rattle.route_least.proofs.trace.best_arc.Goals.{then-leads_on+then-is_less, else-leads_on, else-leads_on-via-then-leads_on+else-is_less, else-leads_on-via-else-leads_on}
 
@@ -9,25 +9,21 @@ loop-arc-init c = none_best c.args.closed.now c.args.costs.now c.args.marks.now 
 
 pub leads_on-requires-clause-row : goal.leads_on-requires-clause-row
 leads_on-requires-clause-row c =
-    let arc = get_or c.deref-arc-items.result.now c.loop-arc.arc-index no_arc in
-    let there = read_arc c.args.places.now c.args.place c.index-places-place.result c.deref-arc-items.result.now
-    c.loop-arc.arc-index no_arc c.deref-arc-items.ensures.value c.requires.place c.loop-arc-test.true in
-    (c.requires.sound.within c.args.place arc there).row
+    (arc_read c.args.place c.index-places-place.result c.loop-arc.arc-index c.requires.sound
+    c.deref-arc-items.ensures.value c.requires.place c.loop-arc-test.true).row
 
 pub leads_on-requires-clause-head : goal.leads_on-requires-clause-head
 leads_on-requires-clause-head c =
-    let arc = get_or c.deref-arc-items.result.now c.loop-arc.arc-index no_arc in
-    let there = read_arc c.args.places.now c.args.place c.index-places-place.result c.deref-arc-items.result.now
-    c.loop-arc.arc-index no_arc c.deref-arc-items.ensures.value c.requires.place c.loop-arc-test.true in
-    subst (λ n. arc.head < n) (sym c.requires.costs) (c.requires.sound.within c.args.place arc there).head
+    subst (λ n. (get_or c.deref-arc-items.result.now c.loop-arc.arc-index no_arc).head < n) (sym c.requires.costs)
+    (arc_read c.args.place c.index-places-place.result c.loop-arc.arc-index c.requires.sound
+    c.deref-arc-items.ensures.value c.requires.place c.loop-arc-test.true).head
 
 pub leads_on-requires-clause-metric : goal.leads_on-requires-clause-metric
 leads_on-requires-clause-metric c =
-    let arc = get_or c.deref-arc-items.result.now c.loop-arc.arc-index no_arc in
-    let there = read_arc c.args.places.now c.args.place c.index-places-place.result c.deref-arc-items.result.now
-    c.loop-arc.arc-index no_arc c.deref-arc-items.ensures.value c.requires.place c.loop-arc-test.true in
-    let h : arc.metric ≤ 65535 = (c.requires.sound.within c.args.place arc there).metric in
-    omega arith
+    let h =
+    (arc_read c.args.place c.index-places-place.result c.loop-arc.arc-index c.requires.sound
+    c.deref-arc-items.ensures.value c.requires.place c.loop-arc-test.true).metric in
+    omega (arith, h)
 
 pub loop-arc-preserved : goal.loop-arc-preserved
 loop-arc-preserved c =
