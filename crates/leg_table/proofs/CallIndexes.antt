@@ -52,7 +52,8 @@ pub entry-found : (of : CallRec → Option Lsp) (n : CallNo) {calls read : List 
     {found : Option CallRec} {entry : Option LspOfCall} → IsIndexOf of calls es → found ≡ find_call n read →
     read ≡ calls → entry ≡ entry_of of found → IsEntryOf n es entry
 entry-found of n {calls} {read} {es} index is first made =
-    subst (IsEntryOf n es) (sym (made ∙ ap (entry_of of) (is ∙ ap (find_call n) first))) (entry-stands of n calls es index)
+    subst (IsEntryOf n es) (sym (made ∙ ap (entry_of of) (is ∙ ap (find_call n) first)))
+    (entry-stands of n calls es index)
 
 pub entry-just : (of : CallRec → Option Lsp) (n : CallNo) {calls read : List CallRec} {es : List LspOfCall}
     {found : Option CallRec} {entry : Option LspOfCall} → IsIndexOf of calls es → found ≡ find_call n read →

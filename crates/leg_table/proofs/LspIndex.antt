@@ -56,8 +56,10 @@ before-other l x h =
         (p || (s && nat_lt x.call.0 0)) ≡ true → s ≡ false
     go p false e f less = refl
     go true true e f less =
-        absurd (cc (subst (λ m. is_earlier m (Some l) ≡ true) (option_order.one x.lsp (Some l) f) e,
-        option_order.never (Some l)))
+        absurd (cc (
+          subst (λ m. is_earlier m (Some l) ≡ true) (option_order.one x.lsp (Some l) f) e,
+          option_order.never (Some l),
+        ))
     go false true e f less = absurd (cc (less, never x.call.0))
 
 number-after : (l : Lsp) (x y : LspOfCall) → is_same x.lsp (Some l) ≡ true → is_before x y ≡ true →

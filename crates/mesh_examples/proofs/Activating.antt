@@ -38,11 +38,11 @@ events =
 abbrev pub as_reached : Seen
 as_reached = record {
   legs = among 6 (
-        (1, leg 1 1 Live None (Some 1) 0 1 1 ∷ leg 1 2 Armed None (Some 1) 0 3 1 ∷ [])
-        ∷ (2, leg 1 1 Live (Some 1) None 1 0 0 ∷ leg 1 2 Held (Some 1) None 1 0 0 ∷ [])
-        ∷ (5, leg 1 2 Held (Some 1) (Some 1) 3 3 0 ∷ [])
-        ∷ (6, leg 1 1 Live (Some 1) (Some 1) 1 1 0 ∷ [])
-        ∷ []);
+      (1, leg 1 1 Live None (Some 1) 0 1 1 ∷ leg 1 2 Armed None (Some 1) 0 3 1 ∷ [])
+      ∷ (2, leg 1 1 Live (Some 1) None 1 0 0 ∷ leg 1 2 Held (Some 1) None 1 0 0 ∷ [])
+      ∷ (5, leg 1 2 Held (Some 1) (Some 1) 3 3 0 ∷ [])
+      ∷ (6, leg 1 1 Live (Some 1) (Some 1) 1 1 0 ∷ [])
+      ∷ []);
   calls = alone 6 1 (reported 1 Turning Unset 1 0 ∷ []);
   known = 4 ∷ 4 ∷ 1 ∷ 0 ∷ 5 ∷ 4 ∷ [];
   down = 0 ∷ 0 ∷ 0 ∷ 0 ∷ 0 ∷ 1 ∷ [];

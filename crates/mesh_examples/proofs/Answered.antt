@@ -32,9 +32,9 @@ events =
 abbrev pub as_reached : Seen
 as_reached = record {
   legs = among 6 (
-        (4, leg 4 1 Asked None None 0 1 0 ∷ [])
-        ∷ (5, leg 4 1 Live (Some 1) None 1 0 0 ∷ [])
-        ∷ []);
+      (4, leg 4 1 Asked None None 0 1 0 ∷ [])
+      ∷ (5, leg 4 1 Live (Some 1) None 1 0 0 ∷ [])
+      ∷ []);
   calls = alone 6 4 (called 1 Asking Unset ∷ []);
   known = 3 ∷ 2 ∷ 4 ∷ 2 ∷ 3 ∷ 0 ∷ [];
   down = 0 ∷ 0 ∷ 0 ∷ 0 ∷ 0 ∷ 0 ∷ [];

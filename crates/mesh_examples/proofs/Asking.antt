@@ -24,9 +24,9 @@ events = answered.events ++ takes 4 5 ∷ []
 abbrev as_reached : Seen
 as_reached = record answered.as_reached {
   legs = among 6 (
-        (4, leg 4 1 Live None (Some 1) 0 1 0 ∷ leg 4 2 Asked None None 0 1 3 ∷ [])
-        ∷ (5, leg 4 1 Live (Some 1) None 1 0 0 ∷ [])
-        ∷ []);
+      (4, leg 4 1 Live None (Some 1) 0 1 0 ∷ leg 4 2 Asked None None 0 1 3 ∷ [])
+      ∷ (5, leg 4 1 Live (Some 1) None 1 0 0 ∷ [])
+      ∷ []);
   calls = alone 6 4 (called 1 Pairing Unset ∷ []);
   mail = (0, 0) ∷ (0, 0) ∷ (0, 0) ∷ (0, 0) ∷ (0, 1) ∷ (0, 0) ∷ (0, 0) ∷ [];
 }

@@ -62,15 +62,15 @@ events =
 abbrev as_reached : Seen
 as_reached = record {
   legs = among 6 (
-        (1, leg 1 1 Live None (Some 1) 0 2 0 ∷ leg 1 2 Held None (Some 1) 0 3 2 ∷ [])
-        ∷ (4, leg 1 2 Held (Some 1) (Some 1) 3 3 1 ∷ [])
-        ∷ (5, leg 1 1 Live (Some 1) None 2 0 0 ∷ leg 1 2 Held (Some 1) None 1 0 0 ∷ [])
-        ∷ (6, leg 1 2 Held (Some 1) (Some 1) 1 1 0 ∷ [])
-        ∷ []);
+      (1, leg 1 1 Live None (Some 1) 0 2 0 ∷ leg 1 2 Held None (Some 1) 0 3 2 ∷ [])
+      ∷ (4, leg 1 2 Held (Some 1) (Some 1) 3 3 1 ∷ [])
+      ∷ (5, leg 1 1 Live (Some 1) None 2 0 0 ∷ leg 1 2 Held (Some 1) None 1 0 0 ∷ [])
+      ∷ (6, leg 1 2 Held (Some 1) (Some 1) 1 1 0 ∷ [])
+      ∷ []);
   calls = among 6 (
-        (1, reported 1 Guarded Unset 0 1 ∷ [])
-        ∷ (2, called 2 Blocked (Code set_code) ∷ [])
-        ∷ []);
+      (1, reported 1 Guarded Unset 0 1 ∷ [])
+      ∷ (2, called 2 Blocked (Code set_code) ∷ [])
+      ∷ []);
   known = 7 ∷ 7 ∷ 7 ∷ 7 ∷ 7 ∷ 7 ∷ [];
   down = 1 ∷ 0 ∷ 0 ∷ 1 ∷ 0 ∷ 0 ∷ [];
   mail = (0, 0) ∷ (0, 0) ∷ (0, 0) ∷ (0, 0) ∷ (0, 0) ∷ (0, 0) ∷ (0, 0) ∷ [];

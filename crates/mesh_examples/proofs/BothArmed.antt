@@ -22,11 +22,11 @@ events = activating.events ++ takes 5 1 ∷ []
 abbrev pub as_reached : Seen
 as_reached = record activating.as_reached {
   legs = among 6 (
-        (1, leg 1 1 Live None (Some 1) 0 1 1 ∷ leg 1 2 Armed None (Some 1) 0 3 1 ∷ [])
-        ∷ (2, leg 1 1 Live (Some 1) None 1 0 0 ∷ leg 1 2 Held (Some 1) None 1 0 0 ∷ [])
-        ∷ (5, leg 1 2 Armed (Some 1) (Some 1) 3 3 0 ∷ [])
-        ∷ (6, leg 1 1 Live (Some 1) (Some 1) 1 1 0 ∷ [])
-        ∷ []);
+      (1, leg 1 1 Live None (Some 1) 0 1 1 ∷ leg 1 2 Armed None (Some 1) 0 3 1 ∷ [])
+      ∷ (2, leg 1 1 Live (Some 1) None 1 0 0 ∷ leg 1 2 Held (Some 1) None 1 0 0 ∷ [])
+      ∷ (5, leg 1 2 Armed (Some 1) (Some 1) 3 3 0 ∷ [])
+      ∷ (6, leg 1 1 Live (Some 1) (Some 1) 1 1 0 ∷ [])
+      ∷ []);
   mail = (0, 0) ∷ (0, 0) ∷ (0, 0) ∷ (0, 1) ∷ (0, 0) ∷ (0, 0) ∷ (0, 0) ∷ [];
 }
 

@@ -50,10 +50,10 @@ way_back =
 abbrev turned : Seen
 turned = record {
   legs = among 3 (
-        (1, leg 1 1 Live None (Some 1) 0 1 0 ∷ leg 1 2 Live None (Some 1) 0 1 1 ∷ [])
-        ∷ (2, leg 1 1 Live (Some 1) None 1 0 0 ∷ leg 1 2 Live (Some 1) None 1 0 0 ∷ [])
-        ∷ (3, leg 1 2 Live (Some 1) (Some 1) 1 1 0 ∷ [])
-        ∷ []);
+      (1, leg 1 1 Live None (Some 1) 0 1 0 ∷ leg 1 2 Live None (Some 1) 0 1 1 ∷ [])
+      ∷ (2, leg 1 1 Live (Some 1) None 1 0 0 ∷ leg 1 2 Live (Some 1) None 1 0 0 ∷ [])
+      ∷ (3, leg 1 2 Live (Some 1) (Some 1) 1 1 0 ∷ [])
+      ∷ []);
   calls = (reported 1 Turned Unset 1 0 ∷ []) ∷ [] ∷ [] ∷ [];
   known = 2 ∷ 2 ∷ 3 ∷ [];
   down = 1 ∷ 1 ∷ 0 ∷ [];
@@ -63,10 +63,10 @@ turned = record {
 abbrev back : Seen
 back = record {
   legs = among 3 (
-        (1, leg 1 1 Live None (Some 1) 0 1 0 ∷ leg 1 2 Held None (Some 1) 0 1 1 ∷ [])
-        ∷ (2, leg 1 1 Live (Some 1) None 1 0 0 ∷ leg 1 2 Held (Some 1) None 1 0 0 ∷ [])
-        ∷ (3, leg 1 2 Held (Some 1) (Some 1) 1 1 0 ∷ [])
-        ∷ []);
+      (1, leg 1 1 Live None (Some 1) 0 1 0 ∷ leg 1 2 Held None (Some 1) 0 1 1 ∷ [])
+      ∷ (2, leg 1 1 Live (Some 1) None 1 0 0 ∷ leg 1 2 Held (Some 1) None 1 0 0 ∷ [])
+      ∷ (3, leg 1 2 Held (Some 1) (Some 1) 1 1 0 ∷ [])
+      ∷ []);
   calls = (called 1 Guarded Unset ∷ []) ∷ [] ∷ [] ∷ [];
   known = 2 ∷ 2 ∷ 3 ∷ [];
   down = 0 ∷ 0 ∷ 0 ∷ [];

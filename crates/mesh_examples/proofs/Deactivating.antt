@@ -44,10 +44,10 @@ events =
 abbrev pub as_reached : Seen
 as_reached = record {
   legs = among 6 (
-        (1, leg 1 1 Live None (Some 1) 0 1 1 ∷ leg 1 2 Held None (Some 1) 0 1 0 ∷ [])
-        ∷ (3, leg 1 1 Live (Some 1) (Some 1) 1 1 0 ∷ [])
-        ∷ (6, leg 1 1 Live (Some 1) None 1 0 0 ∷ leg 1 2 Live (Some 1) None 1 0 0 ∷ [])
-        ∷ []);
+      (1, leg 1 1 Live None (Some 1) 0 1 1 ∷ leg 1 2 Held None (Some 1) 0 1 0 ∷ [])
+      ∷ (3, leg 1 1 Live (Some 1) (Some 1) 1 1 0 ∷ [])
+      ∷ (6, leg 1 1 Live (Some 1) None 1 0 0 ∷ leg 1 2 Live (Some 1) None 1 0 0 ∷ [])
+      ∷ []);
   calls = alone 6 1 (reported 1 Guarded Unset 0 1 ∷ []);
   known = 5 ∷ 1 ∷ 2 ∷ 2 ∷ 2 ∷ 4 ∷ [];
   down = 0 ∷ 0 ∷ 0 ∷ 0 ∷ 0 ∷ 1 ∷ [];

@@ -63,15 +63,15 @@ events =
 abbrev as_reached : Seen
 as_reached = record {
   legs = among 6 (
-        (2, leg 3 1 Live (Some 1) None 2 0 0 ∷ [])
-        ∷ (3, leg 3 1 Live None (Some 1) 0 3 1 ∷ [])
-        ∷ (4, leg 4 1 Asked None None 0 3 0 ∷ [])
-        ∷ (6, leg 3 1 Live (Some 1) (Some 1) 3 2 0 ∷ [])
-        ∷ []);
+      (2, leg 3 1 Live (Some 1) None 2 0 0 ∷ [])
+      ∷ (3, leg 3 1 Live None (Some 1) 0 3 1 ∷ [])
+      ∷ (4, leg 4 1 Asked None None 0 3 0 ∷ [])
+      ∷ (6, leg 3 1 Live (Some 1) (Some 1) 3 2 0 ∷ [])
+      ∷ []);
   calls = among 6 (
-        (3, reported 1 Bare Unset 1 0 ∷ [])
-        ∷ (4, called 2 Asking Unset ∷ [])
-        ∷ []);
+      (3, reported 1 Bare Unset 1 0 ∷ [])
+      ∷ (4, called 2 Asking Unset ∷ [])
+      ∷ []);
   known = 10 ∷ 10 ∷ 10 ∷ 10 ∷ 10 ∷ 10 ∷ [];
   down = 1 ∷ 3 ∷ 0 ∷ 2 ∷ 1 ∷ 1 ∷ [];
   mail = (0, 0) ∷ (0, 0) ∷ (0, 0) ∷ (0, 0) ∷ (0, 0) ∷ (0, 1) ∷ (0, 0) ∷ (0, 0) ∷ (0, 0) ∷ (0, 0) ∷ [];

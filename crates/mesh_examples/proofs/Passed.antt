@@ -28,10 +28,10 @@ events =
 abbrev as_reached : Seen
 as_reached = record {
   legs = among 6 (
-        (3, leg 4 2 Asked None None 1 1 2 ∷ [])
-        ∷ (4, leg 4 1 Live None (Some 1) 0 1 0 ∷ leg 4 2 Asked None None 0 1 3 ∷ [])
-        ∷ (5, leg 4 1 Live (Some 1) None 1 0 0 ∷ [])
-        ∷ []);
+      (3, leg 4 2 Asked None None 1 1 2 ∷ [])
+      ∷ (4, leg 4 1 Live None (Some 1) 0 1 0 ∷ leg 4 2 Asked None None 0 1 3 ∷ [])
+      ∷ (5, leg 4 1 Live (Some 1) None 1 0 0 ∷ [])
+      ∷ []);
   calls = alone 6 4 (called 1 Pairing Unset ∷ []);
   known = 3 ∷ 2 ∷ 5 ∷ 2 ∷ 3 ∷ 0 ∷ [];
   down = 0 ∷ 0 ∷ 0 ∷ 0 ∷ 0 ∷ 0 ∷ [];

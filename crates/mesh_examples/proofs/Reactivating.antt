@@ -51,12 +51,12 @@ events =
 abbrev pub as_reached : Seen
 as_reached = record {
   legs = among 6 (
-        (1, leg 3 1 Live (Some 1) None 1 0 0 ∷ leg 3 2 Live (Some 1) None 1 0 0 ∷ [])
-        ∷ (3, leg 3 1 Live None (Some 1) 0 3 1 ∷ leg 3 2 Armed None (Some 1) 0 2 2 ∷ [])
-        ∷ (4, leg 3 1 Live (Some 1) (Some 1) 3 1 0 ∷ [])
-        ∷ (5, leg 3 2 Live (Some 1) (Some 1) 2 2 1 ∷ [])
-        ∷ (6, leg 3 2 Live (Some 1) (Some 1) 1 1 0 ∷ [])
-        ∷ []);
+      (1, leg 3 1 Live (Some 1) None 1 0 0 ∷ leg 3 2 Live (Some 1) None 1 0 0 ∷ [])
+      ∷ (3, leg 3 1 Live None (Some 1) 0 3 1 ∷ leg 3 2 Armed None (Some 1) 0 2 2 ∷ [])
+      ∷ (4, leg 3 1 Live (Some 1) (Some 1) 3 1 0 ∷ [])
+      ∷ (5, leg 3 2 Live (Some 1) (Some 1) 2 2 1 ∷ [])
+      ∷ (6, leg 3 2 Live (Some 1) (Some 1) 1 1 0 ∷ [])
+      ∷ []);
   calls = alone 6 3 (reported 1 Turning Unset 1 0 ∷ []);
   known = 4 ∷ 2 ∷ 5 ∷ 3 ∷ 5 ∷ 5 ∷ [];
   down = 1 ∷ 0 ∷ 0 ∷ 0 ∷ 0 ∷ 0 ∷ [];

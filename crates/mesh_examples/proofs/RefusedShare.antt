@@ -31,7 +31,7 @@ first_try =
     ∷ takes_each ((4, 3) ∷ (3, 4) ∷ [])
     ++ desk 1
     ∷ takes_each ((2, 1) ∷ (1, 2) ∷ (5, 3) ∷ (6, 5) ∷ (4, 6) ∷ (5, 1) ∷ (6, 5) ∷ (2, 6) ∷ (6, 4) ∷ (5, 6)
-        ∷ (6, 2) ∷ (2, 6) ∷ (6, 2) ∷ (5, 6) ∷ (3, 5) ∷ (1, 5) ∷ [])
+    ∷ (6, 2) ∷ (2, 6) ∷ (6, 2) ∷ (5, 6) ∷ (3, 5) ∷ (1, 5) ∷ [])
 
 -- it is to be protected again
 abbrev again : List MeshEvent
@@ -41,17 +41,17 @@ again = first_try ++ protects 1 1 ∷ desk 1 ∷ takes 5 1 ∷ takes 6 5 ∷ tak
 abbrev as_reached : Cause → Seen
 as_reached cause = record {
   legs = among 6 (
-        (1, leg 1 1 Live None (Some 1) 0 1 0 ∷ [])
-        ∷ (2, leg 1 1 Live (Some 1) None 1 0 0 ∷ [])
-        ∷ (3, leg 3 1 Live None (Some 1) 0 1 0 ∷ leg 3 2 Held None (Some 1) 0 2 2 ∷ [])
-        ∷ (4, leg 3 1 Live (Some 1) None 1 0 0 ∷ leg 3 2 Held (Some 1) None 1 0 0 ∷ [])
-        ∷ (5, leg 3 2 Held (Some 1) (Some 1) 2 1 1 ∷ [])
-        ∷ (6, leg 3 2 Held (Some 1) (Some 1) 1 1 0 ∷ [])
-        ∷ []);
+      (1, leg 1 1 Live None (Some 1) 0 1 0 ∷ [])
+      ∷ (2, leg 1 1 Live (Some 1) None 1 0 0 ∷ [])
+      ∷ (3, leg 3 1 Live None (Some 1) 0 1 0 ∷ leg 3 2 Held None (Some 1) 0 2 2 ∷ [])
+      ∷ (4, leg 3 1 Live (Some 1) None 1 0 0 ∷ leg 3 2 Held (Some 1) None 1 0 0 ∷ [])
+      ∷ (5, leg 3 2 Held (Some 1) (Some 1) 2 1 1 ∷ [])
+      ∷ (6, leg 3 2 Held (Some 1) (Some 1) 1 1 0 ∷ [])
+      ∷ []);
   calls = among 6 (
-        (1, called 1 Bare cause ∷ [])
-        ∷ (3, called 2 Guarded Unset ∷ [])
-        ∷ []);
+      (1, called 1 Bare cause ∷ [])
+      ∷ (3, called 2 Guarded Unset ∷ [])
+      ∷ []);
   known = 2 ∷ 2 ∷ 2 ∷ 2 ∷ 5 ∷ 5 ∷ [];
   down = 0 ∷ 0 ∷ 0 ∷ 0 ∷ 0 ∷ 0 ∷ [];
   mail = (0, 0) ∷ (0, 0) ∷ (0, 0) ∷ (0, 0) ∷ (0, 0) ∷ (0, 0) ∷ (0, 0) ∷ [];

@@ -33,10 +33,10 @@ events =
 abbrev pub as_reached : Seen
 as_reached = record {
   legs = among 6 (
-        (3, leg 6 1 Live (Some 1) None 2 0 0 ∷ leg 6 2 Held (Some 1) None 1 0 0 ∷ [])
-        ∷ (4, leg 6 1 Live (Some 1) (Some 1) 1 2 0 ∷ [])
-        ∷ (6, leg 6 1 Live None (Some 1) 0 1 1 ∷ leg 6 2 Asked None None 0 1 0 ∷ [])
-        ∷ []);
+      (3, leg 6 1 Live (Some 1) None 2 0 0 ∷ leg 6 2 Held (Some 1) None 1 0 0 ∷ [])
+      ∷ (4, leg 6 1 Live (Some 1) (Some 1) 1 2 0 ∷ [])
+      ∷ (6, leg 6 1 Live None (Some 1) 0 1 1 ∷ leg 6 2 Asked None None 0 1 0 ∷ [])
+      ∷ []);
   calls = alone 6 6 (called 1 Pairing Unset ∷ []);
   known = 2 ∷ 0 ∷ 4 ∷ 3 ∷ 2 ∷ 5 ∷ [];
   down = 0 ∷ 0 ∷ 0 ∷ 0 ∷ 0 ∷ 0 ∷ [];

@@ -38,10 +38,10 @@ events =
 abbrev as_reached : Seen
 as_reached = record {
   legs = among 3 (
-        (1, leg 1 1 Live None (Some 1) 0 2 0 ∷ leg 1 2 Live None (Some 1) 0 2 1 ∷ [])
-        ∷ (2, leg 1 1 Live (Some 1) None 2 0 0 ∷ leg 1 2 Live (Some 1) None 2 0 0 ∷ [])
-        ∷ (3, leg 1 2 Live (Some 1) (Some 1) 2 2 0 ∷ [])
-        ∷ []);
+      (1, leg 1 1 Live None (Some 1) 0 2 0 ∷ leg 1 2 Live None (Some 1) 0 2 1 ∷ [])
+      ∷ (2, leg 1 1 Live (Some 1) None 2 0 0 ∷ leg 1 2 Live (Some 1) None 2 0 0 ∷ [])
+      ∷ (3, leg 1 2 Live (Some 1) (Some 1) 2 2 0 ∷ [])
+      ∷ []);
   calls = (reported 1 Turned Unset 1 0 ∷ []) ∷ [] ∷ [] ∷ [];
   known = 3 ∷ 3 ∷ 3 ∷ [];
   down = 1 ∷ 1 ∷ 0 ∷ [];

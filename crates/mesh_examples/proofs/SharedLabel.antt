@@ -30,22 +30,22 @@ events =
     ++ sets_up 2 3 4 (over 3 2 ∷ []) (over 3 6 ∷ over 5 5 ∷ over 6 7 ∷ [])
     ∷ desk 3
     ∷ takes_each ((4, 3) ∷ (6, 5) ∷ (3, 4) ∷ (2, 6) ∷ (5, 3) ∷ (6, 2) ∷ (6, 5) ∷ (4, 6) ∷ (5, 6) ∷ (6, 4)
-        ∷ (1, 5) ∷ (5, 6) ∷ (3, 5) ∷ [])
+    ∷ (1, 5) ∷ (5, 6) ∷ (3, 5) ∷ [])
 
 abbrev pub as_reached : Seen
 as_reached = record {
   legs = among 6 (
-        (1, leg 1 1 Live None (Some 1) 0 1 0 ∷ leg 1 2 Held None (Some 1) 0 2 2 ∷ [])
-        ∷ (2, leg 1 1 Live (Some 1) None 1 0 0 ∷ leg 1 2 Held (Some 1) None 1 0 0 ∷ [])
-        ∷ (3, leg 3 1 Live None (Some 1) 0 1 0 ∷ leg 3 2 Held None (Some 1) 0 2 2 ∷ [])
-        ∷ (4, leg 3 1 Live (Some 1) None 1 0 0 ∷ leg 3 2 Held (Some 1) None 1 0 0 ∷ [])
-        ∷ (5, leg 1 2 Held (Some 1) (Some 1) 2 1 1 ∷ leg 3 2 Held (Some 1) (Some 1) 2 1 1 ∷ [])
-        ∷ (6, leg 1 2 Held (Some 1) (Some 1) 1 1 0 ∷ leg 3 2 Held (Some 1) (Some 1) 1 1 0 ∷ [])
-        ∷ []);
+      (1, leg 1 1 Live None (Some 1) 0 1 0 ∷ leg 1 2 Held None (Some 1) 0 2 2 ∷ [])
+      ∷ (2, leg 1 1 Live (Some 1) None 1 0 0 ∷ leg 1 2 Held (Some 1) None 1 0 0 ∷ [])
+      ∷ (3, leg 3 1 Live None (Some 1) 0 1 0 ∷ leg 3 2 Held None (Some 1) 0 2 2 ∷ [])
+      ∷ (4, leg 3 1 Live (Some 1) None 1 0 0 ∷ leg 3 2 Held (Some 1) None 1 0 0 ∷ [])
+      ∷ (5, leg 1 2 Held (Some 1) (Some 1) 2 1 1 ∷ leg 3 2 Held (Some 1) (Some 1) 2 1 1 ∷ [])
+      ∷ (6, leg 1 2 Held (Some 1) (Some 1) 1 1 0 ∷ leg 3 2 Held (Some 1) (Some 1) 1 1 0 ∷ [])
+      ∷ []);
   calls = among 6 (
-        (1, called 1 Guarded Unset ∷ [])
-        ∷ (3, called 2 Guarded Unset ∷ [])
-        ∷ []);
+      (1, called 1 Guarded Unset ∷ [])
+      ∷ (3, called 2 Guarded Unset ∷ [])
+      ∷ []);
   known = 2 ∷ 2 ∷ 2 ∷ 2 ∷ 5 ∷ 5 ∷ [];
   down = 0 ∷ 0 ∷ 0 ∷ 0 ∷ 0 ∷ 0 ∷ [];
   mail = (0, 0) ∷ (0, 0) ∷ (0, 0) ∷ (0, 0) ∷ (0, 0) ∷ (0, 0) ∷ (0, 0) ∷ [];

@@ -24,10 +24,10 @@ events = reserved.events ++ takes 6 3 ∷ []
 abbrev as_reached : Seen
 as_reached = record reserved.as_reached {
   legs = among 6 (
-        (3, leg 6 1 Live (Some 1) None 2 0 0 ∷ leg 6 2 Held (Some 1) None 1 0 0 ∷ [])
-        ∷ (4, leg 6 1 Live (Some 1) (Some 1) 1 2 0 ∷ [])
-        ∷ (6, leg 6 1 Live None (Some 1) 0 1 1 ∷ leg 6 2 Held None (Some 1) 0 1 0 ∷ [])
-        ∷ []);
+      (3, leg 6 1 Live (Some 1) None 2 0 0 ∷ leg 6 2 Held (Some 1) None 1 0 0 ∷ [])
+      ∷ (4, leg 6 1 Live (Some 1) (Some 1) 1 2 0 ∷ [])
+      ∷ (6, leg 6 1 Live None (Some 1) 0 1 1 ∷ leg 6 2 Held None (Some 1) 0 1 0 ∷ [])
+      ∷ []);
   calls = alone 6 6 (called 1 Guarded Unset ∷ []);
   mail = (0, 0) ∷ (0, 0) ∷ (0, 0) ∷ (0, 0) ∷ (0, 0) ∷ (0, 0) ∷ (0, 0) ∷ [];
 }

@@ -53,15 +53,15 @@ events =
 abbrev as_reached : Seen
 as_reached = record {
   legs = among 6 (
-        (1, leg 1 1 Live None (Some 1) 0 1 0 ∷ leg 1 2 Held None (Some 1) 0 1 1 ∷ [])
-        ∷ (2, leg 1 2 Held (Some 1) (Some 1) 1 1 0 ∷ [])
-        ∷ (5, leg 1 1 Live (Some 1) None 1 0 0 ∷ leg 1 2 Held (Some 1) None 1 0 0 ∷ leg 5 1 Asked None None 0 1 0 ∷ [])
-        ∷ (6, leg 5 1 Live (Some 1) None 1 0 0 ∷ [])
-        ∷ []);
+      (1, leg 1 1 Live None (Some 1) 0 1 0 ∷ leg 1 2 Held None (Some 1) 0 1 1 ∷ [])
+      ∷ (2, leg 1 2 Held (Some 1) (Some 1) 1 1 0 ∷ [])
+      ∷ (5, leg 1 1 Live (Some 1) None 1 0 0 ∷ leg 1 2 Held (Some 1) None 1 0 0 ∷ leg 5 1 Asked None None 0 1 0 ∷ [])
+      ∷ (6, leg 5 1 Live (Some 1) None 1 0 0 ∷ [])
+      ∷ []);
   calls = among 6 (
-        (1, reported 1 Stuck BackDown 1 1 ∷ [])
-        ∷ (5, called 2 Asking Unset ∷ [])
-        ∷ []);
+      (1, reported 1 Stuck BackDown 1 1 ∷ [])
+      ∷ (5, called 2 Asking Unset ∷ [])
+      ∷ []);
   known = 8 ∷ 8 ∷ 8 ∷ 8 ∷ 8 ∷ 8 ∷ [];
   down = 2 ∷ 2 ∷ 0 ∷ 0 ∷ 2 ∷ 0 ∷ [];
   mail = (0, 0) ∷ (0, 0) ∷ (0, 0) ∷ (0, 1) ∷ (0, 0) ∷ (0, 0) ∷ (0, 0) ∷ (0, 1) ∷ [];

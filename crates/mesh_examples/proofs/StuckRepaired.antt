@@ -54,15 +54,15 @@ events =
 abbrev as_reached : Seen
 as_reached = record {
   legs = among 6 (
-        (1, leg 6 1 Live (Some 1) None 1 0 0 ∷ leg 6 2 Held (Some 1) None 1 0 0 ∷ [])
-        ∷ (2, leg 6 2 Held (Some 1) (Some 1) 2 1 0 ∷ [])
-        ∷ (3, leg 6 1 Live (Some 1) (Some 1) 1 1 0 ∷ [])
-        ∷ (6, leg 6 1 Live None (Some 1) 0 1 1 ∷ leg 6 2 Held None (Some 1) 0 2 1 ∷ [])
-        ∷ []);
+      (1, leg 6 1 Live (Some 1) None 1 0 0 ∷ leg 6 2 Held (Some 1) None 1 0 0 ∷ [])
+      ∷ (2, leg 6 2 Held (Some 1) (Some 1) 2 1 0 ∷ [])
+      ∷ (3, leg 6 1 Live (Some 1) (Some 1) 1 1 0 ∷ [])
+      ∷ (6, leg 6 1 Live None (Some 1) 0 1 1 ∷ leg 6 2 Held None (Some 1) 0 2 1 ∷ [])
+      ∷ []);
   calls = among 6 (
-        (2, called 2 Blocked (Code down_code) ∷ [])
-        ∷ (6, reported 1 Guarded Unset 0 1 ∷ [])
-        ∷ []);
+      (2, called 2 Blocked (Code down_code) ∷ [])
+      ∷ (6, reported 1 Guarded Unset 0 1 ∷ [])
+      ∷ []);
   known = 9 ∷ 9 ∷ 9 ∷ 9 ∷ 9 ∷ 9 ∷ [];
   down = 0 ∷ 1 ∷ 0 ∷ 0 ∷ 0 ∷ 1 ∷ [];
   mail = (0, 0) ∷ (0, 0) ∷ (0, 0) ∷ (0, 0) ∷ (0, 0) ∷ (0, 0) ∷ (0, 0) ∷ (0, 0) ∷ (0, 0) ∷ [];

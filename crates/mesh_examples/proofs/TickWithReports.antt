@@ -47,11 +47,11 @@ events =
 abbrev as_reached : Seen
 as_reached = record {
   legs = among 6 (
-        (1, leg 2 1 Live (Some 1) (Some 1) 1 1 1 ∷ [])
-        ∷ (2, leg 2 1 Live None (Some 1) 0 1 2 ∷ leg 2 2 Live None (Some 1) 0 1 0 ∷ [])
-        ∷ (4, leg 2 1 Live (Some 1) None 1 0 0 ∷ leg 2 2 Live (Some 1) None 1 0 0 ∷ [])
-        ∷ (6, leg 2 1 Live (Some 1) (Some 1) 1 1 0 ∷ [])
-        ∷ []);
+      (1, leg 2 1 Live (Some 1) (Some 1) 1 1 1 ∷ [])
+      ∷ (2, leg 2 1 Live None (Some 1) 0 1 2 ∷ leg 2 2 Live None (Some 1) 0 1 0 ∷ [])
+      ∷ (4, leg 2 1 Live (Some 1) None 1 0 0 ∷ leg 2 2 Live (Some 1) None 1 0 0 ∷ [])
+      ∷ (6, leg 2 1 Live (Some 1) (Some 1) 1 1 0 ∷ [])
+      ∷ []);
   calls = alone 6 2 (reported 1 Turned Unset 1 0 ∷ []);
   known = 9 ∷ 9 ∷ 9 ∷ 9 ∷ 9 ∷ 9 ∷ [];
   down = 1 ∷ 1 ∷ 0 ∷ 0 ∷ 1 ∷ 0 ∷ [];

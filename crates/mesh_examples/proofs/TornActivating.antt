@@ -41,11 +41,11 @@ events =
 abbrev pub as_reached : Seen
 as_reached = record {
   legs = among 6 (
-        (2, leg 3 2 Held (Some 1) (Some 1) 1 1 0 ∷ [])
-        ∷ (3, leg 3 1 Closing None (Some 1) 0 2 0 ∷ leg 3 2 Falling None (Some 1) 0 1 2 ∷ [])
-        ∷ (4, leg 3 2 Held (Some 1) (Some 1) 1 1 1 ∷ [])
-        ∷ (5, leg 3 1 Live (Some 1) None 2 0 0 ∷ leg 3 2 Held (Some 1) None 1 0 0 ∷ [])
-        ∷ []);
+      (2, leg 3 2 Held (Some 1) (Some 1) 1 1 0 ∷ [])
+      ∷ (3, leg 3 1 Closing None (Some 1) 0 2 0 ∷ leg 3 2 Falling None (Some 1) 0 1 2 ∷ [])
+      ∷ (4, leg 3 2 Held (Some 1) (Some 1) 1 1 1 ∷ [])
+      ∷ (5, leg 3 1 Live (Some 1) None 2 0 0 ∷ leg 3 2 Held (Some 1) None 1 0 0 ∷ [])
+      ∷ []);
   calls = among 6 [];
   known = 4 ∷ 3 ∷ 3 ∷ 4 ∷ 4 ∷ 2 ∷ [];
   down = 0 ∷ 0 ∷ 0 ∷ 0 ∷ 1 ∷ 0 ∷ [];

@@ -47,11 +47,11 @@ events =
 abbrev as_reached : Seen
 as_reached = record {
   legs = among 6 (
-        (1, leg 3 2 Live (Some 1) (Some 1) 1 1 1 ∷ [])
-        ∷ (3, leg 3 1 Closing None (Some 1) 0 3 0 ∷ leg 3 2 Closing None (Some 1) 0 1 2 ∷ [])
-        ∷ (4, leg 3 2 Live (Some 1) (Some 1) 1 1 0 ∷ [])
-        ∷ (5, leg 3 1 Live (Some 1) None 3 0 0 ∷ leg 3 2 Live (Some 1) None 1 0 0 ∷ [])
-        ∷ []);
+      (1, leg 3 2 Live (Some 1) (Some 1) 1 1 1 ∷ [])
+      ∷ (3, leg 3 1 Closing None (Some 1) 0 3 0 ∷ leg 3 2 Closing None (Some 1) 0 1 2 ∷ [])
+      ∷ (4, leg 3 2 Live (Some 1) (Some 1) 1 1 0 ∷ [])
+      ∷ (5, leg 3 1 Live (Some 1) None 3 0 0 ∷ leg 3 2 Live (Some 1) None 1 0 0 ∷ [])
+      ∷ []);
   calls = among 6 [];
   known = 4 ∷ 3 ∷ 2 ∷ 4 ∷ 3 ∷ 0 ∷ [];
   down = 0 ∷ 0 ∷ 0 ∷ 1 ∷ 0 ∷ 0 ∷ [];

@@ -34,10 +34,10 @@ events =
 abbrev as_reached : Seen
 as_reached = record {
   legs = among 6 (
-        (1, leg 1 1 Closing None (Some 1) 0 1 0 ∷ leg 1 2 Closing None None 0 1 2 ∷ [])
-        ∷ (2, leg 1 1 Live (Some 1) None 1 0 0 ∷ [])
-        ∷ (4, leg 1 2 Asked None None 1 1 1 ∷ [])
-        ∷ []);
+      (1, leg 1 1 Closing None (Some 1) 0 1 0 ∷ leg 1 2 Closing None None 0 1 2 ∷ [])
+      ∷ (2, leg 1 1 Live (Some 1) None 1 0 0 ∷ [])
+      ∷ (4, leg 1 2 Asked None None 1 1 1 ∷ [])
+      ∷ []);
   calls = among 6 [];
   known = 2 ∷ 3 ∷ 2 ∷ 3 ∷ 2 ∷ 3 ∷ [];
   down = 0 ∷ 0 ∷ 0 ∷ 0 ∷ 0 ∷ 0 ∷ [];

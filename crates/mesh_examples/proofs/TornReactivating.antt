@@ -22,12 +22,12 @@ events = reactivating.events ++ releases 1 3 ∷ desk 3 ∷ []
 abbrev as_reached : Seen
 as_reached = record reactivating.as_reached {
   legs = among 6 (
-        (1, leg 3 1 Live (Some 1) None 1 0 0 ∷ leg 3 2 Live (Some 1) None 1 0 0 ∷ [])
-        ∷ (3, leg 3 1 Closing None (Some 1) 0 3 1 ∷ leg 3 2 Falling None (Some 1) 0 2 2 ∷ [])
-        ∷ (4, leg 3 1 Live (Some 1) (Some 1) 3 1 0 ∷ [])
-        ∷ (5, leg 3 2 Live (Some 1) (Some 1) 2 2 1 ∷ [])
-        ∷ (6, leg 3 2 Live (Some 1) (Some 1) 1 1 0 ∷ [])
-        ∷ []);
+      (1, leg 3 1 Live (Some 1) None 1 0 0 ∷ leg 3 2 Live (Some 1) None 1 0 0 ∷ [])
+      ∷ (3, leg 3 1 Closing None (Some 1) 0 3 1 ∷ leg 3 2 Falling None (Some 1) 0 2 2 ∷ [])
+      ∷ (4, leg 3 1 Live (Some 1) (Some 1) 3 1 0 ∷ [])
+      ∷ (5, leg 3 2 Live (Some 1) (Some 1) 2 2 1 ∷ [])
+      ∷ (6, leg 3 2 Live (Some 1) (Some 1) 1 1 0 ∷ [])
+      ∷ []);
   calls = among 6 [];
   mail = (0, 0) ∷ (0, 0) ∷ (0, 0) ∷ (0, 0) ∷ (0, 0) ∷ (1, 0) ∷ (3, 0) ∷ (0, 0) ∷ (0, 0) ∷ [];
 }

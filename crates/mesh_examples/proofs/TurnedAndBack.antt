@@ -78,11 +78,11 @@ events =
 abbrev as_reached : Seen
 as_reached = record {
   legs = among 6 (
-        (2, leg 5 1 Live (Some 1) None 1 0 0 ∷ leg 5 2 Live (Some 1) None 2 0 0 ∷ [])
-        ∷ (3, leg 5 2 Live (Some 1) (Some 1) 2 2 1 ∷ [])
-        ∷ (5, leg 5 1 Live None (Some 1) 0 1 0 ∷ leg 5 2 Held None (Some 1) 0 2 2 ∷ leg 5 4 Asked None None 0 1 0 ∷ [])
-        ∷ (6, leg 5 2 Live (Some 1) (Some 1) 2 2 0 ∷ [])
-        ∷ []);
+      (2, leg 5 1 Live (Some 1) None 1 0 0 ∷ leg 5 2 Live (Some 1) None 2 0 0 ∷ [])
+      ∷ (3, leg 5 2 Live (Some 1) (Some 1) 2 2 1 ∷ [])
+      ∷ (5, leg 5 1 Live None (Some 1) 0 1 0 ∷ leg 5 2 Held None (Some 1) 0 2 2 ∷ leg 5 4 Asked None None 0 1 0 ∷ [])
+      ∷ (6, leg 5 2 Live (Some 1) (Some 1) 2 2 0 ∷ [])
+      ∷ []);
   calls = alone 6 5 (reported 1 Guarded Unset 0 1 ∷ called 2 Blocked (Code set_code) ∷ called 3 Asking Unset ∷ []);
   known = 7 ∷ 7 ∷ 7 ∷ 7 ∷ 7 ∷ 7 ∷ [];
   down = 0 ∷ 0 ∷ 0 ∷ 0 ∷ 0 ∷ 0 ∷ [];

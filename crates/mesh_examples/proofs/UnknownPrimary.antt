@@ -34,17 +34,17 @@ events =
 abbrev as_reached : Seen
 as_reached = record shared_label.as_reached {
   legs = among 6 (
-        (1, leg 1 1 Live None (Some 1) 0 1 0 ∷ leg 1 2 Held None (Some 1) 0 2 2 ∷ [])
-        ∷ (2, leg 1 1 Live (Some 1) None 1 0 0 ∷ leg 1 2 Held (Some 1) None 1 0 0 ∷ [])
-        ∷ (3, leg 3 1 Live None (Some 1) 0 1 0 ∷ [])
-        ∷ (4, leg 3 1 Live (Some 1) None 1 0 0 ∷ [])
-        ∷ (5, leg 1 2 Held (Some 1) (Some 1) 2 1 1 ∷ [])
-        ∷ (6, leg 1 2 Held (Some 1) (Some 1) 1 1 0 ∷ [])
-        ∷ []);
+      (1, leg 1 1 Live None (Some 1) 0 1 0 ∷ leg 1 2 Held None (Some 1) 0 2 2 ∷ [])
+      ∷ (2, leg 1 1 Live (Some 1) None 1 0 0 ∷ leg 1 2 Held (Some 1) None 1 0 0 ∷ [])
+      ∷ (3, leg 3 1 Live None (Some 1) 0 1 0 ∷ [])
+      ∷ (4, leg 3 1 Live (Some 1) None 1 0 0 ∷ [])
+      ∷ (5, leg 1 2 Held (Some 1) (Some 1) 2 1 1 ∷ [])
+      ∷ (6, leg 1 2 Held (Some 1) (Some 1) 1 1 0 ∷ [])
+      ∷ []);
   calls = among 6 (
-        (1, called 1 Guarded Unset ∷ [])
-        ∷ (3, called 2 Bare (Code primary_code) ∷ [])
-        ∷ []);
+      (1, called 1 Guarded Unset ∷ [])
+      ∷ (3, called 2 Bare (Code primary_code) ∷ [])
+      ∷ []);
   known = 2 ∷ 2 ∷ 2 ∷ 2 ∷ 5 ∷ 4 ∷ [];
 }
 

@@ -91,13 +91,13 @@ events =
 abbrev as_reached : Seen
 as_reached = record {
   legs = among 6 (
-        (3, leg 4 2 Live (Some 1) None 1 0 0 ∷ leg 4 3 Live (Some 1) None 2 0 0 ∷ [])
-        ∷ (4, leg 4 2 Live None (Some 1) 0 1 1 ∷ leg 4 3 Live None (Some 1) 0 2 0 ∷ [])
-        ∷ (6, leg 4 2 Live (Some 1) (Some 1) 1 1 0 ∷ [])
-        ∷ []);
+      (3, leg 4 2 Live (Some 1) None 1 0 0 ∷ leg 4 3 Live (Some 1) None 2 0 0 ∷ [])
+      ∷ (4, leg 4 2 Live None (Some 1) 0 1 1 ∷ leg 4 3 Live None (Some 1) 0 2 0 ∷ [])
+      ∷ (6, leg 4 2 Live (Some 1) (Some 1) 1 1 0 ∷ [])
+      ∷ []);
   calls = among 6 (
-        (4, called 1 Blocked (Code down_code) ∷ reported 2 Turned Unset 1 0 ∷ called 4 Blocked (Code set_code) ∷ [])
-        ∷ []);
+      (4, called 1 Blocked (Code down_code) ∷ reported 2 Turned Unset 1 0 ∷ called 4 Blocked (Code set_code) ∷ [])
+      ∷ []);
   known = 8 ∷ 0 ∷ 8 ∷ 8 ∷ 8 ∷ 8 ∷ [];
   down = 0 ∷ 0 ∷ 1 ∷ 0 ∷ 1 ∷ 1 ∷ [];
   mail = (0, 0) ∷ (0, 0) ∷ (0, 0) ∷ (0, 0) ∷ (0, 0) ∷ (0, 0) ∷ (0, 0) ∷ (0, 0) ∷ [];

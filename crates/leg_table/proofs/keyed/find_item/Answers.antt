@@ -9,5 +9,5 @@ returns-in-None g c =
 
 pub returns-in-Some : goal.returns-in-Some
 returns-in-Some g c =
-    c.item_at.ensures ∙ sym (find-place (has_key g.T.Keyed.same g.T.Keyed.key_of c.args.key) c.args.items.now c.in-Some.place
-    (sym c.in-Some.ensures))
+    c.item_at.ensures ∙ sym (find-place (has_key g.T.Keyed.same g.T.Keyed.key_of c.args.key) c.args.items.now
+    c.in-Some.place (sym c.in-Some.ensures))

@@ -26,7 +26,8 @@ returns-in-Some-clause-item g c =
     let i = c.in-Some.place in
     let place = sym (c.in-Some.ensures ∙ ap (position same) c.deref.ensures.value) in
     let below = (position-Some same xs i c.remove.result place).0 in
-    ap Some c.remove.ensures.value ∙ sym (slice_get-get_or xs i c.remove.result below) ∙ sym (find-place same xs i place)
+    ap Some c.remove.ensures.value ∙ sym (slice_get-get_or xs i c.remove.result below)
+    ∙ sym (find-place same xs i place)
 
 pub returns-in-Some-clause-left : goal.returns-in-Some-clause-left
 returns-in-Some-clause-left g c =

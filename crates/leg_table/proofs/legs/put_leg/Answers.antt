@@ -25,6 +25,7 @@ returns-clause-rising c =
     let place = c.place_of-place.ensures.place ∙
     ap (position_or_len (is_from lsp_before (λ (g : Leg). g.lsp) c.args.leg.lsp)) c.deref.ensures.value in
     on_both c.insert_leg.result _ _ _
-    (λ e. subst LegsRise (sym (e ∙ new-inserted lsp_order (λ (g : Leg). g.lsp) c.args.leg before n place c.requires.new))
+    (λ e. subst LegsRise
+    (sym (e ∙ new-inserted lsp_order (λ (g : Leg). g.lsp) c.args.leg before n place c.requires.new))
     (put_rises lsp_order (λ (g : Leg). g.lsp) c.args.leg before c.requires.rising))
     (λ e. subst LegsRise (sym e) c.requires.rising) c.insert_leg.ensures.ok c.insert_leg.ensures.err
