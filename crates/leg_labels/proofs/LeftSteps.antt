@@ -6,19 +6,20 @@ use Rattle.ason_base.specs.declared.ids.Lsp.{Lsp}
 use Rattle.ason_base.specs.declared.tables.Leg.{Leg}
 use Rattle.link_owner.specs.Owners.{OwnerState, comes_in}
 use Rattle.share_check.specs.Guards.{Guard}
-use Rattle.mesh_rules.specs.Legs.{find_leg, with_leg, without_leg}
+use Rattle.mesh_rules.specs.Legs.{find_leg, leg_changed, with_leg, without_leg}
 use Rattle.mesh_rules.specs.LocalNodes.{LocalNode}
 use Rattle.mesh_rules.specs.declared.changes.LegChange.{LegChange}
 use Rattle.mesh_rules.specs.declared.changes.LegChange.TheVariants.{Goes, Put}
 use Rattle.mesh_nodes.specs.Order.{LegsRise}
 use Rattle.leg_table.specs.declared.labels.TakenLabel.{TakenLabel}
+use Rattle.leg_table.specs.Edits.{leg_put}
 use Rattle.leg_table.specs.LegClaims.{LabelsFit, MayBeMade, OwnerFits, SameFibres}
 use Rattle.leg_labels.proofs.GivenUp.{left-claims, left-guards, less}
 use Rattle.leg_labels.proofs.HeldLabels.{same-held}
 use Rattle.leg_labels.proofs.LeftChanges.{gone-held, last-held, less-new, may-give_up, put-held}
 use Rattle.leg_labels.proofs.NewLabels.{less-goes, less-put, less-start, new-may}
 use Rattle.leg_labels.proofs.UsableLabels.{usable-unclaimed, usable-within}
-use Rattle.leg_labels.specs.LegHolds.{AreHeld, AreLeft, GivesUp, Hold, MayClaim, MayClaimNew, MayGiveUpAll, TakeNoMoreYet, held_of, is_lost, last_put, new_label, with_new}
+use Rattle.leg_labels.specs.LegHolds.{AreHeld, AreLeft, GivesUp, Hold, MayClaim, MayClaimNew, MayGiveUpAll, TakeNoMoreYet, held_of, is_lost, last_put, lsp_changed, new_label, with_new}
 
 -- At the start
 
@@ -69,7 +70,7 @@ after-held l lost h k o after s left held gives fibres same =
       guards = left-guards l lost o.claims after.claims s left gives h held.guards;
     })
 
-pub goes-left : (read legs : List Leg) (l : Lsp) (cs : List LegChange) (o after : OwnerState) (s left : List Guard) →
+goes-left : (read legs : List Leg) (l : Lsp) (cs : List LegChange) (o after : OwnerState) (s left : List Guard) →
     AreLeft read legs (Goes l ∷ cs) o s → GivesUp l (is_lost (find_leg l legs) None) o.claims after.claims s left →
     SameFibres o after → AreLeft read (without_leg l legs) cs after left
 goes-left read legs l [] o after s left are gives fibres = record {
@@ -88,7 +89,7 @@ goes-left read legs l (c ∷ cs) o after s left are gives fibres = record {
       (less-new read legs (without_leg l legs) (last_put (c ∷ cs)) l None are.less (gone-held l legs));
 }
 
-pub put-left : (read legs : List Leg) (g : Leg) (cs : List LegChange) (o after : OwnerState) (s left : List Guard) →
+put-left : (read legs : List Leg) (g : Leg) (cs : List LegChange) (o after : OwnerState) (s left : List Guard) →
     AreLeft read legs (Put g ∷ cs) o s →
     GivesUp g.lsp (is_lost (find_leg g.lsp legs) (Some g)) o.claims after.claims s left →
     SameFibres o after → AreLeft read (with_leg g legs) cs after left
@@ -109,3 +110,13 @@ put-left read legs g (c ∷ cs) o after s left are gives fibres = record {
       (less-new read legs (with_leg g legs) (last_put (c ∷ cs)) g.lsp (Some g) are.less
       (λ f x m. put-held g legs f x m (are.may.1.0 f x)));
 }
+
+-- a change
+pub change-left : (read legs : List Leg) (c : LegChange) (cs : List LegChange) (o after : OwnerState)
+    (s left : List Guard) → AreLeft read legs (c ∷ cs) o s →
+    GivesUp (lsp_changed c) (is_lost (find_leg (lsp_changed c) legs) (leg_put c)) o.claims after.claims s left →
+    SameFibres o after → AreLeft read (leg_changed c legs) cs after left
+change-left read legs (Goes l) cs o after s left are gives fibres =
+    goes-left read legs l cs o after s left are gives fibres
+change-left read legs (Put g) cs o after s left are gives fibres =
+    put-left read legs g cs o after s left are gives fibres

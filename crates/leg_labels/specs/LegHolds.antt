@@ -15,6 +15,7 @@ use Rattle.link_owner.specs.declared.claims.ClaimKind.{ClaimKind}
 use Rattle.mesh_rules.specs.Legs.{find_leg, is_work, takes}
 use Rattle.mesh_rules.specs.LocalNodes.{LocalNode}
 use Rattle.mesh_rules.specs.declared.changes.LegChange.{LegChange}
+use Rattle.mesh_rules.specs.declared.changes.LegChange.TheVariants.{Goes, Put}
 use Rattle.share_check.specs.Guards.{Guard, GuardsNone, is_guarded}
 use Rattle.leg_table.specs.Edits.{leg_put}
 use Rattle.leg_table.specs.LegClaims.{MayFollow, TakesNoMore, bars, claim_kind, is_this, taken_back, taken_in, takes_of}
@@ -92,6 +93,11 @@ pub record MayGiveUp (g : Leg) (o : OwnerState) (s : List Guard) (f : Fibre) (x 
 -- each that the leg takes may be given up
 abbrev pub MayGiveUpAll : Option Leg → OwnerState → List Guard → Type 0
 MayGiveUpAll g o s = IfSome g (λ g. (f : Fibre) (x : ℕ) → takes f x g ≡ true → MayGiveUp g o s f x)
+
+-- the LSP whose leg goes or is put
+abbrev pub lsp_changed : LegChange → Lsp
+lsp_changed (Goes l) = l
+lsp_changed (Put g) = g.lsp
 
 -- The label that is taken newly
 

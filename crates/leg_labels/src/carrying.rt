@@ -6,12 +6,13 @@ ghost use Rattle.std.specs.Option.{option_to_list};
 ghost use Rattle.link_owner.specs.Marks.{has_fibre};
 ghost use Rattle.mesh_rules.specs.Changes.{learnt_after};
 ghost use Rattle.mesh_rules.specs.declared.changes.LegChange.TheVariants.{Goes, Put};
-ghost use Rattle.mesh_rules.specs.Legs.{find_leg, legs_changed, with_leg, without_leg};
+ghost use Rattle.mesh_rules.specs.Legs.{find_leg, leg_changed, legs_changed, with_leg, without_leg};
+ghost use Rattle.leg_table.specs.Edits.{leg_put};
 ghost use Rattle.leg_table.specs.Handled.{IsCarriedOut, MayBeCarriedOut};
-ghost use Rattle.leg_table.specs.LegClaims.{AreOfOneNode, ClaimsFit, LabelsFit, MarksFit, MayAllMark, MayAllStay, MayBeMade, MayMark, MayStay, OwnerFits, SameFibres, SharesStay, is_own_fibre};
+ghost use Rattle.leg_table.specs.LegClaims.{AreOfOneNode, ClaimsFit, LabelsFit, MarksFit, MayAllMark, MayAllStay, MayBeMade, MayMark, MayMarkSo, MayStay, OwnerFits, SameFibres, SharesStay, is_own_fibre};
 ghost use Rattle.leg_table.specs.States.{local_of};
 ghost use Rattle.leg_table.specs.Tables.{LegsRise};
-ghost use Rattle.leg_labels.specs.LegHolds.{AreLeft, GivesUp, MayGiveUpAll, is_lost};
+ghost use Rattle.leg_labels.specs.LegHolds.{AreLeft, GivesUp, MayGiveUpAll, is_lost, lsp_changed};
 
 use crate::marking::{remark, unmark_lsp};
 use crate::releasing::give_up_lost;
@@ -67,6 +68,31 @@ fn put_leg(legs: &mut Vec<BoxedLeg>, owner: &mut Owner, shares: &mut Shares, leg
     set_leg(legs, leg);
 }
 
+// Makes a change. The labels that its LSP's leg took and a leg that is put doesn't take are given up; those that this
+// one takes are claimed. There is room for it.
+fn change_leg(legs: &mut Vec<BoxedLeg>, owner: &mut Owner, shares: &mut Shares, change: LegEdit)
+    requires rising { LegsRise legs.old.items }
+    requires room { vec_len legs.old < vec_capacity legs.old }
+    requires may { MayGiveUpAll (find_leg (lsp_changed change) legs.old.items)
+        owner.old shares.old }
+    requires fit { MarksFit legs.old.items owner.old }
+    requires marks { MayMarkSo (has_fibre owner.old.marks) legs.old.items change }
+    ensures items { legs.new.items ≡ leg_changed change legs.old.items }
+    ensures rising { LegsRise legs.new.items }
+    ensures len { vec_len legs.new ≤ vec_len legs.old + 1 }
+    ensures capacity { vec_capacity legs.new ≡ vec_capacity legs.old }
+    ensures labels { GivesUp (lsp_changed change)
+        (is_lost (find_leg (lsp_changed change) legs.old.items) (leg_put change))
+        owner.old.claims owner.new.claims shares.old shares.new }
+    ensures fit { MarksFit legs.new.items owner.new }
+    ensures fibres { SameFibres owner.old owner.new }
+{
+    match change.into_change() {
+        BoxedChange::Goes(lsp) => remove_leg(legs, owner, shares, lsp),
+        BoxedChange::Put(leg) => put_leg(legs, owner, shares, leg),
+    }
+}
+
 // Makes the changes, one after the other. The label that the last of them takes newly is claimed, and there is room for
 // them.
 fn change_legs(
@@ -86,10 +112,7 @@ fn change_legs(
     ensures fibres { SameFibres owner.old owner.new }
 {
     for change in changes {
-        match change.into_change() {
-            BoxedChange::Goes(lsp) => remove_leg(legs, owner, shares, lsp),
-            BoxedChange::Put(leg) => put_leg(legs, owner, shares, leg),
-        }
+        change_leg(legs, owner, shares, change);
     }
 }
 
