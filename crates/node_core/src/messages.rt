@@ -1,12 +1,14 @@
 //! The rule of each message from a neighbour: what becomes of the leg of its LSP, and at the ingress
 //! what becomes of the call then.
 
-ghost use Rattle.std.specs.Prelude.{◌≡◌, IfOk, OnOk};
+ghost use Rattle.std.specs.Prelude.{◌≡◌, IfOk, None, OnOk, Some};
 ghost use Rattle.std.specs.Option.{option_copied};
+ghost use Rattle.ason_base.specs.declared.calls.Phase.TheVariants.{Held, Live};
 ghost use Rattle.mesh_rules.specs.Changes.{followed_by};
+ghost use Rattle.mesh_rules.specs.Legs.{connected, with_phase};
 ghost use Rattle.leg_table.specs.Fits.{TablesFit};
-ghost use Rattle.call_control.specs.Rules.{answered_here};
-ghost use Rattle.node_core.specs.Followed.{activation_followed, busy_followed, connection_followed, notice_followed, path_followed, removal_followed, resv_followed};
+ghost use Rattle.call_control.specs.Rules.{answered_here, contended_here, turned_here};
+ghost use Rattle.node_core.specs.Followed.{activation_followed, busy_at, busy_followed, connection_followed, notice_followed, path_followed, removal_followed, resv_followed};
 ghost use Rattle.node_core.specs.Rules.{CanSearch, message_here};
 
 use crate::routes::backup_beside;
@@ -67,6 +69,23 @@ fn follow_resv(
     answer_resv(alloc, change, &ingress, parts.shares, leg, backup.as_ref())
 }
 
+// The call of this leg, which begins here and gets this label.
+fn follow_connection(
+    alloc: Global,
+    change: &mut Change,
+    parts: &NodeParts<'_>,
+    leg: &Leg,
+    label: Label,
+) -> Result<(), OutOfMemory>
+    requires tables { TablesFit parts.now.tables.now parts.now.owner.now parts.now.shares.now }
+    requires rows { CanSearch parts.now.tables.now }
+    ensures { OnOk result (change.new ≡ followed_by change.old
+        (answered_here parts.now.tables.now parts.now.calls.now (connected leg.now None label))) }
+{
+    let leg = connected(alloc, leg, None, label)?;
+    follow_resv(alloc, change, parts, &leg)
+}
+
 // A Resv at a leg that isn't Armed.
 fn connect(
     alloc: Global,
@@ -84,10 +103,24 @@ fn connect(
     let tables = parts.tables;
     let mut change = resv_change(alloc, tables, parts.owner, parts.shares, from, msg)?;
     if connects(tables, from, msg) {
-        let leg = connected(alloc, leg, None, label)?;
-        follow_resv(alloc, &mut change, parts, &leg)?;
+        follow_connection(alloc, &mut change, parts, leg, label)?;
     }
     Ok(change)
+}
+
+// The call of this leg, which begins here and is Live now.
+fn follow_confirmed(
+    alloc: Global,
+    change: &mut Change,
+    parts: &NodeParts<'_>,
+    leg: &Leg,
+) -> Result<(), OutOfMemory>
+    requires tables { TablesFit parts.now.tables.now parts.now.owner.now parts.now.shares.now }
+    ensures { OnOk result (change.new ≡ followed_by change.old
+        (turned_here parts.now.tables.now parts.now.calls.now (with_phase Live leg.now))) }
+{
+    let leg = with_phase(alloc, leg, Phase::Live)?;
+    answer_confirmed(alloc, change, &ingress_of(parts), &leg)
 }
 
 // A Resv at a leg that is Armed.
@@ -104,8 +137,7 @@ fn confirm(
 {
     let mut change = connect_change(alloc, parts.tables, from, msg)?;
     if carries(parts.tables, from, msg) {
-        let leg = with_phase(alloc, leg, Phase::Live)?;
-        answer_confirmed(alloc, &mut change, &ingress_of(parts), &leg)?;
+        follow_confirmed(alloc, &mut change, parts, leg)?;
     }
     Ok(change)
 }
@@ -153,6 +185,40 @@ fn remove(
     Ok(change)
 }
 
+// The call of this leg, which begins here and is Held again.
+fn follow_busy(
+    alloc: Global,
+    change: &mut Change,
+    parts: &NodeParts<'_>,
+    leg: &Leg,
+) -> Result<(), OutOfMemory>
+    requires tables { TablesFit parts.now.tables.now parts.now.owner.now parts.now.shares.now }
+    ensures { OnOk result (change.new ≡ followed_by change.old
+        (contended_here parts.now.tables.now parts.now.calls.now (with_phase Held leg.now))) }
+{
+    let leg = with_phase(alloc, leg, Phase::Held)?;
+    answer_busy(alloc, change, &ingress_of(parts), &leg)
+}
+
+// A PathErr without it, at this leg of its LSP.
+fn disarm_leg(
+    alloc: Global,
+    parts: &NodeParts<'_>,
+    from: NodeId,
+    leg: &Leg,
+    msg: &Msg,
+) -> Result<Change, OutOfMemory>
+    requires tables { TablesFit parts.now.tables.now parts.now.owner.now parts.now.shares.now }
+    ensures { IfOk result (λ c. c
+        ≡ busy_at parts.now.tables.now parts.now.calls.now from msg.now (Some leg.now)) }
+{
+    let mut change = busy_change(alloc, parts.tables, from, msg)?;
+    if contends(parts.tables, from, msg) {
+        follow_busy(alloc, &mut change, parts, leg)?;
+    }
+    Ok(change)
+}
+
 // A PathErr without it.
 fn disarm(
     alloc: Global,
@@ -165,14 +231,10 @@ fn disarm(
     ensures { IfOk result (λ c. c
         ≡ busy_followed parts.now.tables.now parts.now.calls.now from lsp msg.now) }
 {
-    let mut change = busy_change(alloc, parts.tables, from, msg)?;
-    if contends(parts.tables, from, msg) {
-        if let Some(leg) = parts.tables.get(&lsp) {
-            let leg = with_phase(alloc, leg, Phase::Held)?;
-            answer_busy(alloc, &mut change, &ingress_of(parts), &leg)?;
-        }
+    match parts.tables.get(&lsp) {
+        None => busy_change(alloc, parts.tables, from, msg),
+        Some(leg) => disarm_leg(alloc, parts, from, leg, msg),
     }
-    Ok(change)
 }
 
 // Notifies

@@ -169,10 +169,10 @@ impl Copied for Node {
     fn copy(&self, alloc: Global) -> Result<Node, OutOfMemory>
         ensures { IfOk result (λ n. n ≡ self.now) }
     {
-        let tables = self.tables.copy(alloc)?;
-        let owner = self.owner.copy(alloc)?;
         let shares = self.shares.copy(alloc)?;
         let calls = self.calls.copy(alloc)?;
+        let owner = self.owner.copy(alloc)?;
+        let tables = self.tables.copy(alloc)?;
         Ok(Node {
             tables,
             owner,

@@ -31,8 +31,8 @@ pub(crate) fn least_route(
     requires { AreSearchable rows.now }
     ensures { IfOk result (λ route. route ≡ steps_of (least_trip rows.now from to)) }
 {
-    let network = RouteNetwork::new(alloc, rows)?;
     let closed = no_rows(alloc, rows.len())?;
+    let network = RouteNetwork::new(alloc, rows)?;
     match network.least(alloc, from, to, &closed, &[]) {
         Ok(found) => Ok(Some(found.route)),
         Err(RouteFault::NoRoute(_)) => Ok(None),
