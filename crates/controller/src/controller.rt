@@ -50,9 +50,9 @@ impl Controller {
         requires { IsSome (find_node t.now id) }
         ensures { IfOk result (λ c. c ≡ new_controller t.now id) }
     {
-        let node = Node::new(alloc, t, id)?;
         let adjacencies = adjacencies(alloc, t, id)?;
         let flood = begun(alloc, t, id)?;
+        let node = Node::new(alloc, t, id)?;
         Ok(Controller {
             maker: FrameMaker::new(alloc),
             node,

@@ -6,6 +6,8 @@ ghost use Rattle.flood.specs.State.{learnt_of, received, sends_after};
 ghost use Rattle.mesh_nodes.specs.Learnt.{MayLearn};
 ghost use Rattle.mesh_nodes.specs.LocalNodes.{is_neighbour};
 ghost use Rattle.mesh_rules.specs.KnownRows.{known_rows};
+ghost use Rattle.node_rules.specs.declared.inputs.Input.TheVariants as inputs;
+ghost use Rattle.node_rules.specs.Nodes.{MayTake, stepped};
 ghost use Rattle.control_channels.specs.Controllers.{floods_to, with_learnt};
 ghost use Rattle.control_channels.specs.Frames.{AllSpelled, frames_to};
 ghost use Rattle.control_channels.specs.ReadyControllers.{AllToNeighbours, FloodFits};
@@ -14,6 +16,17 @@ use ason_base::{NodeId, OutOfMemory, TeRow};
 use control_channels::{Frame, FrameMaker, frame_floods};
 use flood::{Flood, FloodMsg, FloodOut};
 use node_core::{Input, Node};
+use std::alloc::Global;
+
+// The node learns the row. Nothing is sent then.
+fn learn_row(alloc: Global, node: &mut Node, row: TeRow) -> Result<(), OutOfMemory>
+    requires { MayTake node.old (inputs.Learn row) }
+    ensures ok { OnOk result (node.new ≡ stepped node.old (inputs.Learn row)) }
+    ensures err { OnErr result (node.new ≡ node.old) }
+{
+    node.step(alloc, &Input::Learn(row))?;
+    Ok(())
+}
 
 // The node learns the row, and the flood takes the message that brought it. After want of memory neither has.
 fn learn(
@@ -35,7 +48,7 @@ fn learn(
     ensures err { OnErr result (flood.new ≡ flood.old) }
 {
     node.fits();
-    node.step(maker.alloc, &Input::Learn(row))?;
+    learn_row(maker.alloc, node, row)?;
     match flood.take(maker.alloc, from, m) {
         Ok(()) => Ok(()),
         Err(error) => {

@@ -8,7 +8,8 @@ ghost use Rattle.ason_base.specs.declared.messages.Packet.{Packet};
 ghost use Rattle.mesh_nodes.specs.LocalNodes.{is_neighbour};
 ghost use Rattle.mesh_rules.specs.Changes.{changed};
 ghost use Rattle.node_rules.specs.Nodes.{IsWritableInput, MayTake, answer_to, stepped};
-ghost use Rattle.control_channels.specs.Adjacencies.{ArePrepared, reaches, rested};
+ghost use Rattle.node_rules.specs.declared.inputs.Input.TheVariants as inputs;
+ghost use Rattle.control_channels.specs.Adjacencies.{AllCanGo, ArePrepared, next_at, packets_on, reaches, rested, sent_on};
 ghost use Rattle.control_channels.specs.Answers.{BodyCanBePassedOn, body_answer};
 ghost use Rattle.flood.specs.declared.frames.Content.{Content};
 ghost use Rattle.flood.specs.Frames.{IsFrame, SpellsNothing};
@@ -19,7 +20,7 @@ ghost use Rattle.control_channels.specs.Frames.{AllSpelled, frames_to};
 ghost use Rattle.control_channels.specs.ReadyControllers.{AllToNeighbours, FloodFits, IsFromNeighbour, IsKept, IsReady};
 
 use crate::floods::take_flood;
-use ason_base::{Copied, DecodeError, DeskItem, Msg, NodeId, OutOfMemory, Packet, copy_all};
+use ason_base::{Copied, DecodeError, DeskItem, Msg, NodeId, Out, OutOfMemory, Packet, copy_all};
 use control_channels::adjacencies::{
     age_all, commit_all, discard_all, frame_due, hears, prepare_all, take,
 };
@@ -27,6 +28,28 @@ use control_channels::{Adjacency, CoreInput, Frame, FrameMaker, acknowledge, fra
 use flood::{Content, Flood, read_frame};
 use hop_reliable::Heard;
 use node_core::{Change, Input, Node};
+
+// Messages that the node sends are prepared, and their frames stand at the end of the list.
+fn prepare_sent(
+    maker: &mut FrameMaker,
+    me: NodeId,
+    adjacencies: &mut [Adjacency],
+    frames: &mut Vec<Frame>,
+    sent: &[Out],
+) -> Result<(), OutOfMemory>
+    requires { AllCanGo (reaches adjacencies.old) (next_at adjacencies.old) sent.now }
+    ensures hops { OnOk result
+        ((d : ℕ) → next_at adjacencies.new d ≡ sent_on (next_at adjacencies.old) sent.now d) }
+    ensures rest { map rested adjacencies.new ≡ map rested adjacencies.old }
+    ensures frames { OnOk result
+        (frames.new.items ≡ frames.old.items ++
+        frames_to me (packets_on (next_at adjacencies.old) sent.now)) }
+    ensures spelled { OnOk result
+        (AllSpelled me (packets_on (next_at adjacencies.old) sent.now)) }
+{
+    let outs = copy_all(maker.alloc, sent)?;
+    prepare_all(maker, me, adjacencies, frames, outs)
+}
 
 // What the node answers, with its messages prepared and their frames at the end of the list.
 fn prepared(
@@ -49,8 +72,7 @@ fn prepared(
         (AnswerIsSpelled node.now adjacencies.old (answer_to node.now input.now)) }
 {
     let change = node.answer(maker.alloc, input)?;
-    let outs = copy_all(maker.alloc, change.sent().items())?;
-    prepare_all(maker, node.id(), adjacencies, frames, outs)?;
+    prepare_sent(maker, node.id(), adjacencies, frames, change.sent().items())?;
     Ok(change)
 }
 
@@ -257,6 +279,32 @@ fn take_frame(
     }
 }
 
+// The node takes an item of the desk, and its messages are prepared. After want of memory none is.
+fn give_item(
+    maker: &mut FrameMaker,
+    node: &mut Node,
+    adjacencies: &mut [Adjacency],
+    frames: &mut Vec<Frame>,
+    item: &DeskItem,
+) -> Result<(), OutOfMemory>
+    requires { IsReady node.old.place adjacencies.old }
+    ensures node { OnOk result (node.new ≡ stepped node.old (inputs.Desk item.now)) }
+    ensures same { OnErr result (node.new ≡ node.old) }
+    ensures hops { OnOk result
+        (ArePrepared adjacencies.old (answer_to node.old (inputs.Desk item.now)).sent
+        adjacencies.new) }
+    ensures rest { OnOk result (map rested adjacencies.new ≡ map rested adjacencies.old) }
+    ensures err { OnErr result (adjacencies.new ≡ adjacencies.old) }
+    ensures frames { OnOk result
+        (AddsAnswer node.old adjacencies.old
+        (answer_to node.old (inputs.Desk item.now)) frames.old.items frames.new.items) }
+    ensures spelled { OnOk result
+        (AnswerIsSpelled node.old adjacencies.old (answer_to node.old (inputs.Desk item.now))) }
+{
+    let item = item.copy(maker.alloc)?;
+    give(maker, node, adjacencies, frames, &Input::Desk(item))
+}
+
 fn handle(
     maker: &mut FrameMaker,
     node: &mut Node,
@@ -278,8 +326,7 @@ fn handle(
 {
     node.fits();
     let mut frames = Vec::new(maker.alloc);
-    let item = item.copy(maker.alloc)?;
-    give(maker, node, adjacencies, &mut frames, &Input::Desk(item))?;
+    give_item(maker, node, adjacencies, &mut frames, item)?;
     commit_all(adjacencies);
     Ok(frames)
 }

@@ -12,47 +12,47 @@ use Rattle.controller.proofs.reactions.handle.Goals as goal
 
 pub returns-clause-made : goal.returns-clause-made
 returns-clause-made c =
-    handled-made c.args.node.now c.give.new.node c.args.adjacencies.now c.give.new.adjacencies
-    c.commit_all.new.adjacencies c.in_ok-item.item c.args.item.now
-    c.new-frames.result.items c.give.new.frames.items c.in_ok-item.ensures c.in_ok-give.ensures.node
-    c.in_ok-give.ensures.hops c.in_ok-give.ensures.rest
-    c.commit_all.ensures c.new-frames.ensures.items c.in_ok-give.ensures.frames c.in_ok-give.ensures.spelled
+    handled-made c.args.node.now c.give_item.new.node c.args.adjacencies.now c.give_item.new.adjacencies
+    c.commit_all.new.adjacencies c.args.item.now c.args.item.now
+    c.new-frames.result.items c.give_item.new.frames.items refl c.in_ok-give_item.ensures.node
+    c.in_ok-give_item.ensures.hops c.in_ok-give_item.ensures.rest
+    c.commit_all.ensures c.new-frames.ensures.items c.in_ok-give_item.ensures.frames c.in_ok-give_item.ensures.spelled
 
 pub returns-clause-kept : goal.returns-clause-kept
 returns-clause-kept c = λ k kept.
-    made-kept c.args.node.now c.give.new.node c.args.adjacencies.now c.commit_all.new.adjacencies k
+    made-kept c.args.node.now c.give_item.new.node c.args.adjacencies.now c.commit_all.new.adjacencies k
     (hop_at c.args.adjacencies.now)
-    (on_item c.args.node.now.place c.args.node.now.state c.args.item.now) [] c.give.new.frames.items kept
+    (on_item c.args.node.now.place c.args.node.now.state c.args.item.now) [] c.give_item.new.frames.items kept
     (λ d. refl) kept.again kept.waiting
     (item-sent c.args.node.now.place c.args.node.now.state c.args.item.now c.fits.ensures.place c.fits.ensures.state)
-    (handled-made c.args.node.now c.give.new.node c.args.adjacencies.now c.give.new.adjacencies
-    c.commit_all.new.adjacencies c.in_ok-item.item c.args.item.now
-    c.new-frames.result.items c.give.new.frames.items c.in_ok-item.ensures c.in_ok-give.ensures.node
-    c.in_ok-give.ensures.hops c.in_ok-give.ensures.rest
-    c.commit_all.ensures c.new-frames.ensures.items c.in_ok-give.ensures.frames c.in_ok-give.ensures.spelled)
+    (handled-made c.args.node.now c.give_item.new.node c.args.adjacencies.now c.give_item.new.adjacencies
+    c.commit_all.new.adjacencies c.args.item.now c.args.item.now
+    c.new-frames.result.items c.give_item.new.frames.items refl c.in_ok-give_item.ensures.node
+    c.in_ok-give_item.ensures.hops c.in_ok-give_item.ensures.rest
+    c.commit_all.ensures c.new-frames.ensures.items c.in_ok-give_item.ensures.frames c.in_ok-give_item.ensures.spelled)
 
 pub returns-clause-near : goal.returns-clause-near
 returns-clause-near c =
-    made-to_neighbours c.args.node.now c.give.new.node c.args.adjacencies.now c.commit_all.new.adjacencies
+    made-to_neighbours c.args.node.now c.give_item.new.node c.args.adjacencies.now c.commit_all.new.adjacencies
     (hop_at c.args.adjacencies.now)
-    (on_item c.args.node.now.place c.args.node.now.state c.args.item.now) [] c.give.new.frames.items tt
+    (on_item c.args.node.now.place c.args.node.now.state c.args.item.now) [] c.give_item.new.frames.items tt
     (item-sent c.args.node.now.place c.args.node.now.state c.args.item.now c.fits.ensures.place c.fits.ensures.state)
-    (handled-made c.args.node.now c.give.new.node c.args.adjacencies.now c.give.new.adjacencies
-    c.commit_all.new.adjacencies c.in_ok-item.item c.args.item.now
-    c.new-frames.result.items c.give.new.frames.items c.in_ok-item.ensures c.in_ok-give.ensures.node
-    c.in_ok-give.ensures.hops c.in_ok-give.ensures.rest
-    c.commit_all.ensures c.new-frames.ensures.items c.in_ok-give.ensures.frames c.in_ok-give.ensures.spelled)
+    (handled-made c.args.node.now c.give_item.new.node c.args.adjacencies.now c.give_item.new.adjacencies
+    c.commit_all.new.adjacencies c.args.item.now c.args.item.now
+    c.new-frames.result.items c.give_item.new.frames.items refl c.in_ok-give_item.ensures.node
+    c.in_ok-give_item.ensures.hops c.in_ok-give_item.ensures.rest
+    c.commit_all.ensures c.new-frames.ensures.items c.in_ok-give_item.ensures.frames c.in_ok-give_item.ensures.spelled)
 
 pub returns-clause-few : goal.returns-clause-few
 returns-clause-few c =
     let n = c.args.node.now in
-    frames-few n.place n.place.id [] (hop_at c.args.adjacencies.now) (on_item n.place n.state c.in_ok-item.item)
-    c.new-frames.result.items c.give.new.frames.items (omega arith)
-    (item-sent n.place n.state c.in_ok-item.item c.fits.ensures.place c.fits.ensures.state)
-    c.new-frames.ensures.items c.in_ok-give.ensures.frames
+    frames-few n.place n.place.id [] (hop_at c.args.adjacencies.now) (on_item n.place n.state c.args.item.now)
+    c.new-frames.result.items c.give_item.new.frames.items (omega arith)
+    (item-sent n.place n.state c.args.item.now c.fits.ensures.place c.fits.ensures.state)
+    c.new-frames.ensures.items c.in_ok-give_item.ensures.frames
 
 pub returns-clause-learnt : goal.returns-clause-learnt
 returns-clause-learnt c =
     let n = c.args.node.now in
-    same-learnt n.state c.give.new.node.state (on_item n.place n.state c.in_ok-item.item)
-    (nothing-else.1 n.place n.state c.in_ok-item.item) (ap (λ (m : NodeView). m.state) c.in_ok-give.ensures.node)
+    same-learnt n.state c.give_item.new.node.state (on_item n.place n.state c.args.item.now)
+    (nothing-else.1 n.place n.state c.args.item.now) (ap (λ (m : NodeView). m.state) c.in_ok-give_item.ensures.node)
