@@ -1,6 +1,6 @@
 //! The tables of one node: its links, what it knows of others', and its legs.
 
-ghost use Rattle.std.specs.Prelude.{◌≡◌, ◌≤◌, ◌<◌, ◌-◌, [], IfErr, IfOk, IsSome, IsTrue, None, OnErr, OnOk, Some, filter, length, slice_get, take};
+ghost use Rattle.std.specs.Prelude.{◌≡◌, ◌≤◌, ◌<◌, ◌-◌, ◌++◌, ◌∷◌, [], IfErr, IfOk, IsSome, IsTrue, None, OnErr, OnOk, Some, filter, length, slice_get, take};
 ghost use Rattle.std.specs.Option.{option_copied};
 ghost use Rattle.ason_base.specs.Lsps.{has_fibre, without_fibre};
 ghost use Rattle.ason_base.specs.Network.{find_node, touches};
@@ -293,17 +293,29 @@ fn node_of(t: &Topology, id: NodeId) -> NodeSpec
     }
 }
 
+// The link, if this node is an end of it, comes after those before it.
+fn copy_if_own(
+    own: &mut Vec<LinkSpec>,
+    alloc: Global,
+    link: &LinkSpec,
+    n: NodeId,
+) -> Result<(), OutOfMemory>
+    ensures { OnOk result (own.new.items ≡ own.old.items ++ filter (touches n) (link.now ∷ [])) }
+{
+    if touches(n, link) {
+        let copy = link.copy(alloc)?;
+        own.push(copy)?;
+    }
+    Ok(())
+}
+
 // The links that this node is an end of.
-#[tactic(auto, using(std::proofs::lemmas::List::Elements::filter_more))]
 fn copy_own(alloc: Global, links: &[LinkSpec], n: NodeId) -> Result<Vec<LinkSpec>, OutOfMemory>
     ensures { IfOk result (λ v. v.items ≡ filter (touches n) links.now) }
 {
     let mut own = Vec::new(alloc);
     for link in links {
-        if touches(n, link) {
-            let copy = link.copy(alloc)?;
-            own.push(copy)?;
-        }
+        copy_if_own(&mut own, alloc, link, n)?;
     }
     Ok(own)
 }

@@ -1,3 +1,4 @@
+use Rattle.std.proofs.lemmas.List.{length-set}
 use Rattle.leg_table.specs.Tables.{is_of_lsp, with_back_labels}
 use Rattle.leg_table.proofs.Halved.{changed-found, changed-none}
 use Rattle.leg_table.proofs.legs.set_back.Goals as goal
@@ -11,3 +12,6 @@ pub returns-in_default-clause-changed : goal.returns-in_default-clause-changed
 returns-in_default-clause-changed c =
     changed-none (is_of_lsp c.args.lsp) (with_back_labels c.args.back_in c.args.back_out) c.in_default.ensures
     c.deref.ensures.value
+
+pub returns-in-Some-clause-len : goal.returns-in-Some-clause-len
+returns-in-Some-clause-len c = length-set _ _ _

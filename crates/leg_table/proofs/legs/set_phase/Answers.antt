@@ -1,3 +1,4 @@
+use Rattle.std.proofs.lemmas.List.{length-set}
 use Rattle.mesh_rules.specs.Legs.{with_phase}
 use Rattle.leg_table.specs.Tables.{is_of_lsp}
 use Rattle.leg_table.proofs.Halved.{changed-found, changed-none}
@@ -11,3 +12,6 @@ returns-in-Some-clause-changed c =
 pub returns-in_default-clause-changed : goal.returns-in_default-clause-changed
 returns-in_default-clause-changed c =
     changed-none (is_of_lsp c.args.lsp) (with_phase c.args.phase) c.in_default.ensures c.deref.ensures.value
+
+pub returns-in-Some-clause-len : goal.returns-in-Some-clause-len
+returns-in-Some-clause-len c = length-set _ _ _
