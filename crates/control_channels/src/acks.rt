@@ -5,9 +5,9 @@ ghost use Rattle.hop_reliable.specs.Hop.{HopState, heard_as};
 ghost use Rattle.control_channels.specs.Controllers.{acks_to};
 ghost use Rattle.control_channels.specs.Frames.{AllSpelled, frames_to};
 
+use crate::adjacencies::frame_one;
 use crate::frames::{Frame, FrameMaker};
 use ason_base::{NodeId, OutOfMemory, Packet};
-use flood::Content;
 use hop_reliable::Heard;
 
 /// The frame of the acknowledgement, where a packet is answered by one, goes to the end of the list.
@@ -25,9 +25,8 @@ pub fn acknowledge(
     ensures spelled { OnOk result (AllSpelled me (acks_to to heard p.now)) }
 {
     let answer = heard.answer(maker.alloc, p)?;
-    if let Some(ack) = answer {
-        let frame = maker.frame(me, to, &Content::Message(ack))?;
-        frames.push(frame)?;
+    match answer {
+        None => Ok(()),
+        Some(ack) => frame_one(maker, me, to, ack, frames),
     }
-    Ok(())
 }

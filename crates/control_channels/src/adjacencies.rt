@@ -230,8 +230,8 @@ pub fn age_all(adjacencies: &mut [Adjacency])
     }
 }
 
-// The frame of this packet goes to the end of the list.
-fn frame_one(
+/// The frame of this packet goes to the end of the list.
+pub(crate) fn frame_one(
     maker: &mut FrameMaker,
     me: NodeId,
     to: NodeId,
