@@ -1,6 +1,6 @@
 //! The channels that lead from a node.
 
-ghost use Rattle.std.specs.Prelude.{◌≡◌, ◌<◌, [], ◌∷◌, IfOk, OnOk, is_some, length, map, position};
+ghost use Rattle.std.specs.Prelude.{◌≡◌, ◌<◌, ◌++◌, [], ◌∷◌, IfOk, OnOk, if◌then◌else◌, is_some, length, map, position};
 ghost use Rattle.std.specs.List.{list_any};
 ghost use Rattle.std.specs.Option.{option_copied};
 ghost use Rattle.ason_base.specs.Network.{are_ends};
@@ -138,8 +138,24 @@ fn is_channel(t: &Topology, u: NodeId, d: NodeId) -> bool
     has_node(t, u) && has_node(t, d) && u != d && are_joined(t, u, d)
 }
 
+// The channel to this node, if one leads there, comes after those before it.
+fn add_channel(
+    channels: &mut Vec<Channel>,
+    alloc: Global,
+    t: &Topology,
+    n: NodeId,
+    m: NodeId,
+) -> Result<(), OutOfMemory>
+    ensures { OnOk result (channels.new.items ≡ channels.old.items ++
+        (if is_channel t.now n m then new_channel m ∷ [] else [])) }
+{
+    if is_channel(t, n, m) {
+        channels.push(Channel::new(alloc, m))?;
+    }
+    Ok(())
+}
+
 /// The channels from a node, on which nothing was sent, in order of the node to which they lead.
-#[tactic(auto, using(std::proofs::lemmas::List::Elements::filter_more))]
 pub(crate) fn new_channels(
     alloc: Global,
     t: &Topology,
@@ -149,9 +165,7 @@ pub(crate) fn new_channels(
 {
     let mut channels = Vec::new(alloc);
     for m in t.nodes() {
-        if is_channel(t, n, m.id) {
-            channels.push(Channel::new(alloc, m.id))?;
-        }
+        add_channel(&mut channels, alloc, t, n, m.id)?;
     }
     Ok(channels)
 }

@@ -1,6 +1,6 @@
 //! The migration of a list of events: what of it still is a run.
 
-ghost use Rattle.std.specs.Prelude.{IfOk};
+ghost use Rattle.std.specs.Prelude.{◌≡◌, ◌++◌, ◌∷◌, [], IfOk, OnOk};
 ghost use Rattle.world_core.specs.Migration.{AreKept};
 ghost use Rattle.world_rules.specs.Worlds.{start};
 
@@ -19,6 +19,14 @@ pub struct Migrated {
     pub left_out: u64,
 }
 
+// The event is kept too.
+fn keep(alloc: Global, kept: &mut Events, event: &Event) -> Result<(), OutOfMemory>
+    ensures { OnOk result (kept.new ≡ kept.old ++ event.now ∷ []) }
+{
+    let event = event.copy(alloc)?;
+    kept.push(event)
+}
+
 /// Those of these events, in order, that are enabled after the ones kept before. Each other one is left out.
 pub fn migrate(alloc: Global, t: &Topology, events: &[Event]) -> Result<Migrated, OutOfMemory>
     ensures kept { IfOk result (λ m. AreKept t.now (start t.now) events.now m.events m.left_out) }
@@ -28,7 +36,7 @@ pub fn migrate(alloc: Global, t: &Topology, events: &[Event]) -> Result<Migrated
     let mut left_out = 0;
     for event in events {
         match world.step(alloc, t, event) {
-            Ok(()) => kept.push(event.copy(alloc)?)?,
+            Ok(()) => keep(alloc, &mut kept, event)?,
             Err(Fault::NotEnabled) => left_out += 1,
             Err(Fault::OutOfMemory) => return Err(OutOfMemory),
         }

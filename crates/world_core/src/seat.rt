@@ -49,11 +49,13 @@ impl WorldSeat {
         requires { IsSome (find_node t.now id) }
         ensures { IfOk result (λ s. s ≡ new_seat t.now id) }
     {
+        let channels = new_channels(alloc, t, id)?;
+        let controller = Controller::new(alloc, t, id)?;
         Ok(WorldSeat {
             node: id,
-            controller: Controller::new(alloc, t, id)?,
+            controller,
             desk: VecDeque::new(alloc),
-            channels: new_channels(alloc, t, id)?,
+            channels,
         })
     }
 

@@ -1,8 +1,9 @@
 //! The seats of all nodes, in order of number.
 
-ghost use Rattle.std.specs.Prelude.{◌≡◌, ◌<◌, IfErr, IfOk, OnOk, Some, false, find, flat_map, length, map, position, slice_get, slice_set};
+ghost use Rattle.std.specs.Prelude.{◌≡◌, ◌<◌, ◌++◌, ◌∷◌, [], IfErr, IfOk, IsSome, OnOk, Some, false, find, flat_map, length, map, position, slice_get, slice_set};
 ghost use Rattle.std.specs.List.{list_all};
 ghost use Rattle.std.specs.Option.{option_copied};
+ghost use Rattle.ason_base.specs.Network.{find_node};
 ghost use Rattle.mesh_rules.specs.Rows.{call_rows, leg_rows};
 ghost use Rattle.world_core.specs.declared.faults.Fault.{Fault};
 ghost use Rattle.world_core.specs.Seats.{HasDoneAt, SeatState, can_do, frame_there, is_able, is_at, is_channel_there, is_quiet, new_seat, told, with_item};
@@ -15,14 +16,28 @@ use ason_base::{
 };
 use std::alloc::Global;
 
+// The seat of this node comes after those before it.
+fn push_seat(
+    seats: &mut Vec<WorldSeat>,
+    alloc: Global,
+    t: &Topology,
+    n: NodeId,
+) -> Result<(), OutOfMemory>
+    requires { IsSome (find_node t.now n) }
+    ensures { OnOk result (seats.new.items ≡ seats.old.items ++ new_seat t.now n ∷ []) }
+{
+    let seat = WorldSeat::new(alloc, t, n)?;
+    seats.push(seat)?;
+    Ok(())
+}
+
 /// A seat for each node.
 pub(crate) fn new_seats(alloc: Global, t: &Topology) -> Result<Vec<WorldSeat>, OutOfMemory>
     ensures { IfOk result (λ v. v.items ≡ map (λ m. new_seat t.now m.id) t.now.nodes) }
 {
     let mut seats = Vec::new(alloc);
     for m in t.nodes() {
-        let seat = WorldSeat::new(alloc, t, m.id)?;
-        seats.push(seat)?;
+        push_seat(&mut seats, alloc, t, m.id)?;
     }
     Ok(seats)
 }
