@@ -11,8 +11,9 @@ use Rattle.link_owner.specs.Owners.{OwnerState, claims_of, label_freed}
 use Rattle.share_check.specs.Guards.{Guard, GuardsNone}
 use Rattle.mesh_rules.specs.Legs.{is_at, reverse_of}
 use Rattle.mesh_nodes.proofs.LabelPlaces.{none-at}
-use Rattle.leg_table.specs.declared.labels.TakenLabel.{TakenLabel}
-use Rattle.leg_table.specs.LegClaims.{SameFibres, is_this, taken_back, taken_in, taken_over, takes_of}
+use Rattle.node_legs.specs.declared.labels.TakenLabel.{TakenLabel}
+use Rattle.leg_table.specs.LegClaims.{SameFibres, is_this, takes_of}
+use Rattle.node_legs.specs.TakenLabels.{taken_back, taken_in, taken_over}
 use Rattle.leg_table.proofs.OwnerFibres.{comes-kept, labels-kept, same_fibre-eq}
 use Rattle.leg_table.proofs.TakenLabels.{back-takes, in-takes}
 use Rattle.leg_labels.proofs.ClaimLists.{number}

@@ -11,7 +11,7 @@ use Rattle.link_owner.specs.declared.claims.Claim.{Claim}
 use Rattle.share_check.specs.Guards.{Guard, GuardsJust, is_guarded}
 use Rattle.mesh_nodes.proofs.Cases.{both_left, both_right, not-true}
 use Rattle.mesh_nodes.proofs.LegList.{same_lsp-eq, same_lsp-refl}
-use Rattle.leg_table.specs.declared.labels.TakenLabel.{TakenLabel}
+use Rattle.node_legs.specs.declared.labels.TakenLabel.{TakenLabel}
 use Rattle.leg_table.specs.LegClaims.{is_this}
 use Rattle.leg_table.proofs.OwnerFibres.{claims-elsewhere, claims-there, same_fibre-eq}
 use Rattle.leg_labels.proofs.ClaimedLabels.{iff}

@@ -13,7 +13,7 @@ use Rattle.mesh_rules.specs.Legs.{find_leg, is_work, takes, with_leg, without_le
 use Rattle.mesh_rules.specs.LocalNodes.{LocalNode}
 use Rattle.mesh_nodes.proofs.Cases.{both_left, both_right}
 use Rattle.mesh_nodes.proofs.LegList.{find-with_leg, find-without_leg, found-lsp, same_lsp-eq}
-use Rattle.leg_table.specs.declared.labels.TakenLabel.{TakenLabel}
+use Rattle.node_legs.specs.declared.labels.TakenLabel.{TakenLabel}
 use Rattle.leg_table.specs.LegClaims.{TakesNoMore, TakesOneMore, Took, is_this, takes_of}
 use Rattle.leg_table.proofs.OwnerFibres.{claimed-comes}
 use Rattle.leg_labels.proofs.GivenLegs.{this-to}

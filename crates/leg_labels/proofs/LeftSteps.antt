@@ -11,8 +11,8 @@ use Rattle.mesh_rules.specs.LocalNodes.{LocalNode}
 use Rattle.mesh_rules.specs.declared.changes.LegChange.{LegChange}
 use Rattle.mesh_rules.specs.declared.changes.LegChange.TheVariants.{Goes, Put}
 use Rattle.mesh_nodes.specs.Order.{LegsRise}
-use Rattle.leg_table.specs.declared.labels.TakenLabel.{TakenLabel}
-use Rattle.leg_table.specs.Edits.{leg_put}
+use Rattle.node_legs.specs.declared.labels.TakenLabel.{TakenLabel}
+use Rattle.node_legs.specs.Edits.{leg_put}
 use Rattle.leg_table.specs.LegClaims.{LabelsFit, MayBeMade, OwnerFits, SameFibres}
 use Rattle.leg_labels.proofs.GivenUp.{left-claims, left-guards, less}
 use Rattle.leg_labels.proofs.HeldLabels.{same-held}

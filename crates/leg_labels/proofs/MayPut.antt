@@ -13,7 +13,7 @@ use Rattle.mesh_rules.specs.LocalNodes.{LocalNode}
 use Rattle.mesh_nodes.proofs.LabelPlaces.{back_in-taken, either, is-at, label_in-taken, none-at}
 use Rattle.mesh_nodes.proofs.LegList.{found-lsp}
 use Rattle.leg_table.specs.LegClaims.{MayBePut, MayTake, StaysAs, TakesNoMore, TakesOneMore, Took, is_fibre_in, is_this, takes_of}
-use Rattle.leg_table.specs.declared.labels.TakenLabel.{TakenLabel}
+use Rattle.node_legs.specs.declared.labels.TakenLabel.{TakenLabel}
 
 -- Legs that take what their LSP's leg does
 

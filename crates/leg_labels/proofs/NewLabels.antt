@@ -10,9 +10,10 @@ use Rattle.mesh_rules.specs.LocalNodes.{LocalNode}
 use Rattle.mesh_rules.specs.declared.changes.LegChange.{LegChange}
 use Rattle.mesh_rules.specs.declared.changes.LegChange.TheVariants.{Goes, Put}
 use Rattle.mesh_nodes.proofs.LegList.{find-with_leg, find-without_leg, found-lsp}
-use Rattle.leg_table.specs.Edits.{leg_put}
-use Rattle.leg_table.specs.declared.labels.TakenLabel.{TakenLabel}
-use Rattle.leg_table.specs.LegClaims.{MayFollow, MayTake, TakesNoMore, TakesOneMore, Took, is_this, taken_back, taken_in, takes_of}
+use Rattle.node_legs.specs.Edits.{leg_put}
+use Rattle.node_legs.specs.declared.labels.TakenLabel.{TakenLabel}
+use Rattle.leg_table.specs.LegClaims.{MayFollow, MayTake, TakesNoMore, TakesOneMore, Took, is_this, takes_of}
+use Rattle.node_legs.specs.TakenLabels.{taken_back, taken_in}
 use Rattle.leg_table.proofs.TakenLabels.{back-takes, in-takes, takes-either}
 use Rattle.leg_labels.proofs.GivenLegs.{this-to}
 use Rattle.leg_labels.specs.LegHolds.{TakeNoMore, first_of, fresh_of, last_put, new_label}

@@ -13,7 +13,7 @@ use Rattle.share_check.specs.Guards.{Guard, GuardsNone, is_guarded}
 use Rattle.mesh_nodes.proofs.Cases.{both_left, both_right}
 use Rattle.mesh_nodes.proofs.LegList.{all-then, same_lsp-eq, same_lsp-refl}
 use Rattle.mesh_nodes.proofs.Links.{any-left}
-use Rattle.leg_table.specs.declared.labels.TakenLabel.{TakenLabel}
+use Rattle.node_legs.specs.declared.labels.TakenLabel.{TakenLabel}
 use Rattle.leg_table.specs.LegClaims.{GuardsBy, SameFibres, claim_by, claimed_by, is_this}
 use Rattle.leg_table.proofs.OwnerFibres.{claims-elsewhere, claims-there, comes-kept, labels-kept, same_fibre-eq, same_fibre-refl}
 use Rattle.leg_labels.proofs.ClaimLists.{all-one_more, any-first, any-last, number, same_number}

@@ -10,7 +10,7 @@ use Rattle.link_owner.specs.Claims.{FibreClaims, freed, is_of_lsp}
 use Rattle.link_owner.specs.Owners.{OwnerState, claims_of, comes_in, has_label, label_freed, with_claims}
 use Rattle.link_owner.specs.declared.claims.Claim.{Claim}
 use Rattle.mesh_nodes.proofs.LegList.{same_lsp-refl}
-use Rattle.leg_table.specs.declared.labels.TakenLabel.{TakenLabel}
+use Rattle.node_legs.specs.declared.labels.TakenLabel.{TakenLabel}
 use Rattle.leg_table.specs.LegClaims.{claim_by, claimed_by}
 use Rattle.leg_labels.proofs.ClaimLists.{same_number}
 use Rattle.leg_table.proofs.OwnerFibres.{claims-there, comes-kept}

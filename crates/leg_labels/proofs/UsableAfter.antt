@@ -21,7 +21,7 @@ use Rattle.mesh_nodes.proofs.LabelPlaces.{either, or-first, or-second}
 use Rattle.mesh_nodes.proofs.LegList.{find-with_leg, same_lsp-eq}
 use Rattle.mesh_nodes.proofs.Links.{any-found}
 use Rattle.leg_table.specs.LegClaims.{MayBePut, MayFollow, MayTake, StaysAs, TakesNoMore, takes_of}
-use Rattle.leg_table.specs.declared.labels.TakenLabel.{TakenLabel}
+use Rattle.node_legs.specs.declared.labels.TakenLabel.{TakenLabel}
 
 -- Lists with a leg
 

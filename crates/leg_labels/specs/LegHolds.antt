@@ -17,9 +17,10 @@ use Rattle.mesh_rules.specs.LocalNodes.{LocalNode}
 use Rattle.mesh_rules.specs.declared.changes.LegChange.{LegChange}
 use Rattle.mesh_rules.specs.declared.changes.LegChange.TheVariants.{Goes, Put}
 use Rattle.share_check.specs.Guards.{Guard, GuardsNone, is_guarded}
-use Rattle.leg_table.specs.Edits.{leg_put}
-use Rattle.leg_table.specs.LegClaims.{MayFollow, TakesNoMore, bars, claim_kind, is_this, taken_back, taken_in, takes_of}
-use Rattle.leg_table.specs.declared.labels.TakenLabel.{TakenLabel}
+use Rattle.node_legs.specs.Edits.{leg_put}
+use Rattle.leg_table.specs.LegClaims.{MayFollow, TakesNoMore, bars, claim_kind, is_this, takes_of}
+use Rattle.node_legs.specs.TakenLabels.{taken_back, taken_in}
+use Rattle.node_legs.specs.declared.labels.TakenLabel.{TakenLabel}
 
 -- What is held
 

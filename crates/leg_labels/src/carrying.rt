@@ -7,7 +7,7 @@ ghost use Rattle.link_owner.specs.Marks.{has_fibre};
 ghost use Rattle.mesh_rules.specs.Changes.{learnt_after};
 ghost use Rattle.mesh_rules.specs.declared.changes.LegChange.TheVariants.{Goes, Put};
 ghost use Rattle.mesh_rules.specs.Legs.{find_leg, leg_changed, legs_changed, with_leg, without_leg};
-ghost use Rattle.leg_table.specs.Edits.{leg_put};
+ghost use Rattle.node_legs.specs.Edits.{leg_put};
 ghost use Rattle.leg_table.specs.Handled.{IsCarriedOut, MayBeCarriedOut};
 ghost use Rattle.leg_table.specs.LegClaims.{AreOfOneNode, ClaimsFit, LabelsFit, MarksFit, MayAllMark, MayAllStay, MayBeMade, MayMark, MayMarkSo, MayStay, OwnerFits, SameFibres, SharesStay, is_own_fibre};
 ghost use Rattle.leg_table.specs.States.{local_of};

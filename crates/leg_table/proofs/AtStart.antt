@@ -20,7 +20,7 @@ use Rattle.leg_table.specs.Fits.{TablesFit}
 use Rattle.leg_table.specs.LegClaims.{ClaimsFit, OwnerFits}
 use Rattle.mesh_rules.specs.State.{new_node}
 use Rattle.leg_table.specs.States.{learnt_rows, local_of, no_call, state_of}
-use Rattle.leg_table.specs.Tables.{LegTable, new_table, node_or_none, table_of}
+use Rattle.node_legs.specs.LegTables.{LegTable, new_table, node_or_none, table_of}
 
 -- no label is claimed
 none-there : (n : NodeId) (f : Fibre) (links : List LinkSpec) → claims_of f (map (fibre_unclaimed n) links) ≡ []

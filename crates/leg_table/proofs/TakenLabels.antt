@@ -6,8 +6,9 @@ use Rattle.ason_base.specs.declared.tables.Leg.{Leg}
 use Rattle.ason_base.specs.Lsps.{same_fibre}
 use Rattle.mesh_rules.specs.Legs.{is_at, reverse_of, takes}
 use Rattle.mesh_nodes.proofs.LabelPlaces.{at-is, back_in-taken, either, is-at, label_in-taken}
-use Rattle.leg_table.specs.declared.labels.TakenLabel.{TakenLabel}
-use Rattle.leg_table.specs.LegClaims.{is_this, taken_back, taken_in, taken_over}
+use Rattle.node_legs.specs.declared.labels.TakenLabel.{TakenLabel}
+use Rattle.leg_table.specs.LegClaims.{is_this}
+use Rattle.node_legs.specs.TakenLabels.{taken_back, taken_in, taken_over}
 
 at-over : (i : Option Fibre) (y : Option ℕ) (f : Fibre) (x : ℕ) → is_at i y f x ≡ true →
     taken_over i y ≡ Some (record { fibre = f; label = x })

@@ -9,7 +9,7 @@ use Rattle.mesh_nodes.specs.FitNodes.{LegsFit}
 use Rattle.mesh_nodes.specs.LocalNodes.{LocalNodeFits}
 use Rattle.leg_table.specs.LegClaims.{AreOfOneNode, ClaimsFit, OwnerFits}
 use Rattle.leg_table.specs.States.{learnt_rows, local_of}
-use Rattle.leg_table.specs.Tables.{LegTable}
+use Rattle.node_legs.specs.LegTables.{LegTable}
 
 -- the legs fit, with some next LSP number that is above those of the LSPs that begin here
 abbrev pub OwnLegsFit : LegTable → Type 0

@@ -10,7 +10,8 @@ use Rattle.mesh_rules.specs.Legs.{legs_changed}
 use Rattle.leg_table.specs.Fits.{OwnLegsFit, TablesFit, TablesFitOwner, legs_after}
 use Rattle.leg_table.specs.LegClaims.{AreOfOneNode, MayAllMark, MayAllStay, MayBeMade, SharesStay, StaysOfOneNode, is_own_fibre}
 use Rattle.leg_table.specs.States.{local_of, state_of}
-use Rattle.leg_table.specs.Tables.{CallTable, LegTable}
+use Rattle.node_legs.specs.LegTables.{LegTable}
+use Rattle.node_calls.specs.CallTables.{CallTable}
 
 -- What is handed back: what is to be sent, in order, or that memory was wanting
 abbrev pub Handed : Type 0

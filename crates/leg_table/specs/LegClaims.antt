@@ -26,23 +26,10 @@ use Rattle.mesh_rules.specs.declared.changes.LegChange.{LegChange}
 use Rattle.mesh_rules.specs.declared.changes.LegChange.TheVariants.{Goes, Put}
 use Rattle.share_check.specs.Guards.{GuardsJust, is_guarded, Guard}
 use Rattle.leg_table.specs.States.{learnt_rows, local_of}
-use Rattle.leg_table.specs.Tables.{LegTable}
-use Rattle.leg_table.specs.declared.labels.TakenLabel.{TakenLabel}
+use Rattle.node_legs.specs.LegTables.{LegTable}
+use Rattle.node_legs.specs.declared.labels.TakenLabel.{TakenLabel}
 
 -- The labels that a leg takes
-
-abbrev pub taken_over : Option Fibre → Option ℕ → Option TakenLabel
-taken_over None x = None
-taken_over (Some f) None = None
-taken_over (Some f) (Some x) = Some (record { fibre = f; label = x })
-
--- its label in, and the fibre that it is on
-abbrev pub taken_in : Leg → Option TakenLabel
-taken_in g = taken_over g.in_fibre g.in_label
-
--- its back label in, on the fibre that comes back from its next node
-abbrev pub taken_back : Leg → Option TakenLabel
-taken_back g = taken_over (reverse_of g.out_fibre) g.back_in
 
 abbrev pub is_this : TakenLabel → Fibre → ℕ → Bool
 is_this t f x = same_fibre t.fibre f && t.label == x

@@ -1,9 +1,5 @@
-pub mod CallLists
-pub mod Edits
 pub mod Fits
 pub mod Handled
-pub mod Keyed
 pub mod LegClaims
-pub mod LspIndexes
 pub mod States
 pub mod Tables

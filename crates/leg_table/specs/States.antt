@@ -3,7 +3,8 @@ use Rattle.std.specs.Prelude.{List, [], drop, length}
 use Rattle.ason_base.specs.declared.network.TeRow.{TeRow}
 use Rattle.mesh_rules.specs.LocalNodes.{LocalNode}
 use Rattle.mesh_rules.specs.State.{NodeState}
-use Rattle.leg_table.specs.Tables.{CallTable, LegTable}
+use Rattle.node_legs.specs.LegTables.{LegTable}
+use Rattle.node_calls.specs.CallTables.{CallTable}
 
 abbrev pub local_of : LegTable → LocalNode
 local_of t = record { id = t.node.id; convert = t.node.convert; wait = t.wait; own = t.own }

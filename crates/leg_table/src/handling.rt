@@ -3,9 +3,8 @@
 ghost use Rattle.std.specs.Prelude.{Ok};
 ghost use Rattle.leg_table.specs.Handled.{AreFibresHandled};
 
-use crate::changes::Change;
-use crate::tables::NodeTables;
 use ason_base::Outs;
+use node_legs::{Change, NodeTables};
 
 /// Carries out what a change does to the fibres that are known to be down, and hands back what is to be sent, in order.
 /// It takes no memory.

@@ -3,11 +3,11 @@
 ghost use Rattle.std.specs.Prelude.{◌≡◌, []};
 ghost use Rattle.link_owner.specs.Owners.{unowned};
 ghost use Rattle.leg_table.specs.Fits.{TablesFit};
-ghost use Rattle.leg_table.specs.Tables.{new_table};
+ghost use Rattle.node_legs.specs.LegTables.{new_table};
 
-use crate::tables::NodeTables;
 use ason_base::{NodeId, Topology};
 use link_owner::Owner;
+use node_legs::NodeTables;
 use share_check::Shares;
 
 /// Law: the tables, the owner and the shares of a node fit at the start.

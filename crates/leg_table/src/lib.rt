@@ -1,22 +1,10 @@
-//! What a node keeps: its own links and those that it knows, its legs and its calls; what a rule changes of it; and
-//! carrying out what takes no label.
+//! What a node keeps: its own links and those that it knows, its legs and its calls; what a rule changes of it; the owner
+//! and the shares that are of one node with it; and carrying out what takes no label.
 #![tactic(auto)]
 
-pub mod boxes;
-pub mod call_list;
-mod call_table;
-mod calls;
-pub mod changes;
-mod edits;
 pub mod handling;
-mod keyed;
-pub mod labels;
 pub mod laws;
-pub mod legs;
-mod lsp_index;
-pub mod one_leg;
-mod tables;
 
-pub use call_table::Calls;
-pub use changes::Change;
-pub use tables::{NodeTables, PutFault, add_fibre};
+pub use node_calls::{Calls, call_list};
+pub use node_legs::{Change, NodeTables, PutFault, boxes, changes, labels, legs, one_leg};
+pub use table_lists::add_fibre;

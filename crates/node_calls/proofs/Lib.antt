@@ -1,0 +1,6 @@
+mod CallIndexes
+mod CallOrder
+mod CallsByLsp
+mod IndexChanges
+mod LspIndex
+mod LspOrder

@@ -1,0 +1,3 @@
+pub mod CallLists
+pub mod CallTables
+pub mod LspIndexes

@@ -1,0 +1,136 @@
+//! Legs in boxes: where one comes or goes, a list of these moves the boxes behind it, and no leg.
+
+ghost use Rattle.std.specs.Prelude.{◌≡◌, IfOk};
+ghost use Rattle.std.specs.Option.{option_copied};
+ghost use Rattle.mesh_rules.specs.declared.changes.LegChange.TheVariants as changes;
+ghost use Rattle.mesh_rules.specs.Legs.{with_phase};
+ghost use Rattle.node_legs.specs.Edits.{change_of, leg_put};
+ghost use Rattle.node_legs.specs.LegTables.{with_back_labels, with_labels};
+
+use ason_base::{Copied, Label, Leg, Lsp, OutOfMemory, Phase};
+use std::alloc::Global;
+use std::marker::Model;
+
+/// A leg in a box.
+#[derive(Drop)]
+pub struct BoxedLeg {
+    leg: Box<Leg>,
+}
+
+impl Model for BoxedLeg {
+    ghost use Rattle.ason_base.specs.declared.tables.Leg.{Leg};
+
+    ghost Value = { Leg };
+
+    ghost view = { λ b. b.leg.value };
+}
+
+impl BoxedLeg {
+    pub fn new(alloc: Global, leg: Leg) -> Result<BoxedLeg, OutOfMemory>
+        ensures { IfOk result (λ b. b ≡ leg) }
+    {
+        let leg = Box::new(alloc, leg)?;
+        Ok(BoxedLeg { leg })
+    }
+
+    pub fn leg(&self) -> &Leg
+        ensures { result.now ≡ self.now }
+    {
+        &self.leg
+    }
+
+    pub fn set_phase(&mut self, phase: Phase)
+        ensures { self.new ≡ with_phase phase self.old }
+    {
+        self.leg.phase = phase;
+    }
+
+    pub fn set_labels(&mut self, in_label: Option<Label>, out_label: Option<Label>)
+        ensures { self.new ≡ with_labels in_label out_label self.old }
+    {
+        self.leg.in_label = in_label;
+        self.leg.out_label = out_label;
+    }
+
+    pub fn set_back(&mut self, back_in: Option<Label>, back_out: Option<Label>)
+        ensures { self.new ≡ with_back_labels back_in back_out self.old }
+    {
+        self.leg.back_in = back_in;
+        self.leg.back_out = back_out;
+    }
+
+    pub fn into_leg(self) -> Leg
+        ensures { result ≡ self }
+    {
+        Box::into_inner(self.leg)
+    }
+}
+
+impl Copied for BoxedLeg {
+    fn copy(&self, alloc: Global) -> Result<BoxedLeg, OutOfMemory>
+        ensures { IfOk result (λ b. b ≡ self.now) }
+    {
+        let leg = self.leg.copy(alloc)?;
+        BoxedLeg::new(alloc, leg)
+    }
+}
+
+/// What becomes of a leg, which is in a box where it is put.
+#[derive(Drop)]
+pub enum BoxedChange {
+    Goes(Lsp),
+    Put(BoxedLeg),
+}
+
+/// A change of a leg, for which memory was taken.
+#[derive(Drop)]
+pub struct LegEdit {
+    change: BoxedChange,
+}
+
+impl Model for LegEdit {
+    ghost use Rattle.mesh_rules.specs.declared.changes.LegChange.{LegChange};
+
+    ghost Value = { LegChange };
+
+    ghost use Rattle.node_legs.specs.Edits.{change_of};
+
+    ghost view = { λ e. change_of e.change };
+}
+
+impl LegEdit {
+    /// The leg of this LSP goes.
+    pub fn goes(lsp: Lsp) -> LegEdit
+        ensures { result ≡ changes.Goes lsp }
+    {
+        LegEdit {
+            change: BoxedChange::Goes(lsp),
+        }
+    }
+
+    /// The leg is put in its place.
+    pub fn puts(alloc: Global, leg: Leg) -> Result<LegEdit, OutOfMemory>
+        ensures { IfOk result (λ e. e ≡ changes.Put leg) }
+    {
+        let leg = BoxedLeg::new(alloc, leg)?;
+        Ok(LegEdit {
+            change: BoxedChange::Put(leg),
+        })
+    }
+
+    /// The leg that is put; none where one goes.
+    pub fn leg(&self) -> Option<&Leg>
+        ensures { option_copied result ≡ leg_put self.now }
+    {
+        match &self.change {
+            BoxedChange::Goes(_) => None,
+            BoxedChange::Put(leg) => Some(leg.leg()),
+        }
+    }
+
+    pub fn into_change(self) -> BoxedChange
+        ensures { change_of result ≡ self }
+    {
+        self.change
+    }
+}
