@@ -11,13 +11,12 @@ pub mod OneMerge
 pub mod PlanRuns
 pub mod Printing
 pub mod Replies
+pub mod RoundLines
 pub mod Rounded
 pub mod Rounding
 pub mod Scripts
-pub mod Settling
 pub mod SurveyRuns
 pub mod TraceReplies
 pub mod Tracing
 pub mod Viewed
-pub mod Waiting
 pub mod WatchReplies

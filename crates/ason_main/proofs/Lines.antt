@@ -24,7 +24,7 @@ use Rattle.plan_reader.specs.declared.plan.Plan.{Plan}
 use Rattle.table_text.specs.TableText.{table_text, unsettled_text}
 use Rattle.script_rules.specs.Stages.{with_line, with_post, world_at}
 use Rattle.script_rules.specs.Tables.{IsTable, IsUnsettledLine, call_before, leg_before, unsettled_line}
-use Rattle.ason_main.specs.Running.{AreLed, Does, Stays, Tells, TellsUnsettled}
+use Rattle.ason_main.specs.Running.{AreLed, Does, IsFleetTable, Stays, Tells, TellsUnsettled}
 use Rattle.ason_main.proofs.Rounding.{led_none, led_one}
 
 -- What lines do
@@ -165,8 +165,8 @@ sorted_table t f rows sorted are order lines r stands = record {
   legs = order.legs;
 }
 
-pub tells_table : (p : Plan) (f : FleetState) (rows sorted : TableRows) (text : List ℕ) → AreRows f rows →
-    AreInOrder rows sorted → text ≡ table_text p sorted → Tells p Show f text
-tells_table p f rows sorted text are order is = record {
-  tells = λ lines r stands. (sorted, sorted_table p.topology f rows sorted are order lines r stands, is);
+pub tells_table : (p : Plan) (f : FleetState) (rows : TableRows) (text : List ℕ) → IsFleetTable f rows →
+    text ≡ table_text p rows → Tells p Show f text
+tells_table p f rows text table is = record {
+  tells = λ lines r stands. (rows, table p.topology lines r stands, is);
 }

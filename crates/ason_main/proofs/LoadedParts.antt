@@ -18,8 +18,7 @@ use Rattle.script_rules.proofs.Follows.{last_append}
 use Rattle.ason_main.specs.declared.runner.stops.Stop.{Stop}
 use Rattle.ason_main.specs.Loads.{AreLoaded, Part, PartsPrint, PhasePrints, ShowsPhase, StopsLoad, TellsMore, TellsPhase, part}
 use Rattle.ason_main.specs.Outputs.{silent_on}
-use Rattle.ason_main.specs.Running.{CanDoAll, DoesAll, StandsYet, StopsAll, at}
-use Rattle.ason_main.proofs.Lines.{AreInOrder, AreRows, sorted_table}
+use Rattle.ason_main.specs.Running.{CanDoAll, DoesAll, IsFleetTable, StandsYet, StopsAll, at}
 use Rattle.ason_main.proofs.Printing.{prints_nothing}
 use Rattle.ason_main.proofs.Rounding.{led_at, led_both, led_none}
 use Rattle.ason_main.proofs.SurveyRuns.{nothing_printed}
@@ -75,10 +74,10 @@ parts_nothing p (x ∷ parts) s k stopped = (
 )
 
 -- the rows of the stations, in order, give the line
-pub tells_phase : (p : Plan) (phase : LoadPhase) (f : FleetState) (rows sorted : TableRows) (text : List ℕ) →
-    AreRows f rows → AreInOrder rows sorted → text ≡ phase_text phase sorted.calls → TellsPhase p phase f text
-tells_phase p phase f rows sorted text are order is = record {
-  tells = λ lines r stands. (sorted, sorted_table p.topology f rows sorted are order lines r stands, is);
+pub tells_phase : (p : Plan) (phase : LoadPhase) (f : FleetState) (rows : TableRows) (text : List ℕ) →
+    IsFleetTable f rows → text ≡ phase_text phase rows.calls → TellsPhase p phase f text
+tells_phase p phase f rows text table is = record {
+  tells = λ lines r stands. (rows, table p.topology lines r stands, is);
 }
 
 -- Parts that are done from the start on

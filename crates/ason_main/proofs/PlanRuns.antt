@@ -1,6 +1,6 @@
 -- The run of a plan, and what is written of it.
 use Rattle.std.proofs.Common.{◌≡◌, ℕ, List, [], ◌∷◌, ◌++◌, refl, sym, ap, ◌∙◌, subst}
-use Rattle.std.specs.Prelude.{Option, None, Some}
+use Rattle.std.specs.Prelude.{IfErr, OnOk, Option, None, Some, Result, Ok, Err}
 use Rattle.std.specs.List.{AllByRecursion}
 use Rattle.ason_base.specs.declared.ids.CallNo.{CallNo}
 use Rattle.ason_base.specs.declared.ids.NodeId.{NodeId}
@@ -19,8 +19,10 @@ use Rattle.script_rules.proofs.Alone.{one_list}
 use Rattle.script_rules.proofs.Grows.{scripts_grow}
 use Rattle.script_rules.proofs.Stops.{stops_full}
 use Rattle.ason_main.specs.RunLaws.{RunLaws}
-use Rattle.ason_main.specs.Outputs.{HasBeenCut, HasEnded, IsBegun, IsCutShort, IsKept, IsOneRun, IsOutput, IsTheCut, IsTheOutput, end_of}
-use Rattle.ason_main.specs.Running.{AreBegun, AreLed, DoesAll, EndsIn, FailsIn, HasStood, HasWritten, HasWrittenPart, RunState, StandsAt, StandsYet}
+use Rattle.ason_main.specs.declared.runner.run.Ran.{Ran}
+use Rattle.ason_main.specs.declared.runner.stops.Stop.{Stop}
+use Rattle.ason_main.specs.Outputs.{HasBeenCut, HasEnded, IsBegun, IsCutShort, IsKept, IsOneRun, IsOutput, IsRan, IsTheCut, IsTheOutput, end_of, ran_of}
+use Rattle.ason_main.specs.Running.{AreBegun, AreLed, DoesAll, EndsIn, FailsIn, HasStood, HasWritten, HasWrittenPart, RunState, StandsAt, StandsYet, StopsAll, at}
 
 -- Lines that can be posted
 
@@ -170,3 +172,32 @@ pub run_starved : RunLaws → (p : Plan) (how : How) (a b : RunState) → IsNew 
 run_starved laws p how a b new ends =
     let x = ends.part new_stage (starts p a.fleet new) (postable_script 1000 p new.postable) in
     ((x.0, begun laws p how a.fleet b.fleet x.0 new x.1, x.2), x.1.yet)
+
+-- How a run ended
+
+pub is_ran : {K T : Type 0} (written : K → Option (List ℕ)) (faults : K → ℕ) → RunLaws → (p : Plan) (how : How)
+    (f g : FleetState) (old new : K) → IsNew p f → (r : Result T Stop) →
+    OnOk r (DoesAll p how (script_of p) (at f (written old) (faults old)) (at g (written new) (faults new)) None) →
+    IfErr r (StopsAll p how (script_of p) (at f (written old) (faults old)) (at g (written new) (faults new))) →
+    IsRan written faults p how g old new (ran_of r)
+is_ran written faults laws p how f g old new is (Ok x) done stops = (
+  done.rises,
+  run_ended laws p how (at f (written old) (faults old)) (at g (written new) (faults new)) is done,
+)
+is_ran written faults laws p how f g old new is (Err (Stop.AtLimit n)) done stops = (
+  stops.rises,
+  run_cut laws p how n (at f (written old) (faults old)) (at g (written new) (faults new)) is stops,
+)
+is_ran written faults laws p how f g old new is (Err Stop.Failed) done stops =
+    let x = run_failed laws p how (at f (written old) (faults old)) (at g (written new) (faults new)) is stops in
+    (stops.rose, x.0, x.1)
+is_ran written faults laws p how f g old new is (Err Stop.OutOfMemory) done stops =
+    let x = run_starved laws p how (at f (written old) (faults old)) (at g (written new) (faults new)) is stops in
+    (stops.rises, x.0, x.1)
+
+-- what holds of a script that was done
+pub if_ended : {T : Type 0} (r : Result T Stop) (V : Type 0) → OnOk r V → ran_of r ≡ Ran.Ended → V
+if_ended (Ok x) V holds ended = holds
+if_ended (Err (Stop.AtLimit n)) V holds ended = absurd (cc (ended))
+if_ended (Err Stop.Failed) V holds ended = absurd (cc (ended))
+if_ended (Err Stop.OutOfMemory) V holds ended = absurd (cc (ended))

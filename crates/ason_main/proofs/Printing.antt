@@ -14,8 +14,7 @@ use Rattle.plan_reader.specs.declared.plan.Plan.{Plan}
 use Rattle.script_rules.specs.Outputs.{How, LinePrints, Prints, PrintsFirst, Shows, UnlessStopped}
 use Rattle.script_rules.specs.Stages.{LineMakes, Stage, is_stopped, last_of, world_at}
 use Rattle.script_rules.proofs.Follows.{lines_follow}
-use Rattle.ason_main.proofs.Settling.{settles_stay}
-use Rattle.ason_main.proofs.Waiting.{waits_stay}
+use Rattle.ason_main.proofs.RoundLines.{rounds_stay}
 
 -- One line
 
@@ -48,8 +47,8 @@ stopped_makes : (t : Network) (workers : ℕ) (line : Line) (s : Stage) → is_s
 stopped_makes t workers (Post c) s stop = rw stop refl
 stopped_makes t workers (said.Disturb d) s stop = rw stop refl
 stopped_makes t workers (Noise u d bytes) s stop = rw stop refl
-stopped_makes t workers (Settle rounds) s stop = settles_stay t workers rounds s stop
-stopped_makes t workers (Wait rounds) s stop = waits_stay t workers rounds s stop
+stopped_makes t workers (Settle rounds) s stop = rounds_stay true t workers rounds s stop
+stopped_makes t workers (Wait rounds) s stop = rounds_stay false t workers rounds s stop
 stopped_makes t workers Show s stop = refl
 
 pub prints_nothing : (p : Plan) (how : How) (lines : List Line) (s : Stage) (k : NodeId) → s.stopped ≡ Some k →

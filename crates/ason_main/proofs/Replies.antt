@@ -1,5 +1,5 @@
 -- What is answered to an input, of what was written.
-use Rattle.std.proofs.Common.{◌≡◌, ◌≤◌, ◌∙◌, ℕ, List, [], ◌++◌, take, inl, inr, refl, sym, subst, append-nil}
+use Rattle.std.proofs.Common.{◌≡◌, ◌≢◌, ◌≤◌, ◌∙◌, ℕ, List, [], ◌++◌, take, inl, inr, refl, sym, subst, append-nil}
 use Rattle.std.specs.Prelude.{Option, Some, None, Ok, Err}
 use Rattle.std.specs.Io.KnownBytes.{Appends}
 use Rattle.std.proofs.KnownBytes.{Appends-nil, Appends-trans}
@@ -13,7 +13,7 @@ use Rattle.trace_text.specs.TraceRead.{IsRefused as IsRefusedTrace}
 use Rattle.table_text.specs.TableText.{stopped_text}
 use Rattle.ason_main.specs.declared.answers.Status.{Status}
 use Rattle.ason_main.specs.Answers.{Ask, Check, Decode, Done, EventLimit, PlanRefused, Reply, Request, Run, Survey, Trace, Unfinished, Watch}
-use Rattle.ason_main.specs.Answers.{HasKept, IsAnswered, IsJudged, IsReply, IsReplyTo, MayKeep, TellsItsRun, TellsRun, TellsRunFor, WasTold, WasToldOrNothing, printing}
+use Rattle.ason_main.specs.Answers.{HasKept, IsAnswered, IsJudged, IsReply, IsReplyTo, MayKeep, TakesPlan, TellsItsRun, TellsRun, TellsRunFor, WasTold, WasToldOrNothing, printing, request_for}
 use Rattle.ason_main.specs.declared.runner.stops.Stop.{Stop}
 use Rattle.fleet.specs.Standing.{FleetState}
 use Rattle.script_rules.specs.Outputs.{How, script_of}
@@ -22,6 +22,7 @@ use Rattle.ason_main.specs.Outputs.{HasBeenCut, HasEnded, IsBegun, IsKept, IsThe
 use Rattle.ason_main.specs.Surveys.{StopsSurvey, TellsTheSurvey}
 use Rattle.command_words.specs.Paces.{PaceView}
 use Rattle.command_words.specs.Tasks.{task_of}
+use Rattle.command_words.specs.declared.tasks.Inquiry.{Inquiry}
 use Rattle.command_words.specs.declared.tasks.Task.{Task}
 use Rattle.ason_main.specs.Running.{HasWritten, HasWrittenPart, StandsYet}
 use Rattle.ason_main.proofs.Printing.{part_after}
@@ -229,15 +230,15 @@ no_memory written faults k bs out kept none = (
   other_status k (Unfinished []) Status.OutOfMemory Status.OutOfMemory refl (λ e. absurd (cc (e))),
 )
 
--- a plan is asked for
-abbrev pub TakesPlan : Request → Type 0
-TakesPlan (Run pace) = Unit {0}
-TakesPlan (Trace pace) = Unit {0}
-TakesPlan (Watch pace name) = Unit {0}
-TakesPlan Check = ⊥
-TakesPlan Decode = ⊥
-TakesPlan Survey = Unit {0}
-TakesPlan (Ask question from to) = Unit {0}
+pub takes_plan : (words : List (List ℕ)) (q : Inquiry) → q ≢ Inquiry.Check → q ≢ Inquiry.Decode →
+    TakesPlan (request_for words q)
+takes_plan words (Inquiry.Run pace) check decode = tt
+takes_plan words (Inquiry.Trace pace) check decode = tt
+takes_plan words (Inquiry.Watch pace behind) check decode = tt
+takes_plan words Inquiry.Check check decode = absurd (check refl)
+takes_plan words Inquiry.Decode check decode = absurd (decode refl)
+takes_plan words Inquiry.Survey check decode = tt
+takes_plan words (Inquiry.Ask question) check decode = tt
 
 fault_judged : (k : Request) (bs : List ℕ) (f : PlanFault) (kept : Option FleetState) → TakesPlan k →
     PlanOf bs (Err f) → kept ≡ None → IsJudged k bs (PlanRefused (refused_text f)) kept

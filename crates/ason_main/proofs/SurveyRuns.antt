@@ -35,9 +35,8 @@ use Rattle.script_rules.proofs.Lawful.{HasOneTable, lawful_table}
 use Rattle.script_rules.proofs.OneTable.{one_table}
 use Rattle.table_text.specs.TableText.{stopped_text}
 use Rattle.ason_main.specs.Outputs.{HasBeenCut, HasEnded, IsBegun, IsKept, IsOneRun, IsStoppedSilently, IsTheCut, IsTheOutput, end_of, silent_on}
-use Rattle.ason_main.specs.Running.{HasWritten, HasWrittenPart}
+use Rattle.ason_main.specs.Running.{HasWritten, HasWrittenPart, IsFleetTable}
 use Rattle.ason_main.specs.Surveys.{HoldsOf, IsCalmWorld, IsSurveyOf, IsTheSurvey, TellsSurvey, TellsTheSurvey, silent}
-use Rattle.ason_main.proofs.Lines.{AreInOrder, AreRows, sorted_table}
 
 -- Rows
 
@@ -129,17 +128,17 @@ calm_holds law t r rows valid lawful table is m merge = record {
 -- One survey
 
 -- what the stations' rows give, in order, is told
-pub tells_survey : (p : Plan) (f : FleetState) (rows sorted : TableRows) (calm : Bool) (text : List ℕ) →
-    AreRows f rows → AreInOrder rows sorted →
+pub tells_survey : (p : Plan) (f : FleetState) (rows : TableRows) (calm : Bool) (text : List ℕ) →
+    IsFleetTable f rows →
     ((t : Network) (lines : List Disturb) (r : Record) → StandsFor t lines f r →
-    IsTrue calm ↔ IsCalmWorld (world_of t r) sorted.legs) →
-    text ≡ survey_text p calm (hits_of p.topology sorted.calls sorted.legs)
-    (contends_of p.topology sorted.calls sorted.legs) →
+    IsTrue calm ↔ IsCalmWorld (world_of t r) rows.legs) →
+    text ≡ survey_text p calm (hits_of p.topology rows.calls rows.legs)
+    (contends_of p.topology rows.calls rows.legs) →
     TellsSurvey p f text
-tells_survey p f rows sorted calm text are order exact told = record {
+tells_survey p f rows calm text table exact told = record {
   tells = λ lines r stands. record {
-    rows = sorted;
-    table = sorted_table p.topology f rows sorted are order lines r stands;
+    rows = rows;
+    table = table p.topology lines r stands;
     calm = calm;
     exact = exact p.topology lines r stands;
     told = told;

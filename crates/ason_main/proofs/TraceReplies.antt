@@ -35,9 +35,8 @@ use Rattle.script_rules.proofs.OneTable.{one_table}
 use Rattle.ason_main.specs.declared.answers.Status.{Status}
 use Rattle.ason_main.specs.Answers.{Done, EventLimit, IsAnswered, Trace, Unfinished, WasToldOrNothing}
 use Rattle.ason_main.specs.Outputs.{HasBeenCut, HasEnded, IsBegun, IsOneRun, IsTheOutput, end_of, silent_on}
-use Rattle.ason_main.specs.Running.{HasWritten, HasWrittenPart, StandsYet}
+use Rattle.ason_main.specs.Running.{HasWritten, HasWrittenPart, IsFleetTable, StandsYet}
 use Rattle.ason_main.specs.Traces.{IsTheTrace, IsTraceOf, IsTraceOfRun, IsWholeTraceOf, StopsTrace, TellsTrace, TellsWholeTrace}
-use Rattle.ason_main.proofs.Lines.{AreInOrder, AreRows, sorted_table}
 use Rattle.ason_main.proofs.OneLine.{rose_later}
 use Rattle.ason_main.proofs.OneMerge.{one_merge}
 use Rattle.ason_main.proofs.Replies.{made_yet, other_status, told_after, told_other}
@@ -47,15 +46,15 @@ use Rattle.ason_main.proofs.SurveyRuns.{begun_silently, cut_silently, ended_sile
 -- The trace
 
 -- what the stations' lines and rows give is told
-module _ (p : Plan) (bs : List ℕ) (f : FleetState) (m : List Entry) (rows sorted : TableRows) (merges : Merges f m)
-    (are : AreRows f rows) (order : AreInOrder rows sorted) where
+module _ (p : Plan) (bs : List ℕ) (f : FleetState) (m : List Entry) (sorted : TableRows) (merges : Merges f m)
+    (table : IsFleetTable f sorted) where
   abbrev trace_of_record : (lines : List Disturb) (r : Record) → StandsFor p.topology lines f r →
       IsTraceOf p bs r (trace_text p bs m sorted)
   trace_of_record lines r stands = record {
     merge = m;
     merged = (merges p.topology lines r stands).merge;
     rows = sorted;
-    table = sorted_table p.topology f rows sorted are order lines r stands;
+    table = table p.topology lines r stands;
     told = refl;
   }
 
@@ -67,15 +66,14 @@ module _ (p : Plan) (bs : List ℕ) (f : FleetState) (m : List Entry) (rows sort
       record { tells = λ lines r stands. record { trace = trace_of_record lines r stands; fits = fits } }
 
 -- the whole of it was written, or why it wasn't
-module _ (comes : EveryMergeComes) (p : Plan) (bs : List ℕ) (f : FleetState) (m : Merging) (rows sorted : TableRows)
-    (merges : Merges f (lines_left m)) (are : AreRows f rows) (order : AreInOrder rows sorted)
-    (old new : Option (List ℕ)) where
+module _ (comes : EveryMergeComes) (p : Plan) (bs : List ℕ) (f : FleetState) (m : Merging) (sorted : TableRows)
+    (merges : Merges f (lines_left m)) (table : IsFleetTable f sorted) (old new : Option (List ℕ)) where
   pub told_trace : WroteTrace (YieldsFirstBy line_of lines_left) m p bs sorted old new →
       HasWritten old new (TellsWholeTrace p bs f)
   told_trace wrote =
       let lines : map line_of wrote.entries ≡ lines_left m = comes m wrote.entries wrote.came in (
         trace_text p bs (lines_left m) sorted,
-        tells_whole p bs f (lines_left m) rows sorted merges are order (subst (TraceFits bs) lines wrote.fits),
+        tells_whole p bs f (lines_left m) sorted merges table (subst (TraceFits bs) lines wrote.fits),
         subst (λ es. Appends old new (trace_text p bs es sorted)) lines wrote.written,
       )
 
@@ -84,7 +82,7 @@ module _ (comes : EveryMergeComes) (p : Plan) (bs : List ℕ) (f : FleetState) (
       HasWrittenPart old new (TellsTrace p bs f)
   part_told count many wrote = (
     trace_text p bs (lines_left m) sorted,
-    tells_trace p bs f (lines_left m) rows sorted merges are order,
+    tells_trace p bs f (lines_left m) sorted merges table,
     part_of_trace comes p bs m count sorted old new many wrote,
   )
 

@@ -1,9 +1,10 @@
 -- What the program answers to its words and to its input.
-use Rattle.std.specs.Prelude.{◌≡◌, ◌<◌, ◌≤◌, ◌+◌, ◌-◌, ◌⊎◌, ℕ, true, List, [], ◌++◌, Option, Some, None, Ok, Err, IsSome, codes, length, take}
+use Rattle.std.specs.Prelude.{◌≡◌, ◌<◌, ◌≤◌, ◌+◌, ◌-◌, ◌⊎◌, ℕ, true, List, [], ◌++◌, Option, Some, None, Ok, Err, IsSome, codes, length, map, string_bytes, take}
 use Rattle.std.specs.Io.KnownBytes.{Appends}
 use Rattle.ason_io.specs.Faults.{Rose}
 use Rattle.ason_io.specs.Reading.{HasRead, WasReadToEnd}
 use Rattle.plan_reader.specs.declared.plan.Plan.{Plan}
+use Rattle.ason_main.specs.declared.answers.Asked.{Asked}
 use Rattle.ason_main.specs.declared.answers.Status.{Status}
 use Rattle.ason_base.specs.declared.ids.NodeId.{NodeId}
 use Rattle.plan_reader.specs.declared.faults.PlanFault.{PlanFault}
@@ -60,6 +61,20 @@ request_for words Inquiry.Check = Check
 request_for words Inquiry.Decode = Decode
 request_for words Inquiry.Survey = Survey
 request_for words (Inquiry.Ask question) = Ask question (word_at words 1) (word_at words 2)
+
+-- what is asked, with its words
+abbrev pub asked_for : Asked → Request
+asked_for asked = request_for (map string_bytes asked.words.now) asked.inquiry
+
+-- a plan is asked for
+abbrev pub TakesPlan : Request → Type 0
+TakesPlan (Run pace) = Unit {0}
+TakesPlan (Trace pace) = Unit {0}
+TakesPlan (Watch pace name) = Unit {0}
+TakesPlan Check = ⊥
+TakesPlan Decode = ⊥
+TakesPlan Survey = Unit {0}
+TakesPlan (Ask question from to) = Unit {0}
 
 -- what is generated
 abbrev pub generated : LoadView → LoadParts

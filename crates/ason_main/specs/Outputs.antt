@@ -1,5 +1,5 @@
 -- What the program makes and prints of a plan.
-use Rattle.std.specs.Prelude.{◌≡◌, ◌≤◌, ℕ, false, List, [], ◌∷◌, ◌++◌, Option, Some, None, length}
+use Rattle.std.specs.Prelude.{◌≡◌, ◌≤◌, ℕ, false, List, [], ◌∷◌, ◌++◌, Option, Some, None, Result, Ok, Err, length}
 use Rattle.std.specs.List.{AllByRecursion}
 use Rattle.ason_io.specs.Faults.{Rose}
 use Rattle.ason_base.specs.declared.ids.NodeId.{NodeId}
@@ -15,6 +15,7 @@ use Rattle.script_rules.specs.Lawful.{IsLawfulRecord}
 use Rattle.script_rules.specs.Outputs.{How, Prints, PrintsFirst, script_of}
 use Rattle.script_rules.specs.Stages.{Stage, last_of, new_stage}
 use Rattle.ason_main.specs.declared.runner.run.Ran.{Ran}
+use Rattle.ason_main.specs.declared.runner.stops.Stop.{Stop}
 use Rattle.ason_main.specs.Running.{HasWritten, HasWrittenPart, StandsYet}
 
 -- The run
@@ -115,3 +116,10 @@ IsRan written faults p how f old new Ran.Failed =
     Rose (faults old) (faults new) × HasWrittenPart (written old) (written new) (IsBegun p how) × StandsYet p.topology f
 IsRan written faults p how f old new Ran.OutOfMemory =
     (faults old ≤ faults new) × HasWritten (written old) (written new) (IsBegun p how) × StandsYet p.topology f
+
+-- how a run ended whose script was done, or stopped so
+abbrev pub ran_of : {T : Type 0} → Result T Stop → Ran
+ran_of (Ok x) = Ran.Ended
+ran_of (Err (Stop.AtLimit n)) = Ran.AtLimit n
+ran_of (Err Stop.Failed) = Ran.Failed
+ran_of (Err Stop.OutOfMemory) = Ran.OutOfMemory

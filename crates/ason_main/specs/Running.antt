@@ -1,8 +1,9 @@
 -- What the runner does for the lines of a script.
-use Rattle.std.specs.Prelude.{◌≡◌, ◌<◌, ◌≤◌, ℕ, List, Option, None, Some, Result, length, take}
+use Rattle.std.specs.Prelude.{◌≡◌, ◌<◌, ◌≤◌, ℕ, Bool, true, false, List, Option, None, Some, Result, length, take}
 use Rattle.std.specs.List.{AllByRecursion}
 use Rattle.std.specs.Io.KnownBytes.{Appends}
 use Rattle.ason_io.specs.Faults.{Rose}
+use Rattle.ason_base.specs.declared.calls.TableRows.{TableRows}
 use Rattle.ason_base.specs.declared.commands.Disturb.{Disturb}
 use Rattle.ason_base.specs.declared.ids.NodeId.{NodeId}
 use Rattle.ason_base.specs.Network.{Network}
@@ -13,11 +14,13 @@ use Rattle.fleet.specs.Rounds.{Rounds}
 use Rattle.fleet.specs.Standing.{FleetState, StandsFor}
 use Rattle.fleet.specs.Views.{Publishes}
 use Rattle.plan_reader.specs.declared.lines.Line.{Line}
+use Rattle.plan_reader.specs.declared.lines.Line.TheVariants as said
 use Rattle.plan_reader.specs.declared.plan.Plan.{Plan}
 use Rattle.plan_reader.specs.Plans.{ArePostable, IsPostable}
 use Rattle.script_rules.specs.Outputs.{How, Prints, PrintsFirst, Shows}
 use Rattle.script_rules.specs.Stages.{LineMakes, Stage, last_of, world_at}
-use Rattle.script_rules.specs.Tables.{IsUnsettledLine}
+use Rattle.script_rules.specs.Tables.{IsTable, IsUnsettledLine}
+use Rattle.world_rules.specs.Images.{image}
 use Rattle.ason_main.specs.declared.runner.stops.Stop.{Stop}
 
 -- Rounds
@@ -97,10 +100,20 @@ pub record TellsUnsettled (f : FleetState) (text : List ℕ) : Type 0 where
   pub tells : (t : Network) (lines : List Disturb) (r : Record) → StandsFor t lines f r →
       IsUnsettledLine t (world_of t r) text
 
+-- these rows are the table, for whatever record the stations stand
+abbrev pub IsFleetTable : FleetState → TableRows → Type 0
+IsFleetTable f rows =
+    (t : Network) (lines : List Disturb) (r : Record) → StandsFor t lines f r → IsTable t (image (world_of t r)) rows
+
 -- this is what a line prints that leads to the record for which the stations stand
 pub record Tells (p : Plan) (line : Line) (f : FleetState) (text : List ℕ) : Type 0 where
   pub tells : (lines : List Disturb) (r : Record) → StandsFor p.topology lines f r →
       Shows p line (world_of p.topology r) text
+
+-- the line that makes so many rounds, until all is quiet or whether it is or not
+abbrev pub rounds_line : Bool → ℕ → Line
+rounds_line true rounds = said.Settle rounds
+rounds_line false rounds = said.Wait rounds
 
 -- Lines
 

@@ -1,15 +1,15 @@
 //! The top call: reads an input, and writes what a plan's network came to, its trace, the survey of its last table, its
 //! routes, its best pair of them, or what messages say; or runs a generated plan.
 
-ghost use Rattle.std.specs.Prelude.{◌≡◌, ℕ, List, [], None, Some, Ok, IfOk, map, string_bytes};
+ghost use Rattle.std.specs.Prelude.{◌≡◌, ℕ, true, List, [], Option, None, Some, Ok, Err, IfOk, map, string_bytes};
 ghost use Rattle.ason_base.specs.Network.{IsTopology};
 ghost use Rattle.ason_main.specs.Answers.{Ask, Decode, IsAnswered, IsCheckedTrace, IsComplete, IsCompleteLoad, IsReply};
-ghost use Rattle.ason_main.specs.Answers.{IsReplyFor, IsTold, Reply, Run, Survey, TellsItsRun, TellsRun, Trace};
-ghost use Rattle.ason_main.specs.Answers.{WasGiven, exit_status, name_before, request_for};
+ghost use Rattle.ason_main.specs.Answers.{IsReplyFor, IsTold, Reply, Request, Run, Survey, TellsItsRun, TellsRun};
+ghost use Rattle.ason_main.specs.Answers.{TakesPlan, WasGiven, asked_for, exit_status, name_before, request_for};
 ghost use Rattle.plan_reader.specs.PlanTexts.{word_at};
-ghost use Rattle.plan_reader.specs.Plans.{ArePostable, PlanOf};
+ghost use Rattle.plan_reader.specs.Plans.{Answers, ArePostable, PlanOf};
 ghost use Rattle.round_rules.specs.Records.{new_record};
-ghost use Rattle.fleet.specs.Standing.{StandsFor};
+ghost use Rattle.fleet.specs.Standing.{FleetState, StandsFor};
 
 use crate::checks::check_input;
 use crate::host::Host;
@@ -20,7 +20,7 @@ use crate::runner::stops::Stop;
 use crate::surveying::survey_of;
 use crate::telling::{refuse, tell, tell_stop};
 use crate::traces::trace;
-use crate::watching::watch_input;
+use crate::watching::watch_named;
 use ason_base::OutOfMemory;
 use ason_io::{Gate, ReadAllFault, Sink, Source, read_all};
 use command_words::{Inquiry, Pace, Question, Task, task_of};
@@ -191,59 +191,6 @@ fn survey<R: Threads + Wait + Sync, K: Sink, G: Gate>(
     }
 }
 
-// What `run` answers of the input.
-fn run_input<R: Threads + Wait + Sync, K: Sink, G: Gate>(
-    host: &Host<R, G>,
-    pace: Pace,
-    bytes: &[u8],
-    out: &mut K,
-    kept: &mut Option<Fleet>,
-) -> Status
-    requires { kept.old ≡ None }
-    ensures { IsAnswered K.written K.faults (Run pace) bytes.now out.old out.new kept.new result }
-{
-    match read_plan(host.alloc, bytes) {
-        Ok(plan) => run(host, &plan, pace, out, kept),
-        Err(PlanError::Fault(fault)) => refuse(host.alloc, fault, out),
-        Err(PlanError::OutOfMemory) => Status::OutOfMemory,
-    }
-}
-
-// What `run --trace` answers of the input.
-fn trace_input<R: Threads + Wait + Sync, K: Sink, G: Gate>(
-    host: &Host<R, G>,
-    pace: Pace,
-    bytes: &[u8],
-    out: &mut K,
-    kept: &mut Option<Fleet>,
-) -> Status
-    requires { kept.old ≡ None }
-    ensures { IsAnswered K.written K.faults (Trace pace) bytes.now out.old out.new kept.new result }
-{
-    match read_plan(host.alloc, bytes) {
-        Ok(plan) => trace(host, &plan, bytes, pace, out, kept),
-        Err(PlanError::Fault(fault)) => refuse(host.alloc, fault, out),
-        Err(PlanError::OutOfMemory) => Status::OutOfMemory,
-    }
-}
-
-// What `survey` answers of the input.
-fn survey_input<R: Threads + Wait + Sync, K: Sink, G: Gate>(
-    host: &Host<R, G>,
-    bytes: &[u8],
-    out: &mut K,
-    kept: &mut Option<Fleet>,
-) -> Status
-    requires { kept.old ≡ None }
-    ensures { IsAnswered K.written K.faults Survey bytes.now out.old out.new kept.new result }
-{
-    match read_plan(host.alloc, bytes) {
-        Ok(plan) => survey(host, &plan, out, kept),
-        Err(PlanError::Fault(fault)) => refuse(host.alloc, fault, out),
-        Err(PlanError::OutOfMemory) => Status::OutOfMemory,
-    }
-}
-
 // What `decode` answers of the input.
 fn decode_input<K: Sink>(alloc: Global, bytes: &[u8], out: &mut K) -> Status
     ensures { IsAnswered K.written K.faults Decode bytes.now out.old out.new None result }
@@ -290,51 +237,103 @@ fn tell_ends<K: Sink>(
     }
 }
 
-// What `route` or `best` with these names answers of the input.
-fn ask_input<K: Sink>(
-    alloc: Global,
-    question: Question,
-    from: &str,
-    to: &str,
+/// Words, and what they ask of an input.
+#[derive(Clone, Copy)]
+pub struct Asked<'a> {
+    words: &'a [String],
+    inquiry: Inquiry,
+}
+
+// What is answered of an input that is this plan.
+fn over_plan<R: Threads + Wait + Sync, K: Sink, G: Gate>(
+    host: &Host<R, G>,
+    asked: &Asked,
+    plan: &Plan,
     bytes: &[u8],
     out: &mut K,
+    kept: &mut Option<Fleet>,
 ) -> Status
-    ensures { IsAnswered K.written K.faults (Ask question from.now to.now) bytes.now
-        out.old out.new None result }
+    requires takes { TakesPlan (asked_for asked.now) }
+    requires plan { PlanOf bytes.now (Ok plan.now) }
+    requires valid { IsTopology plan.now.topology }
+    requires postable { ArePostable plan.now.topology [] plan.now.lines }
+    requires none { kept.old ≡ None }
+    ensures { IsAnswered K.written K.faults (asked_for asked.now) bytes.now out.old out.new kept.new result }
 {
-    match read_plan(alloc, bytes) {
-        Ok(plan) => tell_ends(alloc, &plan, question, from, to, out),
-        Err(PlanError::Fault(fault)) => refuse(alloc, fault, out),
-        Err(PlanError::OutOfMemory) => Status::OutOfMemory,
+    match asked.inquiry {
+        Inquiry::Run(pace) => run(host, plan, pace, out, kept),
+        Inquiry::Trace(pace) => trace(host, plan, bytes, pace, out, kept),
+        Inquiry::Watch(pace, behind) => {
+            watch_named(
+                host,
+                plan,
+                pace,
+                name_before(asked.words, behind),
+                out,
+                kept,
+            )
+        }
+        Inquiry::Survey => survey(host, plan, out, kept),
+        Inquiry::Ask(question) => {
+            let from = word_at(asked.words, 1);
+            tell_ends(
+                host.alloc,
+                plan,
+                question,
+                from,
+                word_at(asked.words, 2),
+                out,
+            )
+        }
+        Inquiry::Check | Inquiry::Decode => unreachable!(),
+    }
+}
+
+// Tells why there is no plan.
+fn tell_error<K: Sink>(alloc: Global, error: PlanError, out: &mut K) -> Status
+    ensures { (k : Request) (bs : List ℕ) (kept : Option FleetState) → TakesPlan k
+        → Answers true bs (Err error) → kept ≡ None
+        → IsAnswered K.written K.faults k bs out.old out.new kept result }
+{
+    match error {
+        PlanError::Fault(fault) => refuse(alloc, fault, out),
+        PlanError::OutOfMemory => Status::OutOfMemory,
+    }
+}
+
+// What is answered of an input where a plan is asked for.
+fn plan_input<R: Threads + Wait + Sync, K: Sink, G: Gate>(
+    host: &Host<R, G>,
+    asked: &Asked,
+    bytes: &[u8],
+    out: &mut K,
+    kept: &mut Option<Fleet>,
+) -> Status
+    requires takes { TakesPlan (asked_for asked.now) }
+    requires none { kept.old ≡ None }
+    ensures { IsAnswered K.written K.faults (asked_for asked.now) bytes.now out.old out.new kept.new result }
+{
+    match read_plan(host.alloc, bytes) {
+        Ok(plan) => over_plan(host, asked, &plan, bytes, out, kept),
+        Err(error) => tell_error(host.alloc, error, out),
     }
 }
 
 // What is answered of the input.
 fn judge<R: Threads + Wait + Sync, K: Sink, G: Gate>(
     host: &Host<R, G>,
-    words: &[String],
-    inquiry: Inquiry,
+    asked: &Asked,
     bytes: &[u8],
     out: &mut K,
     kept: &mut Option<Fleet>,
 ) -> Status
     requires { kept.old ≡ None }
-    ensures { IsAnswered K.written K.faults (request_for (map string_bytes words.now) inquiry)
-        bytes.now out.old out.new kept.new result }
+    ensures { IsAnswered K.written K.faults (asked_for asked.now) bytes.now out.old out.new kept.new result }
 {
-    match inquiry {
-        Inquiry::Run(pace) => run_input(host, pace, bytes, out, kept),
-        Inquiry::Trace(pace) => trace_input(host, pace, bytes, out, kept),
-        Inquiry::Watch(pace, behind) => {
-            watch_input(host, pace, name_before(words, behind), bytes, out, kept)
-        }
+    match asked.inquiry {
         Inquiry::Check => check_input(host.alloc, bytes, out),
         Inquiry::Decode => decode_input(host.alloc, bytes, out),
-        Inquiry::Survey => survey_input(host, bytes, out, kept),
-        Inquiry::Ask(question) => {
-            let from = word_at(words, 1);
-            ask_input(host.alloc, question, from, word_at(words, 2), bytes, out)
-        }
+        _ => plan_input(host, asked, bytes, out, kept),
     }
 }
 
@@ -355,7 +354,7 @@ fn read<R: Threads + Wait + Sync, S: Source, K: Sink, G: Gate>(
         × TellsRun (request_for (map string_bytes words.now) inquiry) r result }
 {
     match read_all(host.alloc, src, LIMIT) {
-        Ok(bytes) => judge(host, words, inquiry, &bytes, out, kept),
+        Ok(bytes) => judge(host, &Asked { words, inquiry }, &bytes, out, kept),
         Err(ReadAllFault::Failed) => Status::ReadFault,
         Err(ReadAllFault::OutOfMemory) => Status::OutOfMemory,
         Err(ReadAllFault::TooLong) => tell(out, b"refused input too long\n", Status::TooLong),

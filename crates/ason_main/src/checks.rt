@@ -1,7 +1,9 @@
 //! Tells whether an input is the trace of a run.
 
-ghost use Rattle.std.specs.Prelude.{◌≡◌, None, IfOk, string_bytes};
+ghost use Rattle.std.specs.Prelude.{◌≡◌, ℕ, Err, List, None, IfOk, OnOk, string_bytes};
+ghost use Rattle.ason_base.specs.Texts.{Appends};
 ghost use Rattle.ason_main.specs.Answers.{Check, IsAnswered};
+ghost use Rattle.trace_text.specs.Checks.{ChecksAs, IsChecked, IsNotRun};
 ghost use Rattle.ason_main.specs.Traces.{checked_text, migrated_line, not_run_text, run_line, summary};
 
 use crate::answers::Status;
@@ -13,32 +15,33 @@ use table_text::write_table;
 use trace_text::{Checked, TraceFault, check};
 
 // How many events of a trace of version 1 were left out.
-fn migrated_line(alloc: Global, checked: &Checked) -> Result<String, OutOfMemory>
-    ensures { IfOk result (λ text. string_bytes text ≡ migrated_line checked.now) }
+fn push_migrated(text: &mut String, checked: &Checked) -> Result<(), OutOfMemory>
+    ensures { OnOk result (Appends text.old text.new (migrated_line checked.now)) }
 {
     if checked.version == 2 {
-        return Ok(String::new(alloc));
+        return Ok(());
     }
     let left_out = checked.left_out;
-    let text = format!(in alloc; "migrated {left_out} left out\n")?;
-    Ok(text)
+    write!(text, "migrated {left_out} left out\n")?;
+    Ok(())
 }
 
 // How many events the run has.
-fn run_line(alloc: Global, checked: &Checked) -> Result<String, OutOfMemory>
-    ensures { IfOk result (λ text. string_bytes text ≡ run_line checked.now) }
+fn push_run(text: &mut String, checked: &Checked) -> Result<(), OutOfMemory>
+    ensures { OnOk result (Appends text.old text.new (run_line checked.now)) }
 {
     let events = checked.events;
-    let text = format!(in alloc; "run of {events} events\n")?;
-    Ok(text)
+    write!(text, "run of {events} events\n")?;
+    Ok(())
 }
 
 // What is told of a trace before its table.
 fn summary(alloc: Global, checked: &Checked) -> Result<String, OutOfMemory>
     ensures { IfOk result (λ text. string_bytes text ≡ summary checked.now) }
 {
-    let mut text = migrated_line(alloc, checked)?;
-    text.push_str(&run_line(alloc, checked)?)?;
+    let mut text = String::new(alloc);
+    push_migrated(&mut text, checked)?;
+    push_run(&mut text, checked)?;
     Ok(text)
 }
 
@@ -46,7 +49,7 @@ fn summary(alloc: Global, checked: &Checked) -> Result<String, OutOfMemory>
 fn checked_text(alloc: Global, checked: &Checked) -> Result<Vec<u8>, OutOfMemory>
     ensures { IfOk result (λ text. text.items ≡ checked_text checked.now) }
 {
-    let mut text = summary(alloc, checked)?.as_bytes().to_vec(alloc)?;
+    let mut text = summary(alloc, checked)?.into_bytes();
     write_table(alloc, &mut text, &checked.plan, &checked.rows)?;
     Ok(text)
 }
@@ -55,9 +58,42 @@ fn checked_text(alloc: Global, checked: &Checked) -> Result<Vec<u8>, OutOfMemory
 fn not_run_text(alloc: Global, i: u64) -> Result<Vec<u8>, OutOfMemory>
     ensures { IfOk result (λ text. text.items ≡ not_run_text i) }
 {
-    let line = format!(in alloc; "not a run {i}\n")?;
-    let text = line.as_bytes().to_vec(alloc)?;
-    Ok(text)
+    let text = format!(in alloc; "not a run {i}\n")?;
+    Ok(text.into_bytes())
+}
+
+// Tells of a trace that passes.
+fn tell_checked<K: Sink>(alloc: Global, checked: &Checked, out: &mut K) -> Status
+    ensures { (bs : List ℕ) → IsChecked bs checked.now
+        → IsAnswered K.written K.faults Check bs out.old out.new None result }
+{
+    match checked_text(alloc, checked) {
+        Ok(text) => tell(out, &text, Status::Done),
+        Err(OutOfMemory) => Status::OutOfMemory,
+    }
+}
+
+// Tells of other bytes.
+fn tell_not_run<K: Sink>(alloc: Global, i: u64, out: &mut K) -> Status
+    ensures { (bs : List ℕ) → IsNotRun bs i
+        → IsAnswered K.written K.faults Check bs out.old out.new None result }
+{
+    match not_run_text(alloc, i) {
+        Ok(text) => tell(out, &text, Status::NotRun),
+        Err(OutOfMemory) => Status::OutOfMemory,
+    }
+}
+
+// Tells why there is no run.
+fn tell_fault<K: Sink>(alloc: Global, fault: TraceFault, out: &mut K) -> Status
+    ensures { (bs : List ℕ) → ChecksAs bs (Err fault)
+        → IsAnswered K.written K.faults Check bs out.old out.new None result }
+{
+    match fault {
+        TraceFault::NotRun(i) => tell_not_run(alloc, i, out),
+        TraceFault::Plan(fault) => refuse(alloc, fault, out),
+        TraceFault::OutOfMemory => Status::OutOfMemory,
+    }
 }
 
 /// What `check` answers of the input.
@@ -65,15 +101,7 @@ pub fn check_input<K: Sink>(alloc: Global, bytes: &[u8], out: &mut K) -> Status
     ensures { IsAnswered K.written K.faults Check bytes.now out.old out.new None result }
 {
     match check(alloc, bytes) {
-        Ok(checked) => match checked_text(alloc, &checked) {
-            Ok(text) => tell(out, &text, Status::Done),
-            Err(OutOfMemory) => Status::OutOfMemory,
-        },
-        Err(TraceFault::NotRun(i)) => match not_run_text(alloc, i) {
-            Ok(text) => tell(out, &text, Status::NotRun),
-            Err(OutOfMemory) => Status::OutOfMemory,
-        },
-        Err(TraceFault::Plan(fault)) => refuse(alloc, fault, out),
-        Err(TraceFault::OutOfMemory) => Status::OutOfMemory,
+        Ok(checked) => tell_checked(alloc, &checked, out),
+        Err(fault) => tell_fault(alloc, fault, out),
     }
 }

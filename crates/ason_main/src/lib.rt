@@ -11,6 +11,7 @@ mod loading;
 mod loads;
 mod runner;
 mod surveying;
+mod tables;
 mod telling;
 mod traces;
 mod watching;

@@ -15,12 +15,12 @@ use crate::laws::every_law;
 use crate::runner::crew::Crew;
 use crate::runner::run::{ROUNDS, run_lines};
 use crate::runner::stops::Stop;
+use crate::tables::table_of;
 use ason_base::OutOfMemory;
 use ason_io::{Gate, SureSink};
 use fleet::Fleet;
 use load_plan::{LoadParts, LoadPhase, phase_text};
 use plan_reader::{Line, Plan};
-use script_rules::sort_rows;
 use std::alloc::Global;
 use std::sync::Wait;
 use std::thread::Threads;
@@ -52,7 +52,7 @@ fn phase_line(
 ) -> Result<Vec<u8>, OutOfMemory>
     ensures { IfOk result (λ text. TellsPhase plan.now phase fleet.now text.items) }
 {
-    let rows = sort_rows(fleet.rows(alloc)?)?;
+    let rows = table_of(alloc, fleet)?;
     phase_text(alloc, phase, rows.calls.items())
 }
 

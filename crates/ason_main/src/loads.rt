@@ -47,6 +47,27 @@ fn load_fleet<R: Threads + Wait + Sync, K: Sink, G: Gate>(
     }
 }
 
+// Runs it, and keeps the fleet that made the run.
+fn load_new<R: Threads + Wait + Sync, K: Sink, G: Gate>(
+    host: &Host<R, G>,
+    parts: &LoadParts,
+    out: &mut K,
+    kept: &mut Option<Fleet>,
+) -> Status
+    requires can { CanBeRun parts.now }
+    requires none { kept.old ≡ None }
+    ensures { IsLoadAnswered K.written K.faults parts.now out.old out.new kept.new result }
+{
+    match Fleet::new(host.alloc, &parts.plan.topology) {
+        Ok(mut fleet) => {
+            let status = load_fleet(host, parts, &mut fleet, out);
+            keep(kept, fleet);
+            status
+        }
+        Err(OutOfMemory) => Status::OutOfMemory,
+    }
+}
+
 /// Runs the plan that is generated so, and keeps the fleet that made the run.
 pub fn load<R: Threads + Wait + Sync, K: Sink, G: Gate>(
     host: &Host<R, G>,
@@ -57,15 +78,8 @@ pub fn load<R: Threads + Wait + Sync, K: Sink, G: Gate>(
     requires { kept.old ≡ None }
     ensures { IsLoadAnswered K.written K.faults (generated what) out.old out.new kept.new result }
 {
-    let Ok(parts) = load_parts(host.alloc, what.seed(), what.nodes(), what.calls()) else {
-        return Status::OutOfMemory;
-    };
-    match Fleet::new(host.alloc, &parts.plan.topology) {
-        Ok(mut fleet) => {
-            let status = load_fleet(host, &parts, &mut fleet, out);
-            keep(kept, fleet);
-            status
-        }
+    match load_parts(host.alloc, what.seed(), what.nodes(), what.calls()) {
+        Ok(parts) => load_new(host, &parts, out, kept),
         Err(OutOfMemory) => Status::OutOfMemory,
     }
 }

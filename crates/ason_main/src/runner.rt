@@ -2,7 +2,6 @@
 
 pub mod crew;
 pub mod lines;
+pub mod rounds;
 pub mod run;
-pub mod settling;
 pub mod stops;
-pub mod waiting;

@@ -15,12 +15,12 @@ use crate::host::Host;
 use crate::laws::every_law;
 use crate::runner::run::{Ran, run_plan};
 use crate::runner::stops::Stop;
+use crate::tables::table_of;
 use ason_base::{LegRow, OutOfMemory, Phase, Role};
 use ason_io::{Gate, Sink};
 use fleet::Fleet;
 use mesh_laws::no_contend;
 use plan_reader::Plan;
-use script_rules::sort_rows;
 use std::alloc::Global;
 use std::sync::Wait;
 use std::thread::Threads;
@@ -62,7 +62,7 @@ fn is_calm(fleet: &Fleet, legs: &[LegRow]) -> bool
 fn told(alloc: Global, plan: &Plan, fleet: &Fleet) -> Result<Vec<u8>, OutOfMemory>
     ensures { IfOk result (λ text. TellsSurvey plan.now fleet.now text.items) }
 {
-    let rows = sort_rows(fleet.rows(alloc)?)?;
+    let rows = table_of(alloc, fleet)?;
     let survey = survey(alloc, &plan.topology, &rows)?;
     let calm = is_calm(fleet, rows.legs.items());
     survey_text(

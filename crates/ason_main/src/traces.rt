@@ -13,13 +13,13 @@ use crate::host::Host;
 use crate::keeping::keep;
 use crate::laws::every_law;
 use crate::runner::run::{Ran, run_plan};
+use crate::tables::table_of;
 use crate::telling::tell_stop;
 use ason_base::OutOfMemory;
 use ason_io::{Gate, Sink};
 use command_words::Pace;
 use fleet::Fleet;
 use plan_reader::Plan;
-use script_rules::sort_rows;
 use std::alloc::Global;
 use std::sync::Wait;
 use std::thread::Threads;
@@ -40,7 +40,7 @@ fn tell_trace<K: Sink>(
         (K.written out.old) (K.written out.new) (K.faults out.old) (K.faults out.new)) }
 {
     every_merge();
-    let rows = sort_rows(fleet.rows(alloc)?)?;
+    let rows = table_of(alloc, fleet)?;
     let entries = fleet.entries(alloc)?;
     let count = fleet.entry_count();
     write_trace(alloc, out, bytes, plan, entries, count, &rows)

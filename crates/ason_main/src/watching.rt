@@ -14,13 +14,13 @@ use crate::host::Host;
 use crate::keeping::keep;
 use crate::laws::every_law;
 use crate::runner::run::{Ran, run_plan};
-use crate::telling::{refuse, tell, tell_stop};
+use crate::telling::{tell, tell_stop};
 use ason_base::{NodeId, OutOfMemory};
 use ason_io::{Gate, Sink};
 use command_words::Pace;
 use fleet::Fleet;
 use mgmt_view::Viewer;
-use plan_reader::{Plan, PlanError, read_plan};
+use plan_reader::Plan;
 use station::WatchFault;
 use std::alloc::Global;
 use std::sync::Wait;
@@ -158,25 +158,22 @@ fn tell_unknown<K: Sink>(alloc: Global, name: &str, out: &mut K) -> Status
     }
 }
 
-/// What `run --watch` with the name of a node answers of the input.
-pub fn watch_input<R: Threads + Wait + Sync, K: Sink, G: Gate>(
+/// What `run --watch` with the name of a node answers of a plan.
+pub fn watch_named<R: Threads + Wait + Sync, K: Sink, G: Gate>(
     host: &Host<R, G>,
+    plan: &Plan,
     pace: Pace,
     name: &str,
-    bytes: &[u8],
     out: &mut K,
     kept: &mut Option<Fleet>,
 ) -> Status
-    requires { kept.old ≡ None }
-    ensures { IsAnswered K.written K.faults (Watch pace name.now) bytes.now
-        out.old out.new kept.new result }
+    requires postable { ArePostable plan.now.topology [] plan.now.lines }
+    requires none { kept.old ≡ None }
+    ensures { (bs : List ℕ) → PlanOf bs (Ok plan.now) →
+        IsAnswered K.written K.faults (Watch pace name.now) bs out.old out.new kept.new result }
 {
-    match read_plan(host.alloc, bytes) {
-        Ok(plan) => match node_of_name(&plan, name) {
-            Some(node) => watch(host, &plan, pace, node, out, kept),
-            None => tell_unknown(host.alloc, name, out),
-        },
-        Err(PlanError::Fault(fault)) => refuse(host.alloc, fault, out),
-        Err(PlanError::OutOfMemory) => Status::OutOfMemory,
+    match node_of_name(plan, name) {
+        Some(node) => watch(host, plan, pace, node, out, kept),
+        None => tell_unknown(host.alloc, name, out),
     }
 }

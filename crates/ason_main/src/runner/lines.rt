@@ -8,14 +8,13 @@ ghost use Rattle.ason_main.specs.Running.{CanDo, Does, Stops, Tells, TellsUnsett
 
 use crate::laws::every_law;
 use crate::runner::crew::Crew;
-use crate::runner::settling::settle;
+use crate::runner::rounds::make_rounds;
 use crate::runner::stops::Stop;
-use crate::runner::waiting::wait;
+use crate::tables::table_of;
 use ason_base::{Command, Disturb, NodeId, OutOfMemory};
 use ason_io::Gate;
 use fleet::Fleet;
 use plan_reader::{Line, Plan};
-use script_rules::sort_rows;
 use std::alloc::Global;
 use std::sync::Wait;
 use std::thread::Threads;
@@ -80,8 +79,8 @@ pub fn do_line<R: Threads + Wait + Sync, G: Gate>(
         Line::Post(command) => post_line(fleet, command),
         Line::Disturb(line) => disturb_line(fleet, line),
         Line::Noise { from, to, bytes } => noise_line(fleet, *from, *to, bytes.items()),
-        Line::Settle(rounds) => settle(crew, fleet, *rounds),
-        Line::Wait(rounds) => wait(crew, fleet, *rounds),
+        Line::Settle(rounds) => make_rounds(crew, fleet, *rounds, true),
+        Line::Wait(rounds) => make_rounds(crew, fleet, *rounds, false),
         Line::Show => Ok(()),
     }
 }
@@ -104,7 +103,7 @@ fn unsettled_text(alloc: Global, fleet: &Fleet) -> Result<Vec<u8>, OutOfMemory>
 fn show_text(alloc: Global, plan: &Plan, fleet: &Fleet) -> Result<Vec<u8>, OutOfMemory>
     ensures { IfOk result (λ text. Tells plan.now said.Show fleet.now text.items) }
 {
-    let rows = sort_rows(fleet.rows(alloc)?)?;
+    let rows = table_of(alloc, fleet)?;
     let mut text = Vec::new(alloc);
     write_table(alloc, &mut text, plan, &rows)?;
     Ok(text)

@@ -5,7 +5,7 @@ ghost use Rattle.round_rules.specs.Records.{new_record};
 ghost use Rattle.fleet.specs.Standing.{StandsFor};
 ghost use Rattle.plan_reader.specs.Plans.{ArePostable};
 ghost use Rattle.script_rules.specs.Outputs.{script_of};
-ghost use Rattle.ason_main.specs.Outputs.{IsRan};
+ghost use Rattle.ason_main.specs.Outputs.{IsRan, ran_of};
 ghost use Rattle.ason_main.specs.Running.{CanDoAll, DoesAll, StopsAll, at};
 ghost use Rattle.ason_main.specs.Views.{StayInView};
 
@@ -123,6 +123,18 @@ fn run_script<R: Threads + Wait + Sync, K: Sink, G: Gate>(
     )
 }
 
+// How a run ended whose script was done, or stopped so.
+fn ran_of(done: Result<(), Stop>) -> Ran
+    ensures { result ≡ ran_of done }
+{
+    match done {
+        Ok(()) => Ran::Ended,
+        Err(Stop::AtLimit(node)) => Ran::AtLimit(node),
+        Err(Stop::Failed) => Ran::Failed,
+        Err(Stop::OutOfMemory) => Ran::OutOfMemory,
+    }
+}
+
 /// Runs the plan on so many workers, each station with so many turns a round: the network settles, the script is run,
 /// the network settles again, and the table comes last. With `tables` what a line prints is written as soon as the line
 /// is done; else nothing is written. Where a viewer is given it reads in each round, in a thread of its own beside the
@@ -150,10 +162,5 @@ pub fn run_plan<R: Threads + Wait + Sync, K: Sink, G: Gate>(
 {
     every_law();
     let crew = Crew::new(rt, alloc, gate, workers, stride, tables).beside(viewer);
-    match run_script(alloc, plan, &crew, fleet, out) {
-        Ok(()) => Ran::Ended,
-        Err(Stop::AtLimit(node)) => Ran::AtLimit(node),
-        Err(Stop::Failed) => Ran::Failed,
-        Err(Stop::OutOfMemory) => Ran::OutOfMemory,
-    }
+    ran_of(run_script(alloc, plan, &crew, fleet, out))
 }

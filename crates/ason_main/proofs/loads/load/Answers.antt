@@ -3,14 +3,8 @@ use Rattle.ason_main.specs.Answers.{MayKeep, generated}
 use Rattle.ason_main.proofs.LoadReplies.{load_starved}
 use Rattle.ason_main.proofs.loads.load.Goals as goal
 
-pub returns-in_default : goal.returns-in_default
-returns-in_default g c =
-    let l = generated c.args.what in
-    load_starved g.K.Sink.written g.K.Sink.faults l c.args.out.now c.args.kept.now
-    (subst (MayKeep l.plan) (sym c.requires) tt)
-
-pub returns : goal.returns
-returns g c =
+pub returns-in-Err : goal.returns-in-Err
+returns-in-Err g c =
     let l = generated c.args.what in
     load_starved g.K.Sink.written g.K.Sink.faults l c.args.out.now c.args.kept.now
     (subst (MayKeep l.plan) (sym c.requires) tt)

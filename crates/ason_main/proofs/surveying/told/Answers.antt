@@ -15,14 +15,7 @@ returns c =
     let contends = c.items-3.ensures ∙ c.in_ok-survey.ensures.contends in
     if_ok c.survey_text.result _ _
     (λ text told.
-    tells_survey p c.args.fleet.now c.in_ok-rows.field-0 c.in_ok-rows-2.rows calm text.items
-    (record { calls = c.in_ok-rows.ensures.calls; legs = c.in_ok-rows.ensures.legs })
-    (record {
-      same_calls = c.in_ok-rows-2.ensures.same_calls;
-      calls = c.in_ok-rows-2.ensures.calls;
-      same_legs = c.in_ok-rows-2.ensures.same_legs;
-      legs = c.in_ok-rows-2.ensures.legs;
-    })
+    tells_survey p c.args.fleet.now c.in_ok-rows.rows calm text.items c.in_ok-rows.ensures
     (λ t lines r stands. subst (λ legs. IsTrue calm ↔ IsCalmWorld (world_of t r) legs) c.items.ensures
     (c.is_calm-calm.ensures t lines r stands))
     (told ∙ (λ i. survey_text p calm (hits i) (contends i))))

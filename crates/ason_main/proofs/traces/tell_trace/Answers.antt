@@ -21,28 +21,14 @@ pub returns-clause-all : goal.returns-clause-all
 returns-clause-all g c =
     on_ok c.write_trace.result _ _
     (told_trace c.every_merge.ensures c.args.plan.now c.args.bytes.now c.args.fleet.now c.in_ok-entries.entries
-    c.in_ok-rows.field-0 c.in_ok-rows-2.rows c.in_ok-entries.ensures.merges
-    (record { calls = c.in_ok-rows.ensures.calls; legs = c.in_ok-rows.ensures.legs })
-    (record {
-      same_calls = c.in_ok-rows-2.ensures.same_calls;
-      calls = c.in_ok-rows-2.ensures.calls;
-      same_legs = c.in_ok-rows-2.ensures.same_legs;
-      legs = c.in_ok-rows-2.ensures.legs;
-    })
+    c.in_ok-rows.rows c.in_ok-entries.ensures.merges c.in_ok-rows.ensures
     (g.K.Sink.written c.args.out.now) (g.K.Sink.written c.write_trace.new.out))
     c.write_trace.ensures.all
 
 pub returns-clause-stops : goal.returns-clause-stops
 returns-clause-stops g c =
     stops_trace c.every_merge.ensures c.args.plan.now c.args.bytes.now c.args.fleet.now c.in_ok-entries.entries
-    c.in_ok-rows.field-0 c.in_ok-rows-2.rows c.in_ok-entries.ensures.merges
-    (record { calls = c.in_ok-rows.ensures.calls; legs = c.in_ok-rows.ensures.legs })
-    (record {
-      same_calls = c.in_ok-rows-2.ensures.same_calls;
-      calls = c.in_ok-rows-2.ensures.calls;
-      same_legs = c.in_ok-rows-2.ensures.same_legs;
-      legs = c.in_ok-rows-2.ensures.legs;
-    })
+    c.in_ok-rows.rows c.in_ok-entries.ensures.merges c.in_ok-rows.ensures
     (g.K.Sink.written c.args.out.now) (g.K.Sink.written c.write_trace.new.out) c.entry_count-count.result
     (g.K.Sink.faults c.args.out.now) (g.K.Sink.faults c.write_trace.new.out) c.write_trace.result
     (c.entry_count-count.ensures.count ∙ sym c.in_ok-entries.ensures.count) c.write_trace.ensures.part

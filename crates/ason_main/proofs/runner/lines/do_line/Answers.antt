@@ -35,26 +35,26 @@ returns-in-Noise-clause-stops g c t =
 pub returns-in-Settle-clause-done : goal.returns-in-Settle-clause-done
 returns-in-Settle-clause-done g c t =
     let w = c.args.crew.now.workers in
-    subst (λ l. OnOk c.settle.result (Does t w l c.args.fleet.now c.settle.new.fleet None)) (sym c.in-Settle.is)
-    (c.settle.ensures.done t)
+    subst (λ l. OnOk c.make_rounds.result (Does t w l c.args.fleet.now c.make_rounds.new.fleet None))
+    (sym c.in-Settle.is) (c.make_rounds.ensures.done t)
 
 pub returns-in-Settle-clause-stops : goal.returns-in-Settle-clause-stops
 returns-in-Settle-clause-stops g c t =
     let w = c.args.crew.now.workers in
-    subst (λ l. IfErr c.settle.result (Stops t w l c.args.fleet.now c.settle.new.fleet)) (sym c.in-Settle.is)
-    (c.settle.ensures.stops t)
+    subst (λ l. IfErr c.make_rounds.result (Stops t w l c.args.fleet.now c.make_rounds.new.fleet))
+    (sym c.in-Settle.is) (c.make_rounds.ensures.stops t)
 
 pub returns-in-Wait-clause-done : goal.returns-in-Wait-clause-done
 returns-in-Wait-clause-done g c t =
     let w = c.args.crew.now.workers in
-    subst (λ l. OnOk c.wait.result (Does t w l c.args.fleet.now c.wait.new.fleet None)) (sym c.in-Wait.is)
-    (c.wait.ensures.done t)
+    subst (λ l. OnOk c.make_rounds-in-Wait.result (Does t w l c.args.fleet.now c.make_rounds-in-Wait.new.fleet None))
+    (sym c.in-Wait.is) (c.make_rounds-in-Wait.ensures.done t)
 
 pub returns-in-Wait-clause-stops : goal.returns-in-Wait-clause-stops
 returns-in-Wait-clause-stops g c t =
     let w = c.args.crew.now.workers in
-    subst (λ l. IfErr c.wait.result (Stops t w l c.args.fleet.now c.wait.new.fleet)) (sym c.in-Wait.is)
-    (c.wait.ensures.stops t)
+    subst (λ l. IfErr c.make_rounds-in-Wait.result (Stops t w l c.args.fleet.now c.make_rounds-in-Wait.new.fleet))
+    (sym c.in-Wait.is) (c.make_rounds-in-Wait.ensures.stops t)
 
 pub returns-in-Show-clause-done : goal.returns-in-Show-clause-done
 returns-in-Show-clause-done g c t =

@@ -5,13 +5,6 @@ use Rattle.ason_main.proofs.runner.lines.show_text.Goals as goal
 
 pub returns : goal.returns
 returns c =
-    tells_table c.args.plan.now c.args.fleet.now c.in_ok-rows.field-0 c.in_ok-rows-2.rows c.write_table.new.out.items
-    (record { calls = c.in_ok-rows.ensures.calls; legs = c.in_ok-rows.ensures.legs })
-    (record {
-      same_calls = c.in_ok-rows-2.ensures.same_calls;
-      calls = c.in_ok-rows-2.ensures.calls;
-      same_legs = c.in_ok-rows-2.ensures.same_legs;
-      legs = c.in_ok-rows-2.ensures.legs;
-    })
+    tells_table c.args.plan.now c.args.fleet.now c.in_ok-rows.rows c.write_table.new.out.items c.in_ok-rows.ensures
     (c.in_ok-write_table.ensures.ok
-    ∙ ap (λ xs. xs ++ table_text c.args.plan.now c.in_ok-rows-2.rows) c.new-text.ensures.items)
+    ∙ ap (λ xs. xs ++ table_text c.args.plan.now c.in_ok-rows.rows) c.new-text.ensures.items)
