@@ -1,12 +1,14 @@
 -- What bytes are checked to be.
-use Rattle.std.proofs.Common.{◌≡◌, ◌∙◌, ◌⊎◌, ℕ, Bool, cond, true, false, List, Option, Some, None, Ok, bytes_eq, codes, inl, inr, refl, ap, sym, subst}
+use Rattle.std.proofs.Common.{◌≡◌, ◌∙◌, ◌⊎◌, ℕ, Bool, cond, true, false, List, Option, Some, None, Ok, Err, bytes_eq, codes, inl, inr, refl, ap, sym, subst}
 use Rattle.plan_reader.specs.declared.plan.Plan.{Plan}
-use Rattle.trace_text.specs.Checks.{AreChecked, AreFound, AreMigrated, IsChecked}
+use Rattle.trace_text.specs.Checks.{AreChecked, AreFound, AreMigrated, ChecksAs, IsChecked, IsFaultBy, IsFoundAfter, IsWrongAfter}
 use Rattle.trace_text.specs.LinesRead.{LinesRead}
 use Rattle.trace_text.specs.TraceForms.{TraceHead, head_in, head_of, if_version, is_version_2, lines_behind, or_uncounted, plan_in, version_of, with_version}
 use Rattle.trace_text.specs.TraceRead.{IsPlanIn}
 use Rattle.trace_text.specs.Words.{parted}
 use Rattle.trace_text.specs.declared.checking.FoundRun.{FoundRun}
+use Rattle.trace_text.specs.declared.read.TraceFault.{TraceFault}
+use Rattle.trace_text.specs.declared.read.TraceFault.TheVariants.{NotRun, Plan as RefusedPlan, OutOfMemory}
 
 -- the version of a head is 2 or 1
 line_known : (line : List ℕ) (v : ℕ) → version_of line ≡ Some v → (v ≡ 2) ⊎ (v ≡ 1)
@@ -84,3 +86,25 @@ bytes_checked bytes h p ls f begun spelled lines found = by_version (head_known 
           table = are.table;
           events = are.events;
         })
+
+-- and behind their plan this is found
+pub found_checked : (bytes : List ℕ) (h : TraceHead) (p : Plan) (f : FoundRun) → head_of bytes ≡ Some h →
+    IsPlanIn h.version h.plan (Ok p) → IsFoundAfter (is_version_2 h.version) p (lines_behind p h.rest) f →
+    IsChecked bytes
+    (record { version = h.version; events = f.events; left_out = f.left_out; plan = p; rows = f.rows })
+found_checked bytes h p f begun spelled found = go (lines_behind p h.rest) refl found
+  where
+    go : (o : Option LinesRead) → lines_behind p h.rest ≡ o → IsFoundAfter (is_version_2 h.version) p o f →
+        IsChecked bytes
+        (record { version = h.version; events = f.events; left_out = f.left_out; plan = p; rows = f.rows })
+    go None is found = absurd found
+    go (Some ls) is found = bytes_checked bytes h p ls f begun spelled is found
+
+-- or this is wrong
+pub found_wrong : (bytes : List ℕ) (h : TraceHead) (p : Plan) → head_of bytes ≡ Some h →
+    IsPlanIn h.version h.plan (Ok p) → (e : TraceFault) →
+    IsFaultBy (IsWrongAfter (is_version_2 h.version) p (lines_behind p h.rest)) e → ChecksAs bytes (Err e)
+found_wrong bytes h p begun spelled (NotRun i) wrong =
+    inr (record { head = h; plan = p; begun = begun; spelled = spelled; wrong = wrong })
+found_wrong bytes h p begun spelled (RefusedPlan fault) wrong = absurd wrong
+found_wrong bytes h p begun spelled OutOfMemory wrong = tt

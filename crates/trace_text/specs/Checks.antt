@@ -156,3 +156,8 @@ pub record AreMigrated (p : Plan) (ls : LinesRead) (found : FoundRun) : Type 0 w
 abbrev pub AreFound : Bool → Plan → LinesRead → FoundRun → Type 0
 AreFound true p ls found = AreChecked p ls found
 AreFound false p ls found = AreMigrated p ls found
+
+-- the same of what is behind a plan: there are lines
+abbrev pub IsFoundAfter : Bool → Plan → Option LinesRead → FoundRun → Type 0
+IsFoundAfter second p None found = ⊥
+IsFoundAfter second p (Some ls) found = AreFound second p ls found

@@ -5,9 +5,9 @@ ghost use Rattle.ason_base.specs.Network.{IsTopology};
 ghost use Rattle.plan_reader.specs.Plans.{HasNames};
 ghost use Rattle.script_rules.specs.Tables.{IsTable};
 ghost use Rattle.table_text.specs.TableText.{table_text};
-ghost use Rattle.trace_text.specs.Checks.{AreChecked, AreFound, AreMigrated, ChecksAs, IsFaultBy, IsWrongLine, replay_fault};
+ghost use Rattle.trace_text.specs.Checks.{AreChecked, AreFound, AreMigrated, ChecksAs, IsFaultBy, IsFoundAfter, IsWrongAfter, IsWrongLine, replay_fault};
 ghost use Rattle.trace_text.specs.LinesRead.{lines_now};
-ghost use Rattle.trace_text.specs.TraceForms.{is_version_2};
+ghost use Rattle.trace_text.specs.TraceForms.{is_version_2, lines_behind};
 ghost use Rattle.world_core.specs.Replays.{IsFirstDisabled};
 ghost use Rattle.world_merge.specs.Merges.{events_of};
 ghost use Rattle.world_rules.specs.Images.{image};
@@ -154,6 +154,24 @@ fn check_lines<'a>(
     }
 }
 
+// What is found of what is behind a plan.
+fn check_behind(
+    alloc: Global,
+    version: u8,
+    plan: &Plan,
+    rest: &[u8],
+) -> Result<FoundRun, TraceFault>
+    ensures run { IfOk result
+        (IsFoundAfter (is_version_2 version) plan.now (lines_behind plan.now rest.now)) }
+    ensures wrong { IfErr result
+        (IsFaultBy (IsWrongAfter (is_version_2 version) plan.now (lines_behind plan.now rest.now))) }
+{
+    let Some(read) = lines_behind(alloc, plan, rest)? else {
+        return Err(TraceFault::NotRun(0));
+    };
+    check_lines(alloc, version, plan, read)
+}
+
 /// Checks that the bytes are the trace of a run of their plan, with the table of the world to which the run leads. The
 /// fault is the first index that is wrong: 0 for the head and the line that tells how many events there are, an
 /// event's number from 1 for a line that isn't of the form or whose event isn't enabled, or one more than there are
@@ -170,19 +188,12 @@ pub fn check(alloc: Global, bytes: &[u8]) -> Result<Checked, TraceFault>
         return Err(TraceFault::NotRun(0));
     };
     let plan = plan_of(alloc, head.version, head.plan)?;
-    let Some(read) = lines_behind(alloc, &plan, head.rest)? else {
-        return Err(TraceFault::NotRun(0));
-    };
-    let FoundRun {
-        events,
-        left_out,
-        rows,
-    } = check_lines(alloc, head.version, &plan, read)?;
+    let found = check_behind(alloc, head.version, &plan, head.rest)?;
     Ok(Checked {
         version: head.version,
-        events,
-        left_out,
+        events: found.events,
+        left_out: found.left_out,
         plan,
-        rows,
+        rows: found.rows,
     })
 }

@@ -1,12 +1,14 @@
 //! Reads the trace of a run by its form.
 
-ghost use Rattle.std.specs.Prelude.{◌≡◌, [], IfOk};
+ghost use Rattle.std.specs.Prelude.{◌≡◌, [], Err, IfErr, IfOk, Ok};
 ghost use Rattle.ason_base.specs.Network.{IsTopology};
 ghost use Rattle.plan_reader.specs.Plans.{ArePostable, HasNames};
+ghost use Rattle.trace_text.specs.Checks.{IsFaultBy};
+ghost use Rattle.trace_text.specs.TraceForms.{form_of};
 ghost use Rattle.trace_text.specs.TraceRead.{ReadsAs, trace_fault};
 ghost use Rattle.trace_text.specs.declared.read.TraceFault.{TraceFault};
 
-use crate::forms::{form_of, head_of, plan_of};
+use crate::forms::{Head, form_of, head_of, plan_of};
 use ason_base::{Bytes, Entry, Items, OutOfMemory};
 use plan_reader::{Plan, PlanError, PlanFault};
 use std::alloc::Global;
@@ -64,6 +66,39 @@ fn copy_bytes(alloc: Global, bytes: &[u8]) -> Result<Bytes, OutOfMemory>
     Ok(Bytes::from_vec(copy))
 }
 
+fn copies(alloc: Global, plan: &[u8], table: &[u8]) -> Result<(Bytes, Bytes), OutOfMemory>
+    ensures { IfOk result (λ b. b ≡ (plan.now, table.now)) }
+{
+    let plan = copy_bytes(alloc, plan)?;
+    let table = copy_bytes(alloc, table)?;
+    Ok((plan, table))
+}
+
+// What a trace has besides its version and its plan.
+#[derive(Drop)]
+pub struct Behind {
+    plan_bytes: Bytes,
+    entries: Entries,
+    table: Bytes,
+}
+
+fn read_behind<'a>(alloc: Global, plan: &Plan, head: Head<'a>) -> Result<Behind, TraceFault>
+    ensures form { IfOk result (λ b. form_of plan.now head.entry.rest.now ≡ Ok (b.entries, b.table)) }
+    ensures bytes { IfOk result (λ b. b.plan_bytes ≡ head.entry.plan.now) }
+    ensures wrong { IfErr result (IsFaultBy (λ i. form_of plan.now head.entry.rest.now ≡ Err i)) }
+{
+    let form = match form_of(alloc, plan, head.rest)? {
+        Ok(form) => form,
+        Err(i) => return Err(TraceFault::NotRun(i)),
+    };
+    let (plan_bytes, table) = copies(alloc, head.plan, form.table)?;
+    Ok(Behind {
+        plan_bytes,
+        entries: Entries::from_vec(form.entries),
+        table,
+    })
+}
+
 /// Reads a trace by its form alone: every event counts as one that can happen, and every table as right. A fault of
 /// the plan comes before whatever is wrong behind the plan. In a trace of version 1 no setup is two-way. The plan's
 /// network is a topology, its lines can be posted one after the other, and each node and each call has its name.
@@ -77,17 +112,12 @@ pub fn read_trace(alloc: Global, bytes: &[u8]) -> Result<Trace, TraceFault>
         return Err(TraceFault::NotRun(0));
     };
     let plan = plan_of(alloc, head.version, head.plan)?;
-    let form = match form_of(alloc, &plan, head.rest)? {
-        Ok(form) => form,
-        Err(i) => return Err(TraceFault::NotRun(i)),
-    };
-    let plan_bytes = copy_bytes(alloc, head.plan)?;
-    let table = copy_bytes(alloc, form.table)?;
+    let behind = read_behind(alloc, &plan, head)?;
     Ok(Trace {
         version: head.version,
-        plan_bytes,
+        plan_bytes: behind.plan_bytes,
         plan,
-        entries: Entries::from_vec(form.entries),
-        table,
+        entries: behind.entries,
+        table: behind.table,
     })
 }
