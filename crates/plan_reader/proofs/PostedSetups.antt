@@ -12,7 +12,7 @@ use Rattle.plan_reader.specs.declared.limits.TheConstants.{MOST_CALLS}
 use Rattle.plan_reader.specs.declared.setups.RouteIds.{RouteIds}
 use Rattle.plan_reader.specs.declared.setups.Routes.{Routes}
 use Rattle.plan_reader.specs.PlanCalls.{CallList}
-use Rattle.plan_reader.specs.PlanSetups.{next_setup, node_at, route_ids, routes_over, setup_between, setup_of, setup_over, steps_given}
+use Rattle.plan_reader.specs.PlanSetups.{new_routes, next_setup, node_at, route_ids, setup_between, setup_of, setup_over, steps_given}
 use Rattle.plan_reader.specs.PlanTexts.{word_at}
 use Rattle.plan_reader.proofs.Entries.{both_read, passed}
 use Rattle.plan_reader.proofs.KnownNodes.{place_is_known}
@@ -34,11 +34,11 @@ over_posts :
 over_posts t calls before ws f ids from to c searchable fit from_known to_known backs named h =
     let via = steps_given t from ids.via in
     let backup = steps_given t from ids.backup in
-    let other = passed (from.0 == to.0) _ _ _ h in
+    let routes = both_read (new_routes t calls (word_at ws 1) ids from to) _ c h in
+    let other = passed (from.0 == to.0) _ _ _ routes.1 in
     let new = passed (has_name calls.names (word_at ws 1)) _ _ _ other.1 in
     let few = passed (nat_le MOST_CALLS (length calls.names)) _ _ _ new.1 in
-    let routes = both_read (routes_over t from to ids) _ c few.1 in
-    let good = good_are t from to via backup routes.0 routes.1 in
+    let good = good_are t from to via backup routes.0 few.1 in
     let same : next_setup calls from to f routes.0 ≡ c = cc (routes.2) in
     subst (CanPost t calls before ws) (ap (λ (r : Routes). next_setup calls from to f r) good.same ∙ same) (
       all_pass (is_node_id t.nodes from) (is_node_id t.nodes to) (from.0 == to.0) (has_way t from to via)

@@ -1,12 +1,12 @@
 -- The calls that a script sets up, each with its ingress, in order of number.
-use Rattle.std.specs.Prelude.{◌≡◌, ℕ, ◌≤◌, String, length, List, [], ◌∷◌, ◌++◌, Option, Some, None, option_map, slice_get}
+use Rattle.std.specs.Prelude.{◌≡◌, ℕ, ◌≤◌, cond, String, length, List, [], ◌∷◌, ◌++◌, Option, Some, None, option_map, slice_get}
 use Rattle.std.specs.BTreeMap.{BTreeMap, get_by_text}
 use Rattle.std.specs.Global.{Global}
 use Rattle.ason_base.specs.declared.ids.NodeId.{NodeId}
 use Rattle.ason_base.specs.declared.commands.Command.{Command}
 use Rattle.ason_base.specs.declared.commands.Command.TheVariants.{Setup, Release, Protect, Retry, Revert, Fail, Repair}
 use Rattle.plan_reader.specs.declared.limits.TheConstants.{MOST_CALLS}
-use Rattle.plan_reader.specs.Names.{place_of}
+use Rattle.plan_reader.specs.Names.{place_of, same_text}
 use Rattle.plan_reader.specs.PlanTexts.{word_at}
 
 pub record CallList : Type 0 where
@@ -40,6 +40,11 @@ calls_with calls ws (Repair g) = calls
 -- the map has the place of each name
 abbrev pub ArePlaces : BTreeMap (String Global) ℕ → List (List ℕ) → Type 0
 ArePlaces places names = (bs : List ℕ) → get_by_text places bs ≡ place_of names bs
+
+-- the map has this place of the name now, and that of each other text as before
+abbrev pub PutsPlace : BTreeMap (String Global) ℕ → BTreeMap (String Global) ℕ → List ℕ → ℕ → Type 0
+PutsPlace old new name place =
+    (bs : List ℕ) → get_by_text new bs ≡ cond (same_text name bs) (Some place) (get_by_text old bs)
 
 -- the names are few, and the map has their places
 abbrev pub AreFound : BTreeMap (String Global) ℕ → List (List ℕ) → Type 0

@@ -81,13 +81,18 @@ abbrev pub next_setup : CallList → NodeId → NodeId → SetupForm → Routes 
 next_setup calls from to form routes =
     Setup (record { 0 = length calls.names }) from to form.protected form.both routes.via routes.backup
 
+-- the routes of a new call of this name, or the first fault of the call and of these
+abbrev pub new_routes : Network → CallList → List ℕ → RouteIds → NodeId → NodeId → Result Routes PlanKind
+new_routes t calls name ids from to =
+    if from.0 == to.0 then Err kinds.Same
+    else if has_name calls.names name then Err kinds.Call
+    else if nat_le MOST_CALLS (length calls.names) then Err kinds.Count
+    else routes_over t from to ids
+
 abbrev pub setup_over :
     Network → CallList → List (List ℕ) → SetupForm → RouteIds → NodeId → NodeId → Result Command PlanKind
 setup_over t calls ws form ids from to =
-    if from.0 == to.0 then Err kinds.Same
-    else if has_name calls.names (word_at ws 1) then Err kinds.Call
-    else if nat_le MOST_CALLS (length calls.names) then Err kinds.Count
-    else and_then (routes_over t from to ids) (λ routes. Ok (next_setup calls from to form routes))
+    and_then (new_routes t calls (word_at ws 1) ids from to) (λ routes. Ok (next_setup calls from to form routes))
 
 abbrev pub setup_between :
     Network → CallList → List (List ℕ) → SetupForm → RouteIds → Option NodeId → Option NodeId →

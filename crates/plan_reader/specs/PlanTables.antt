@@ -110,15 +110,24 @@ lacks key d = is_none (get key d)
 
 -- Keys
 
-unfoldable pub is_key : Shape → List ℕ → Bool
-is_key OfTop k =
+unfoldable pub is_top_key : List ℕ → Bool
+is_top_key k =
     same_text k (codes "wait")
     || (same_text k (codes "script") || (same_text k (codes "node") || same_text k (codes "link")))
-is_key OfNode k = same_text k (codes "name") || (same_text k (codes "id") || same_text k (codes "convert"))
-is_key OfLink k =
+
+unfoldable pub is_node_key : List ℕ → Bool
+is_node_key k = same_text k (codes "name") || (same_text k (codes "id") || same_text k (codes "convert"))
+
+unfoldable pub is_link_key : List ℕ → Bool
+is_link_key k =
     same_text k (codes "id")
     || (same_text k (codes "ends")
     || (same_text k (codes "labels") || (same_text k (codes "metric") || same_text k (codes "srlg"))))
+
+unfoldable pub is_key : Shape → List ℕ → Bool
+is_key OfTop k = is_top_key k
+is_key OfNode k = is_node_key k
+is_key OfLink k = is_link_key k
 
 abbrev pub has_strange_member : Shape → Members → Bool
 has_strange_member shape no_members = false

@@ -1,7 +1,7 @@
 //! The calls that a script sets up.
 
 ghost use Rattle.std.specs.Prelude.{◌≡◌, ◌<◌, length, IfSome, IsFalse, OnErr, OnOk};
-ghost use Rattle.plan_reader.specs.PlanCalls.{call_at, call_named, no_calls, with_call};
+ghost use Rattle.plan_reader.specs.PlanCalls.{PutsPlace, call_at, call_named, no_calls, with_call};
 ghost use Rattle.plan_reader.specs.Names.{has_name};
 
 use crate::limits::MOST_CALLS;
@@ -29,6 +29,21 @@ impl Model for NamedCalls {
     ghost invariant = { λ s. AreFound s.places s.names.items };
 }
 
+// Puts the place of a new name into the map.
+fn put(
+    alloc: Global,
+    places: &mut BTreeMap<String, usize>,
+    name: &Name,
+    place: usize,
+) -> Result<(), OutOfMemory>
+    ensures ok { OnOk result (PutsPlace places.old places.new name.now place) }
+    ensures err { OnErr result (places.new.entries ≡ places.old.entries) }
+{
+    let key = String::from_str(alloc, name.as_str())?;
+    places.insert(key, place)?;
+    Ok(())
+}
+
 impl NamedCalls {
     /// No call.
     pub fn new(alloc: Global) -> NamedCalls
@@ -51,8 +66,7 @@ impl NamedCalls {
         let place = self.count();
         self.names.reserve(1)?;
         self.ingresses.reserve(1)?;
-        let key = String::from_str(alloc, name.as_str())?;
-        self.places.insert(key, place)?;
+        put(alloc, &mut self.places, &name, place)?;
         match (self.names.push(name), self.ingresses.push(ingress)) {
             (Ok(()), Ok(())) => Ok(()),
             _ => unreachable!(),

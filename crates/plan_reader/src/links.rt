@@ -1,11 +1,11 @@
 //! The links of a plan.
 
-ghost use Rattle.std.specs.Prelude.{◌≡◌, ◌≤◌, Err, IfOk, Ok, length, option_map};
+ghost use Rattle.std.specs.Prelude.{◌≡◌, ◌≤◌, Err, IfOk, Ok, Some, length, option_map};
 ghost use Rattle.std.specs.List.{list_all};
 ghost use Rattle.toml.specs.View.{view};
 ghost use Rattle.ason_base.specs.Network.{is_distinct};
 ghost use Rattle.plan_reader.specs.Entries.{FailsBy, FailsFirst};
-ghost use Rattle.plan_reader.specs.PlanTables.{all_numbers, end_ids, end_name, ends_of, has_link_counts, has_link_kinds, labels_in, lacks_link_key, last_link, link_between, link_of, link_of_numbers, metric_in, numbers_of, srlg_in, srlgs_in, views};
+ghost use Rattle.plan_reader.specs.PlanTables.{all_numbers, end_ids, end_name, ends_of, has_link_counts, has_link_kinds, labels_in, lacks_link_key, last_link, link_between, link_of, link_of_numbers, link_with, metric_in, numbers_of, srlg_in, srlgs_in, views};
 ghost use Rattle.plan_reader.specs.Plans.{links_of};
 ghost use Rattle.plan_reader.specs.declared.faults.PlanError.{PlanError};
 ghost use Rattle.plan_reader.specs.declared.faults.PlanFault.{PlanFault};
@@ -148,6 +148,30 @@ fn numbers(alloc: Global, value: &Value) -> Result<Option<LinkNumbers>, OutOfMem
     }))
 }
 
+// The ends of a link of these numbers, or the link's first fault.
+fn placed(
+    known: &Nodes,
+    last: u32,
+    value: &Value,
+    numbers: &LinkNumbers,
+) -> Result<(NodeId, NodeId), EntryError>
+    ensures ends { IfOk result (λ ends. link_of_numbers known.now last (view value.now) (Some numbers.now)
+        ≡ Ok (link_with numbers.now ends)) }
+    ensures fault { FailsBy result
+        (link_of_numbers known.now last (view value.now) (Some numbers.now)) }
+{
+    if last >= numbers.id {
+        return Err(EntryError::Fault(PlanKind::Order));
+    }
+    let Some(ends) = ends(value, known) else {
+        return Err(EntryError::Fault(PlanKind::Ends));
+    };
+    if !is_distinct(numbers.srlgs.items()) {
+        return Err(EntryError::Fault(PlanKind::Twice));
+    }
+    Ok(ends)
+}
+
 // A link, or its first fault, after links of which the last has this id.
 fn read_link(alloc: Global, known: &Nodes, last: u32, value: &Value) -> Result<LinkSpec, EntryError>
     ensures link { IfOk result (λ l. link_of known.now last (view value.now) ≡ Ok l) }
@@ -168,15 +192,7 @@ fn read_link(alloc: Global, known: &Nodes, last: u32, value: &Value) -> Result<L
     let Some(numbers) = numbers(alloc, value)? else {
         return Err(EntryError::Fault(PlanKind::Range));
     };
-    if last >= numbers.id {
-        return Err(EntryError::Fault(PlanKind::Order));
-    }
-    let Some((low, high)) = ends(value, known) else {
-        return Err(EntryError::Fault(PlanKind::Ends));
-    };
-    if !is_distinct(numbers.srlgs.items()) {
-        return Err(EntryError::Fault(PlanKind::Twice));
-    }
+    let (low, high) = placed(known, last, value, &numbers)?;
     Ok(LinkSpec {
         id: LinkId(numbers.id),
         low,

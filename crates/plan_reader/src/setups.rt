@@ -1,11 +1,12 @@
 //! The setups of a script.
 
-ghost use Rattle.std.specs.Prelude.{◌≡◌, Err, IfOk, Ok};
+ghost use Rattle.std.specs.Prelude.{◌≡◌, ◌<◌, length, Err, IfOk, IsFalse, IsTrue, Ok, OnOk};
 ghost use Rattle.std.specs.Option.{option_copied};
 ghost use Rattle.plan_reader.specs.Entries.{FailsBy, and_then};
 ghost use Rattle.plan_reader.specs.PlanCalls.{calls_with};
-ghost use Rattle.plan_reader.specs.PlanSetups.{good_routes, ids_at, in_reach, is_backed, leads, next_node, next_setup, node_at, route_ids, routes_over, setup_between, setup_of, setup_over, setup_with, steps_given, steps_over};
-ghost use Rattle.plan_reader.specs.PlanTexts.{texts};
+ghost use Rattle.plan_reader.specs.PlanSetups.{good_routes, ids_at, in_reach, is_backed, leads, new_routes, next_node, next_setup, node_at, route_ids, routes_over, setup_between, setup_of, setup_over, setup_with, steps_given, steps_over};
+ghost use Rattle.plan_reader.specs.PlanTexts.{texts, word_at};
+ghost use Rattle.plan_reader.specs.Names.{has_name, is_name};
 
 use crate::calls::NamedCalls;
 use crate::faults::{EntryError, PlanKind};
@@ -170,6 +171,101 @@ pub fn node_at(t: &Topology, names: &Names, words: &[&[u8]], k: usize) -> Option
     node_named(names, t.nodes(), word(words, k))
 }
 
+// Which nodes a setup is between.
+#[derive(Clone, Copy)]
+pub struct Ends {
+    from: NodeId,
+    to: NodeId,
+}
+
+// The routes of a new call of this name, or the first fault of the call and of these.
+fn new_routes(
+    alloc: Global,
+    t: &Topology,
+    calls: &NamedCalls,
+    name: &Name,
+    ids: &RouteIds,
+    ends: Ends,
+) -> Result<Routes, EntryError>
+    ensures routes { IfOk result (λ r. new_routes t.now calls.now name.now ids.now ends.from ends.to ≡ Ok r) }
+    ensures new { OnOk result (IsFalse (has_name calls.now.names name.now)) }
+    ensures few { OnOk result (length calls.now.names < MOST_CALLS) }
+    ensures fault { FailsBy result (new_routes t.now calls.now name.now ids.now ends.from ends.to) }
+{
+    if ends.from == ends.to {
+        return Err(EntryError::Fault(PlanKind::Same));
+    }
+    if calls.has(name) {
+        return Err(EntryError::Fault(PlanKind::Call));
+    }
+    if calls.count() >= MOST_CALLS {
+        return Err(EntryError::Fault(PlanKind::Count));
+    }
+    routes_over(alloc, t, ends.from, ends.to, ids)
+}
+
+// What a setup is to be besides its name and its ends.
+#[derive(Drop)]
+pub struct Asked {
+    form: SetupForm,
+    ids: RouteIds,
+}
+
+// The setup between these nodes, or its first fault. Its call is added to the calls.
+fn setup_over(
+    alloc: Global,
+    t: &Topology,
+    calls: &mut NamedCalls,
+    words: &[&[u8]],
+    asked: &Asked,
+    ends: Ends,
+) -> Result<Command, EntryError>
+    requires { IsTrue (is_name (word_at (texts words.now) 1)) }
+    ensures says { IfOk result (λ c. setup_over t.now calls.old (texts words.now)
+        asked.now.form asked.now.ids ends.from ends.to ≡ Ok c) }
+    ensures calls { IfOk result (λ c. calls.new ≡ calls_with calls.old (texts words.now) c) }
+    ensures fault { FailsBy result (setup_over t.now calls.old (texts words.now)
+        asked.now.form asked.now.ids ends.from ends.to) }
+{
+    let name = Name::new(alloc, word(words, 1))?;
+    let routes = new_routes(alloc, t, calls, &name, &asked.ids, ends)?;
+    let call = CallNo(calls.count() as u16);
+    calls.push(alloc, name, ends.from)?;
+    Ok(Command::Setup {
+        call,
+        from: ends.from,
+        to: ends.to,
+        protected: asked.form.protected,
+        both: asked.form.both,
+        via: routes.via,
+        backup: routes.backup,
+    })
+}
+
+// The setup over these links, or its first fault. Its call is added to the calls.
+fn setup_with(
+    alloc: Global,
+    t: &Topology,
+    names: &Names,
+    calls: &mut NamedCalls,
+    words: &[&[u8]],
+    asked: &Asked,
+) -> Result<Command, EntryError>
+    ensures says { IfOk result (λ c. setup_with t.now names.now calls.old (texts words.now)
+        asked.now.form asked.now.ids ≡ Ok c) }
+    ensures calls { IfOk result (λ c. calls.new ≡ calls_with calls.old (texts words.now) c) }
+    ensures fault { FailsBy result (setup_with t.now names.now calls.old (texts words.now)
+        asked.now.form asked.now.ids) }
+{
+    if !is_name(word(words, 1)) {
+        return Err(EntryError::Fault(PlanKind::Name));
+    }
+    let (Some(from), Some(to)) = (node_at(t, names, words, 2), node_at(t, names, words, 3)) else {
+        return Err(EntryError::Fault(PlanKind::Node));
+    };
+    setup_over(alloc, t, calls, words, asked, Ends { from, to })
+}
+
 /// A setup of this form, or its first fault. Its call is added to the calls.
 pub fn read_setup(
     alloc: Global,
@@ -184,32 +280,5 @@ pub fn read_setup(
     ensures fault { FailsBy result (setup_of t.now names.now calls.old (texts words.now) form) }
 {
     let ids = route_ids(alloc, words, form)?;
-    if !is_name(word(words, 1)) {
-        return Err(EntryError::Fault(PlanKind::Name));
-    }
-    let name = Name::new(alloc, word(words, 1))?;
-    let (Some(from), Some(to)) = (node_at(t, names, words, 2), node_at(t, names, words, 3)) else {
-        return Err(EntryError::Fault(PlanKind::Node));
-    };
-    if from == to {
-        return Err(EntryError::Fault(PlanKind::Same));
-    }
-    if calls.has(&name) {
-        return Err(EntryError::Fault(PlanKind::Call));
-    }
-    if calls.count() >= MOST_CALLS {
-        return Err(EntryError::Fault(PlanKind::Count));
-    }
-    let routes = routes_over(alloc, t, from, to, &ids)?;
-    let call = CallNo(calls.count() as u16);
-    calls.push(alloc, name, from)?;
-    Ok(Command::Setup {
-        call,
-        from,
-        to,
-        protected: form.protected,
-        both: form.both,
-        via: routes.via,
-        backup: routes.backup,
-    })
+    setup_with(alloc, t, names, calls, words, &Asked { form, ids })
 }

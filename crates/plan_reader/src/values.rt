@@ -5,7 +5,7 @@ ghost use Rattle.std.specs.List.{list_all};
 ghost use Rattle.std.specs.BTreeMap.{keys};
 ghost use Rattle.toml.specs.Data.{as_integer, as_str, as_table, get, get_member};
 ghost use Rattle.toml.specs.View.{table_view, view};
-ghost use Rattle.plan_reader.specs.PlanTables.{elements_at, elements_of, passes, is_array, is_array_of, is_boolean, is_integer, is_key, is_table, is_text, flag_in, flag_of, has_strange, has_strange_member, integer_in, lacks, number_at, number_of, number_or, text_at, text_of};
+ghost use Rattle.plan_reader.specs.PlanTables.{elements_at, elements_of, passes, is_array, is_array_of, is_boolean, is_integer, is_key, is_link_key, is_node_key, is_table, is_text, is_top_key, flag_in, flag_of, has_strange, has_strange_member, integer_in, lacks, number_at, number_of, number_or, text_at, text_of};
 
 use toml::{Table, Value};
 
@@ -236,18 +236,35 @@ pub fn are_tables_at(value: &Value, key: &str) -> bool
 
 // Keys
 
+#[tactic(auto, unfolding(crate::specs::PlanTables::is_top_key))]
+fn is_top_key(key: &str) -> bool
+    ensures { result ≡ is_top_key key.now }
+{
+    key == "wait" || key == "script" || key == "node" || key == "link"
+}
+
+#[tactic(auto, unfolding(crate::specs::PlanTables::is_node_key))]
+fn is_node_key(key: &str) -> bool
+    ensures { result ≡ is_node_key key.now }
+{
+    key == "name" || key == "id" || key == "convert"
+}
+
+#[tactic(auto, unfolding(crate::specs::PlanTables::is_link_key))]
+fn is_link_key(key: &str) -> bool
+    ensures { result ≡ is_link_key key.now }
+{
+    key == "id" || key == "ends" || key == "labels" || key == "metric" || key == "srlg"
+}
+
 #[tactic(auto, unfolding(crate::specs::PlanTables::is_key))]
 fn is_key(shape: Shape, key: &str) -> bool
     ensures { result ≡ is_key shape key.now }
 {
     match shape {
-        Shape::OfTop => key == "wait" || key == "script" || key == "node" || key == "link",
-        Shape::OfNode => key == "name" || key == "id" || key == "convert",
-        Shape::OfLink => key == "id"
-            || key == "ends"
-            || key == "labels"
-            || key == "metric"
-            || key == "srlg",
+        Shape::OfTop => is_top_key(key),
+        Shape::OfNode => is_node_key(key),
+        Shape::OfLink => is_link_key(key),
     }
 }
 

@@ -1,5 +1,4 @@
-use Rattle.std.proofs.Common.{◌≡◌, ℕ, ◌<◌, ◌≤◌, ◌++◌, ◌∷◌, [], IsFalse, List, arith, ap, length, length-append, string_bytes, subst, sym, ◌∙◌}
-use Rattle.std.proofs.lemmas.Map.Text.{btree_map_updates_text}
+use Rattle.std.proofs.Common.{◌≡◌, ℕ, ◌<◌, ◌≤◌, ◌++◌, ◌∷◌, [], IsFalse, List, arith, ap, length, length-append, subst, sym, ◌∙◌}
 use Rattle.plan_reader.specs.Names.{has_name}
 use Rattle.plan_reader.specs.PlanCalls.{ArePlaces, CallList}
 use Rattle.plan_reader.specs.declared.limits.TheConstants.{MOST_CALLS}
@@ -17,13 +16,11 @@ invariant_of-self-2 c =
     let few : length names < MOST_CALLS = subst (λ (l : CallList). length l.names < MOST_CALLS) view c.requires.few in
     let fresh : IsFalse (has_name names name) =
     subst (λ (l : CallList). IsFalse (has_name l.names name)) view c.requires.fresh in
-    let key : string_bytes c.in_ok-key.key ≡ name = c.in_ok-key.ensures.ok ∙ c.as_str.ensures in
     let count : c.count-place.result ≡ length names =
     c.count-place.ensures ∙ ap (λ (l : CallList). length l.names) view in
-    let new = c.insert.new.self in
-    let updates = c.in_ok-insert.ensures.updates in
-    let sets = btree_map_updates_text (string_bytes c.in_ok-key.key) old.places new _ updates in
-    let after = rw (key, count) at sets in
+    let new = c.put.new.places in
+    let puts = c.in_ok-put.ensures.ok in
+    let after = rw count at puts in
     let places = places_more old.places new names name fresh c.self.invariant.1 after in
     let more = length-append names (name ∷ []) in
     let within : length (names ++ name ∷ []) ≤ MOST_CALLS = omega (arith, few, more) in (
