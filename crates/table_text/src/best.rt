@@ -26,8 +26,7 @@ pub fn best_text(alloc: Global, plan: &Plan, from: &str, to: &str) -> Result<Vec
     ensures { IfOk result (λ text. IsBestText plan.now from.now to.now text.items) }
 {
     let told = told(alloc, plan, from, to)?;
-    let text = told.as_bytes().to_vec(alloc)?;
-    Ok(text)
+    Ok(told.into_bytes())
 }
 
 fn told(alloc: Global, plan: &Plan, from: &str, to: &str) -> Result<String, OutOfMemory>

@@ -13,8 +13,7 @@ pub fn refused_text(alloc: Global, fault: PlanFault) -> Result<Vec<u8>, OutOfMem
     ensures { IfOk result (λ text. text.items ≡ refused_text fault) }
 {
     let line = line(alloc, fault)?;
-    let text = line.as_bytes().to_vec(alloc)?;
-    Ok(text)
+    Ok(line.into_bytes())
 }
 
 fn line(alloc: Global, fault: PlanFault) -> Result<String, OutOfMemory>

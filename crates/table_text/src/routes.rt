@@ -24,8 +24,7 @@ pub fn route_text(alloc: Global, plan: &Plan, from: &str, to: &str) -> Result<Ve
     ensures { IfOk result (λ text. text.items ≡ route_text plan.now from.now to.now) }
 {
     let told = told(alloc, plan, from, to)?;
-    let text = told.as_bytes().to_vec(alloc)?;
-    Ok(text)
+    Ok(told.into_bytes())
 }
 
 fn told(alloc: Global, plan: &Plan, from: &str, to: &str) -> Result<String, OutOfMemory>

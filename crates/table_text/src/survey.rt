@@ -27,8 +27,7 @@ pub fn survey_text(
         (λ text. text.items ≡ survey_text plan.now calm hits.now contends.now) }
 {
     let told = told(alloc, plan, calm, hits, contends)?;
-    let text = told.as_bytes().to_vec(alloc)?;
-    Ok(text)
+    Ok(told.into_bytes())
 }
 
 fn told(

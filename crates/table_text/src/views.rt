@@ -22,8 +22,7 @@ pub fn view_text(
 {
     let mut told = head(alloc, plan, node, entries)?;
     push_legs(&mut told, plan, legs)?;
-    let text = told.as_bytes().to_vec(alloc)?;
-    Ok(text)
+    Ok(told.into_bytes())
 }
 
 fn head(alloc: Global, plan: &Plan, node: NodeId, entries: u64) -> Result<String, OutOfMemory>
@@ -39,6 +38,5 @@ pub fn unknown_text(alloc: Global, name: &str) -> Result<Vec<u8>, OutOfMemory>
     ensures { IfOk result (λ text. text.items ≡ no_node_text name.now) }
 {
     let told = no_node_text(alloc, name)?;
-    let text = told.as_bytes().to_vec(alloc)?;
-    Ok(text)
+    Ok(told.into_bytes())
 }
