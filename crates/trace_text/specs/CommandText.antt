@@ -1,6 +1,7 @@
 -- The text of a command: the words of the script line that posts it, with single spaces between them.
 use Rattle.std.specs.Prelude.{ℕ, Bool, List, [], ◌++◌, codes, Option, Some, None, if◌then◌else◌}
 use Rattle.ason_base.specs.declared.commands.Command.{Command}
+use Rattle.ason_base.specs.declared.commands.Group.{Group}
 use Rattle.ason_base.specs.declared.commands.Command.TheVariants.{Setup, Release, Protect, Retry, Revert, Fail, Repair}
 use Rattle.ason_base.specs.declared.ids.CallNo.{CallNo}
 use Rattle.ason_base.specs.declared.ids.NodeId.{NodeId}
@@ -34,6 +35,14 @@ route_after word (Some steps) = codes " " ++ word ++ codes " " ++ links_text ste
 -- ` via L,.. backup L,..`, each where it is given
 abbrev pub routes_given : Option (List Step) → Option (List Step) → List ℕ
 routes_given via backup = route_after (codes "via") via ++ route_after (codes "backup") backup
+
+-- what a setup says behind its ends
+abbrev pub setup_way : Bool → Bool → Option (List Step) → Option (List Step) → List ℕ
+setup_way protected both via backup = protection protected ++ directions both ++ routes_given via backup
+
+-- a word and a group
+abbrev pub of_group : List ℕ → Group → List ℕ
+of_group word g = word ++ group_text g
 
 -- the words of the line
 abbrev pub command_text : Plan → Command → List ℕ

@@ -2,9 +2,9 @@
 
 ghost use Rattle.std.specs.Prelude.{OnOk};
 ghost use Rattle.ason_base.specs.Texts.{Appends};
-ghost use Rattle.trace_text.specs.CommandText.{command_text, directions, of_call, protection, route_after, routes_given, setup_ends};
+ghost use Rattle.trace_text.specs.CommandText.{command_text, directions, of_call, of_group, protection, route_after, routes_given, setup_ends, setup_way};
 
-use ason_base::{CallNo, Command, NodeId, OutOfMemory, Steps};
+use ason_base::{CallNo, Command, Group, NodeId, OutOfMemory, Steps};
 use plan_reader::Plan;
 use table_text::routes::push_links;
 use table_text::survey::push_group;
@@ -25,22 +25,14 @@ pub fn push_command(text: &mut String, plan: &Plan, command: &Command) -> Result
             backup,
         } => {
             push_ends(text, plan, *call, *from, *to)?;
-            push_protection(text, *protected)?;
-            push_directions(text, *both)?;
-            push_routes(text, via, backup)
+            push_way(text, *protected, *both, via, backup)
         }
         Command::Release { call, .. } => push_of_call(text, plan, "release", *call),
         Command::Protect { call, .. } => push_of_call(text, plan, "protect", *call),
         Command::Retry { call, .. } => push_of_call(text, plan, "retry", *call),
         Command::Revert { call, .. } => push_of_call(text, plan, "revert", *call),
-        Command::Fail { group } => {
-            text.push_str("fail ")?;
-            push_group(text, *group)
-        }
-        Command::Repair { group } => {
-            text.push_str("repair ")?;
-            push_group(text, *group)
-        }
+        Command::Fail { group } => push_of_group(text, "fail ", *group),
+        Command::Repair { group } => push_of_group(text, "repair ", *group),
     }
 }
 
@@ -50,6 +42,13 @@ fn push_of_call(text: &mut String, plan: &Plan, word: &str, call: CallNo) -> Res
     let name = call_name(plan, call);
     write!(text, "{word} {name}")?;
     Ok(())
+}
+
+fn push_of_group(text: &mut String, word: &str, group: Group) -> Result<(), OutOfMemory>
+    ensures { OnOk result (Appends text.old text.new (of_group word.now group)) }
+{
+    text.push_str(word)?;
+    push_group(text, group)
 }
 
 fn push_ends(
@@ -66,6 +65,21 @@ fn push_ends(
     let to = node_name(plan, to);
     write!(text, "setup {name} {from} {to}")?;
     Ok(())
+}
+
+// What a setup says behind its ends.
+fn push_way(
+    text: &mut String,
+    protected: bool,
+    both: bool,
+    via: &Option<Steps>,
+    backup: &Option<Steps>,
+) -> Result<(), OutOfMemory>
+    ensures { OnOk result (Appends text.old text.new (setup_way protected both via.now backup.now)) }
+{
+    push_protection(text, protected)?;
+    push_directions(text, both)?;
+    push_routes(text, via, backup)
 }
 
 fn push_protection(text: &mut String, protected: bool) -> Result<(), OutOfMemory>
