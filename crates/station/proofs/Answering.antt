@@ -29,6 +29,9 @@ more a b h k = grind (arith, h, k)
 sum : (a b : ℕ) → a ≤ b → b ≡ a + (b - a)
 sum a b h = omega (arith, h)
 
+no_true : false ≡ true → ⊥
+no_true e = cc (e)
+
 -- the station with its answer
 abbrev pub with_answer : StationState → Turn → StationState
 with_answer s x = record s { answer = x }
@@ -98,17 +101,17 @@ halts_so (Ok y) old new tick x a b leads = go (nat_eq a b)
   where
     go : (c : Bool) → is_at_limit (cond c turn.Idle (turn.Worked (b - a))) ≡ true → (t : Network) (n : NodeId)
         (ds : List Doing) → IsStationOf t n ds old → IsAtLimit (with_answer new x)
-    go true is = absurd (cc (is))
-    go false is = absurd (cc (is))
+    go true is = absurd (no_true is)
+    go false is = absurd (no_true is)
 halts_so (Err halt.AtLimit) old new tick x a b leads = λ e t n ds is. limit_so new x ((leads t n ds is).limit refl)
-halts_so (Err halt.OutOfMemory) old new tick x a b leads = λ is. absurd (cc (is))
+halts_so (Err halt.OutOfMemory) old new tick x a b leads = λ is. absurd (no_true is)
 
 -- and its rings were drained where it came to its end
 drains_so : (r : Result (Unit {0}) Halt) (xs ys : List LinkState) (a b : ℕ) → OnOk r (AllZip IsDrained xs ys) →
     comes_to_end (answer_of r a b) ≡ true → AllZip IsDrained xs ys
 drains_so (Ok y) xs ys a b all e = all
-drains_so (Err halt.AtLimit) xs ys a b all e = absurd (cc (e))
-drains_so (Err halt.OutOfMemory) xs ys a b all e = absurd (cc (e))
+drains_so (Err halt.AtLimit) xs ys a b all e = absurd (no_true e)
+drains_so (Err halt.OutOfMemory) xs ys a b all e = absurd (no_true e)
 
 -- it was one turn
 pub made-turn : (r : Result (Unit {0}) Halt) (old new : StationState) (tick : Bool) (x : Turn) →

@@ -2,6 +2,7 @@
 use Rattle.std.proofs.Common.{◌≡◌, ◌≤◌, ◌<◌, ◌+◌, ℕ, zero, suc, List, [], ◌∷◌, ◌++◌, length, refl, sym}
 use Rattle.std.proofs.Common.{ap, ◌∙◌, subst, arith}
 use Rattle.std.specs.Prelude.{max, slice_get, Some, Result, Ok}
+use Rattle.std.proofs.lemmas.Option.{none-some}
 use Rattle.rtrb.specs.Ring.{known_items, sent}
 use Rattle.station_rings.specs.LinkStates.{IsFetched, LinkState}
 use Rattle.station_doings.specs.Entered.{me_of}
@@ -70,7 +71,7 @@ fetched-goes s place links f first =
 -- a place where something is
 pub place-within : (place : ℕ) (links : List LinkState) (l : LinkState) → slice_get links place ≡ Some l →
     place < length links
-place-within place [] l at = absurd (cc (at))
+place-within place [] l at = absurd (none-some l at)
 place-within zero (k ∷ links) l at = omega arith
 place-within (suc place) (k ∷ links) l at = let le = place-within place links l at in omega (arith, le)
 

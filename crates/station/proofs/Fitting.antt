@@ -5,6 +5,7 @@ use Rattle.std.proofs.Common.{List, [], ◌∷◌, length, refl, sym, ap, ◌∙
 use Rattle.std.specs.Prelude.{◌&&◌, slice_get, Some, IsTrue}
 use Rattle.std.specs.List.{AllByRecursion, AllZip}
 use Rattle.std.proofs.lemmas.List.{length-append}
+use Rattle.std.proofs.lemmas.Option.{none-some, same_Some}
 use Rattle.ason_base.specs.declared.commands.Event.{Event}
 use Rattle.ason_base.specs.declared.ids.NodeId.{NodeId}
 use Rattle.hop_reliable.proofs.Members.{each-more}
@@ -153,15 +154,36 @@ able-few lines stamp e = go (nat_lt lines 50000) refl e
     go true f h = below f
     go false f h = absurd (cc (h))
 
+-- and its stamp is one of 64 bits
+pub able-stamp : (lines stamp : ℕ) → able lines stamp ≡ true → stamp < 2 ^ 64
+able-stamp lines stamp e = go (nat_lt lines 50000) (nat_lt stamp (2 ^ 64)) refl e
+  where
+    below : nat_lt stamp (2 ^ 64) ≡ true → stamp < 2 ^ 64
+    below h = grind (arith, h)
+
+    go : (b c : Bool) → nat_lt stamp (2 ^ 64) ≡ c → (b && c) ≡ true → stamp < 2 ^ 64
+    go true true f h = below f
+    go true false f h = absurd (cc (h))
+    go false c f h = absurd (cc (h))
+
+fewer : (a b : ℕ) → a ≡ b → a < 50000 → b < 50000
+fewer a b e h = omega (arith, e, h)
+
+-- so its controller makes another step
+pub few-steps : (s : StationState) (stamp : ℕ) → able (length s.log) stamp ≡ true → StationFits s →
+    s.controller.steps < 50000
+few-steps s stamp e fit =
+    fewer (length s.log) s.controller.steps fit.count (able-few (length s.log) stamp e)
+
 -- Places
 
 -- the link at this place leads to a neighbour
 pub near-at : (p : LocalNode) (steps clock i : ℕ) (u : NodeId) (links : List LinkState) →
     AllByRecursion (LinkKeeps p steps clock) links → slice_get (peers_of links) i ≡ Some u →
     IsTrue (is_neighbour p u)
-near-at p steps clock i u [] all at = absurd (cc (at))
+near-at p steps clock i u [] all at = absurd (none-some u at)
 near-at p steps clock zero u (l ∷ links) all at =
-    let same : l.peer ≡ u = cc (at) in subst (λ (n : NodeId). IsTrue (is_neighbour p n)) same all.0.near
+    subst (λ (n : NodeId). IsTrue (is_neighbour p n)) (same_Some l.peer u at) all.0.near
 near-at p steps clock (suc i) u (l ∷ links) all at = near-at p steps clock i u links all.1 at
 
 -- a change that leaves the neighbour and what was sent

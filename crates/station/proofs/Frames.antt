@@ -58,6 +58,15 @@ says-it t n ds old u k j o is same said =
 abbrev pub IsDeliveredNow : Option DisturbKind → Type 0
 IsDeliveredNow o = (o ≡ None) ⊎ (o ≡ Some Repeat)
 
+lose_not_held : Some Lose ≢ Some Hold
+lose_not_held e = absurd (cc (e))
+
+none_not_held : None ≢ Some Hold
+none_not_held e = absurd (cc (e))
+
+pub repeat-not-held : Some Repeat ≢ Some Hold
+repeat-not-held e = absurd (cc (e))
+
 -- A frame that isn't delivered now
 
 pub lose-goes : (a : Ahead) (q : Parcel) (old : StationState) (links : List LinkState) → ArePeersApart old.links →
@@ -70,7 +79,7 @@ lose-goes a q old links apart h said =
     ring-step t n ds a.place old first (record old { links = links }) end a.from q p (got ds p (Some Lose)) _
     (popped-is a.from q bears) (takes-at a.from q a.place old.links links h.taken) refl
     (ap (λ o. pop_part o ds p) (says-it t n ds old a.from q.number a.head.number (Some Lose) is h.number said)) refl
-    (taken-of t n ds a.from q p (Some Lose) a.place old links is (λ e. absurd (cc (e))) apart h.taken
+    (taken-of t n ds a.from q p (Some Lose) a.place old links is lose_not_held apart h.taken
     (popped-is a.from q bears)))
   where
     bears : IsBearing q
@@ -162,7 +171,7 @@ module _ (a : Ahead) (old new : StationState) (apart : ArePeersApart old.links) 
         (ap (λ o. pop_part o ds it)
         (says-it t n ds old a.from h.parcel.number a.head.number None is h.taken.number said)
         ∙ takes-first None t n ds is) (append_assoc ds (Got it.from it.number None ∷ []) _)
-        (first-delivery None t n ds is (λ e. absurd (cc (e)))))
+        (first-delivery None t n ds is none_not_held))
 
 -- A frame that is lost
 

@@ -3,6 +3,8 @@ pub mod Answering
 pub mod Fetching
 pub mod Fitting
 pub mod Frames
+pub mod Freeing
+pub mod Given
 pub mod Joining
 pub mod Leading
 pub mod Hearing

@@ -4,6 +4,7 @@ use Rattle.std.proofs.Common.{arith, append-nil}
 use Rattle.std.specs.Prelude.{slice_get, Some}
 use Rattle.std.specs.List.{AllZip}
 use Rattle.std.proofs.lemmas.List.{length-append}
+use Rattle.std.proofs.lemmas.Option.{same_Some}
 use Rattle.rtrb.specs.Ring.{known_items}
 use Rattle.ason_base.specs.declared.ids.NodeId.{NodeId}
 use Rattle.station_sound.specs.declared.parcels.Parcel.{Parcel}
@@ -42,7 +43,7 @@ at_changed : (R : LinkState → LinkState → Type 0) (place : ℕ) (links after
 at_changed R place [] after l is at = absurd is
 at_changed R place (k ∷ links) [] l is at = absurd is
 at_changed R zero (k ∷ links) (m ∷ after) l is at =
-    let same : k ≡ l = cc (at) in record { new = m; is = refl; on = subst (λ x. R x m) same is.0 }
+    let same = same_Some k l at in record { new = m; is = refl; on = subst (λ x. R x m) same is.0 }
 at_changed R (suc place) (k ∷ links) (m ∷ after) l is at =
     let f = at_changed R place links after l is.1 at in record { new = f.new; is = f.is; on = f.on }
 
@@ -54,7 +55,7 @@ at_takes : (u : NodeId) (q : Parcel) (place : ℕ) (links after : List LinkState
 at_takes u q place [] after l is at = absurd is
 at_takes u q place (k ∷ links) [] l is at = absurd is
 at_takes u q zero (k ∷ links) (m ∷ after) l is at =
-    let same : k ≡ l = cc (at) in
+    let same = same_Some k l at in
     record { new = m; is = refl; on = subst (λ x. Takes q x m) same (is.0.0, is.0.1) }
 at_takes u q (suc place) (k ∷ links) (m ∷ after) l is at =
     let f = at_takes u q place links after l is.1 at in record { new = f.new; is = f.is; on = f.on }
@@ -94,7 +95,7 @@ moved-take place count xs ys zs a b =
 pub drained-none : (place count : ℕ) (xs ys : List LinkState) → IsMovedBy place count xs ys → IsEmptyAt place ys →
     IsDrainedAt place xs ys
 drained-none place count xs ys a b =
-    let same : a.new ≡ b.link = cc (a.is, b.there) in
+    let same = same_Some a.new b.link (sym a.is ∙ b.there) in
     record {
       old = a.old;
       new = a.new;
@@ -104,6 +105,9 @@ drained-none place count xs ys a b =
           drained-empty a.old a.new a.moved (ap (λ (l : LinkState). l.early) same ∙ b.early)
           (ap (λ (l : LinkState). known_items l.into) same ∙ b.known);
     }
+
+less : (k a b c : ℕ) {l : ℕ} → k ≡ a + b → a + b ≤ c → l ≡ c → k ≤ l
+less k a b c e f g = omega (arith, e, f, g)
 
 -- as many were taken as were known
 pub drained-many : (place count : ℕ) (xs ys : List LinkState) → IsMovedBy place count xs ys →
@@ -118,9 +122,6 @@ drained-many place count xs ys a few = record {
       drained-all a.old a.new a.moved
       (less _ _ _ count (length-append a.old.early (known_items a.old.into)) (few a.old a.was) a.many);
 }
-  where
-    less : (k a b c : ℕ) {l : ℕ} → k ≡ a + b → a + b ≤ c → l ≡ c → k ≤ l
-    less k a b c e f g = omega (arith, e, f, g)
 
 -- Rings up to one
 
@@ -140,8 +141,8 @@ drained-next zero [] (y ∷ ys) zs a b d = absurd a
 drained-next zero (x ∷ xs) [] zs a b d = absurd a
 drained-next zero (x ∷ xs) (y ∷ ys) [] a b d = absurd b
 drained-next zero (x ∷ xs) (y ∷ ys) (z ∷ zs) a b d =
-    let old : y ≡ d.old = cc (d.was) in
-    let new : z ≡ d.new = cc (d.is) in
+    let old = same_Some y d.old d.was in
+    let new = same_Some z d.new d.is in
     let drained : IsDrained y z =
     subst (λ k. IsDrained k z) (sym old) (subst (IsDrained d.old) (sym new) d.drained) in
     (drained-then x y z a.0 drained, all-moved-then xs ys zs a.1 b.1)
@@ -156,12 +157,18 @@ drained-next (suc i) (x ∷ xs) (y ∷ ys) (z ∷ zs) a b d = (
       (record { old = d.old; new = d.new; was = d.was; is = d.is; drained = d.drained }),
 )
 
+none_less : (k : ℕ) → suc k ≤ 0 → ⊥
+none_less k h = omega (arith, h)
+
+one_less : (k i : ℕ) → suc k ≤ suc i → k ≤ i
+one_less k i h = omega (arith, h)
+
 -- all are
 pub drained-each : (i : ℕ) (xs ys : List LinkState) → length xs ≤ i → DrainedBelow i xs ys → AllZip IsDrained xs ys
 drained-each zero [] [] le a = tt
 drained-each zero [] (y ∷ ys) le a = absurd a
-drained-each zero (x ∷ xs) ys le a = absurd (omega (arith, le))
+drained-each zero (x ∷ xs) ys le a = absurd (none_less (length xs) le)
 drained-each (suc i) [] [] le a = tt
 drained-each (suc i) [] (y ∷ ys) le a = absurd a
 drained-each (suc i) (x ∷ xs) [] le a = absurd a
-drained-each (suc i) (x ∷ xs) (y ∷ ys) le a = (a.0, drained-each i xs ys (omega (arith, le)) a.1)
+drained-each (suc i) (x ∷ xs) (y ∷ ys) le a = (a.0, drained-each i xs ys (one_less (length xs) i le) a.1)

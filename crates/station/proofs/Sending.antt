@@ -3,6 +3,7 @@ use Rattle.std.proofs.Common.{◌≡◌, ◌≤◌, ◌<◌, ◌+◌, ◌^◌, �
 use Rattle.std.proofs.Common.{[], ◌∷◌, ◌++◌, length, refl, sym, ap, ◌∙◌, subst, arith}
 use Rattle.std.specs.Prelude.{position, slice_get, slice_set, Option, Some, None, MatchOption}
 use Rattle.std.specs.List.{AllByRecursion, AllZip, position_or_len}
+use Rattle.std.proofs.lemmas.Option.{none-some, same_Some}
 use Rattle.ason_base.specs.declared.ids.NodeId.{NodeId}
 use Rattle.control_channels.specs.declared.frames.Frame.{Frame}
 use Rattle.hop_reliable.proofs.Members.{each-append}
@@ -62,17 +63,17 @@ others n l (m ∷ links) to all =
 
 at_peers : (P : NodeId → Type 0) (links : List LinkState) (i : ℕ) (l : LinkState) → slice_get links i ≡ Some l →
     AllByRecursion P (peers_of links) → P l.peer
-at_peers P [] i l at all = absurd (cc (at))
-at_peers P (k ∷ links) zero l at all = let same : k ≡ l = cc (at) in subst (λ (x : LinkState). P x.peer) same all.0
+at_peers P [] i l at all = absurd (none-some l at)
+at_peers P (k ∷ links) zero l at all = subst (λ (x : LinkState). P x.peer) (same_Some k l at) all.0
 at_peers P (k ∷ links) (suc i) l at all = at_peers P links i l at all.1
 
 -- the one at this place does
 pub sent-place : (stamp : ℕ) (f : Frame) (links : List LinkState) (i : ℕ) (l m : LinkState) →
     slice_get links i ≡ Some l → is_to f.to l ≡ true → ArePeersApart links → IsSentOver stamp (f ∷ []) l m →
     AllZip (IsSentOver stamp (f ∷ [])) links (slice_set links i m)
-sent-place stamp f [] i l m at to apart is = absurd (cc (at))
+sent-place stamp f [] i l m at to apart is = absurd (none-some l at)
 sent-place stamp f (k ∷ links) zero l m at to apart is =
-    let same : k ≡ l = cc (at) in (
+    let same = same_Some k l at in (
       subst (λ (x : LinkState). IsSentOver stamp (f ∷ []) x m) (sym same) is,
       sent-nowhere stamp f links
           (others f.to k links (subst (λ (x : LinkState). is_to f.to x ≡ true) (sym same) to) apart.0),
@@ -155,14 +156,14 @@ frame_sent stamp f v = go (is_view_to f.to v)
     go true = omega arith
     go false = omega arith
 
+two : (a b c d : ℕ) → a ≤ b + d → b ≤ c + 1 → a ≤ c + suc d
+two a b c d h k = omega (arith, h, k)
+
 frames_sent : (stamp : ℕ) (fs : List Frame) (v : LinkView) → (after_frames stamp fs v).sent ≤ v.sent + length fs
 frames_sent stamp [] v = omega arith
 frames_sent stamp (f ∷ fs) v =
     two (after_frames stamp fs (after_frame stamp f v)).sent (after_frame stamp f v).sent v.sent (length fs)
     (frames_sent stamp fs (after_frame stamp f v)) (frame_sent stamp f v)
-  where
-    two : (a b c d : ℕ) → a ≤ b + d → b ≤ c + 1 → a ≤ c + suc d
-    two a b c d h k = omega (arith, h, k)
 
 -- a link over which frames went has sent as many more at most
 pub over-sent : (stamp : ℕ) (fs : List Frame) (l m : LinkState) → IsSentOver stamp fs l m →
@@ -203,6 +204,9 @@ pub over-below : (stamp : ℕ) (fs : List Frame) (l m : LinkState) → IsSentOve
 over-below stamp fs l m is all =
     subst (λ (v : LinkView). Below stamp v.gone) (sym is.view) (frames_below stamp fs (view_of l) all)
 
+less : (a b c d : ℕ) → a ≤ b + c → c + 1 ≤ d → b + d < 2 ^ 64 → a + 1 < 2 ^ 64
+less a b c d h i j = omega (arith, h, i, j)
+
 -- a frame more can be sent
 pub may-still : (stamp k : ℕ) (fs : List Frame) (xs ys : List LinkState) → length fs + 1 ≤ k →
     AllZip (IsSentOver stamp fs) xs ys → AllByRecursion (MaySend k stamp) xs → AllByRecursion (MaySend 1 stamp) ys
@@ -216,9 +220,6 @@ may-still stamp k fs (x ∷ xs) (y ∷ ys) le sent may = (
   },
   may-still stamp k fs xs ys le sent.1 may.1,
 )
-  where
-    less : (a b c d : ℕ) → a ≤ b + c → c + 1 ≤ d → b + d < 2 ^ 64 → a + 1 < 2 ^ 64
-    less a b c d h i j = omega (arith, h, i, j)
 
 -- they lead where they led
 pub sent-peers : (stamp : ℕ) (fs : List Frame) (xs ys : List LinkState) → AllZip (IsSentOver stamp fs) xs ys →
@@ -233,7 +234,7 @@ sent-peers stamp fs (x ∷ xs) (y ∷ ys) all =
 
 get_set : (links : List LinkState) (i : ℕ) (l m : LinkState) → slice_get links i ≡ Some l →
     slice_get (slice_set links i m) i ≡ Some m
-get_set [] i l m at = absurd (cc (at))
+get_set [] i l m at = absurd (none-some l at)
 get_set (k ∷ links) zero l m at = refl
 get_set (k ∷ links) (suc i) l m at = get_set links i l m at
 

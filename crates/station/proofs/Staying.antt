@@ -4,6 +4,7 @@ use Rattle.std.proofs.Common.{length}
 use Rattle.std.proofs.Common.{map, sym, ap, ◌∙◌, subst, arith}
 use Rattle.std.specs.Prelude.{max, slice_get, Option, Some, None, Err}
 use Rattle.std.specs.List.{AllByRecursion}
+use Rattle.std.proofs.lemmas.Option.{none-some, same_Some}
 use Rattle.ason_base.specs.declared.commands.DisturbKind.{DisturbKind}
 use Rattle.ason_base.specs.declared.commands.DisturbKind.TheVariants.{Repeat}
 use Rattle.ason_base.specs.declared.ids.NodeId.{NodeId}
@@ -50,10 +51,10 @@ record WaitsAt (u : NodeId) (q : Parcel) (i : ℕ) (links : List LinkState) : Ty
 waits_at : (u : NodeId) (q : Parcel) (rest : List Parcel) (i : ℕ) (links : List LinkState) (l : LinkState) →
     slice_get links i ≡ Some l → slice_get (peers_of links) i ≡ Some u → l.early ≡ q ∷ rest → IsBearing q →
     WaitsAt u q i links
-waits_at u q rest i [] l at from first bears = absurd (cc (at))
+waits_at u q rest i [] l at from first bears = absurd (none-some l at)
 waits_at u q rest zero (k ∷ links) l at from first bears =
-    let same : k ≡ l = cc (at) in
-    let peer : k.peer ≡ u = cc (from) in
+    let same = same_Some k l at in
+    let peer = same_Some k.peer u from in
     let early : k.early ≡ q ∷ rest = ap (λ (x : LinkState). x.early) same ∙ first in
     record {
       stays = ((moved-none k, peer, (rest, early)), nones links);

@@ -1,46 +1,41 @@
--- The tick, one item of the desk and one frame that is due, however they end.
-use Rattle.std.proofs.Common.{◌≡◌, ◌<◌, ◌≤◌, ◌+◌, ℕ, Bool, true, false, List, [], ◌∷◌, ◌++◌, drop, filter, get_or, length}
+-- The tick and one item of the desk, however they end.
+use Rattle.std.proofs.Common.{◌≡◌, ◌<◌, ◌≤◌, ◌+◌, ℕ, Bool, true, false, List, [], ◌∷◌, length}
 use Rattle.std.proofs.Common.{map, refl, sym, ap, ◌∙◌}
 use Rattle.std.proofs.Common.{append-nil, arith, subst}
-use Rattle.std.specs.Prelude.{max, Ok, Err}
-use Rattle.std.specs.List.{AllByRecursion, remove}
+use Rattle.std.specs.Prelude.{max, suc, Ok, Err, OnOk, Result}
 use Rattle.std.proofs.lemmas.List.{length-append}
 use Rattle.ason_base.specs.declared.commands.DeskItem.{DeskItem}
 use Rattle.ason_base.specs.declared.commands.Disturb.{Disturb}
 use Rattle.ason_base.specs.declared.commands.Event.{Event}
-use Rattle.ason_base.specs.declared.commands.Event.TheVariants.{Deliver, Desk, Tick}
+use Rattle.ason_base.specs.declared.commands.Event.TheVariants.{Desk, Tick}
 use Rattle.ason_base.specs.declared.ids.NodeId.{NodeId}
 use Rattle.ason_base.specs.Network.{Network}
-use Rattle.wire_buf.specs.Codecs.{HasOneMeaning}
-use Rattle.flood.specs.Frames.{IsFrame}
 use Rattle.control_channels.specs.declared.inputs.CoreInput.{CoreInput}
 use Rattle.control_channels.specs.declared.inputs.CoreInput.TheVariants as input
-use Rattle.round_rules.specs.Doings.{Doing, Freed, Lost, TickAsked}
+use Rattle.round_rules.specs.Doings.{Doing, TickAsked}
 use Rattle.round_rules.specs.Functions.{ticked}
-use Rattle.round_rules.specs.Held.{is_due}
 use Rattle.round_rules.specs.Limits.{next_stamp}
-use Rattle.station_rings.specs.LinkStates.{LinkState, view_of}
-use Rattle.station_doings.specs.Ends.{DueEnds, EndsAs}
+use Rattle.station_rings.specs.LinkStates.{LinkState}
+use Rattle.station_doings.specs.Ends.{EndsAs}
 use Rattle.station_doings.specs.Entered.{HasEntered, able, me_of}
-use Rattle.station_doings.specs.Stands.{IsHeldOf, frame_of, parcel_ticked}
+use Rattle.station_doings.specs.Stands.{parcel_ticked}
 use Rattle.station_doings.specs.States.{IsStationOf, StationState}
-use Rattle.station_doings.specs.Phases.{desk_phase, due_phase, ring_phase, tick_phase}
+use Rattle.station_doings.specs.Phases.{desk_phase, ring_phase, tick_phase}
 use Rattle.station_doings.specs.Starts.{AreFirstItems, AreFirstTakings, StarvesAs}
-use Rattle.station_doings.specs.Turned.{HeldLost, NoneLost}
+use Rattle.station_doings.specs.Turned.{NoneLost}
 use Rattle.station_doings.specs.declared.held.HeldParcel.{HeldParcel}
 use Rattle.station_doings.proofs.Ending.{able-is, full-is, going-ends, halted-ends, nothing-ends}
-use Rattle.station_doings.proofs.Parting.{delivery-of, free-of, item-of, tick-of}
+use Rattle.station_doings.proofs.Parting.{item-of, tick-of}
 use Rattle.station_doings.proofs.Places.{nones-same, nones-sent, nones-then}
-use Rattle.station_doings.proofs.Starving.{dues-none, takings-none}
-use Rattle.station_doings.proofs.Steps.{desk-halt, desk-none, desk-step, due-empty, due-halt, due-later, due-step}
-use Rattle.station_doings.proofs.Steps.{is_due_parcel}
-use Rattle.station.specs.Dues.{is_first_due}
+use Rattle.station_doings.proofs.Starving.{takings-none}
+use Rattle.station_doings.proofs.Steps.{desk-halt, desk-none, desk-step}
+use Rattle.station.specs.Desks.{DeskState, Settles}
+use Rattle.station.specs.declared.halts.Halt.{Halt}
 use Rattle.station.specs.declared.halts.Halt.TheVariants as halt
+use Rattle.station.specs.Entering.{Enters}
 use Rattle.station.specs.Leads.{GoesOn, IsSending, Leads}
 use Rattle.station.proofs.Fitting.{next-limit}
-use Rattle.station.proofs.Frames.{lost-of}
 use Rattle.station.proofs.Leading.{goes-across}
-use Rattle.station.proofs.Staying.{frame-limit}
 
 -- Lists
 
@@ -76,6 +71,13 @@ sending-none s = record { links = nones-same s.links s.links refl; lines = refl;
 pub sending-same : (old new : StationState) → new ≡ old → IsSending old new
 sending-same old new e = subst (IsSending old) (sym e) (sending-none old)
 
+-- however it ends
+pub given-sends : (r : Result (Unit {0}) Halt) (i : CoreInput) (e : Event) (stamp : ℕ) (old new : StationState) →
+    Enters r i e stamp old new → IsSending old new
+given-sends (Ok x) i e stamp old new g = sending-entered i e stamp old new g.0
+given-sends (Err halt.AtLimit) i e stamp old new g = absurd g
+given-sends (Err halt.OutOfMemory) i e stamp old new g = sending-same old new g
+
 -- Want of memory
 
 -- nothing was done, and nothing that its node made is lost
@@ -99,6 +101,12 @@ pub rings-starve : (old new : StationState) (first : LinkState) (place : ℕ) �
 rings-starve old new first place e t n ds is =
     starves_none old.lines (AreFirstTakings old.lines n) t n ds new (takings-none old.lines n)
     (subst (IsStationOf t n ds) (sym e) is)
+
+-- nothing has changed
+pub tick-refused : (x : Halt) (i : CoreInput) (e : Event) (stamp : ℕ) (tick : Bool) (old new : StationState) →
+    Enters (Err x) i e stamp old new → Leads (Err x) (tick_phase tick) old new
+tick-refused halt.AtLimit i e stamp tick old new g = absurd g
+tick-refused halt.OutOfMemory i e stamp tick old new g = tick-starves tick old new g
 
 -- The tick
 
@@ -165,66 +173,40 @@ pub item-full : (old : StationState) (i : DeskItem) (rest : List DeskItem) →
 item-full old i rest full first t n ds is =
     desk-halt t n ds old is i rest full first (next-limit old full)
 
--- A frame that is due
+pub fewer-by : (a b c : ℕ) → a ≡ b → c ≡ suc b → a < c
+fewer-by a b c e f = omega (arith, e, f)
 
-first_of : (old : StationState) (h : HeldParcel) (rest : List HeldParcel) → old.held ≡ h ∷ rest →
-    AllByRecursion (IsHeldOf (map view_of old.links)) old.held → IsHeldOf (map view_of old.links) h
-first_of old h rest first kept = (subst (AllByRecursion (IsHeldOf (map view_of old.links))) first kept).0
+abbrev pub with_desk : StationState → DeskState → StationState
+with_desk s d = record s { desk = d.items; spare = d.spare }
 
-pub due-goes : (old new : StationState) (h : HeldParcel) (rest : List HeldParcel) → old.held ≡ h ∷ rest →
-    is_due_parcel h ≡ true → able (length old.log) (max old.clock h.parcel.stamp + 1) ≡ true →
-    HasOneMeaning (IsFrame h.parcel.frame) →
-    HasEntered (input.Frame h.from h.parcel.frame) (Deliver (me_of old) h.from h.parcel.number)
-    (max old.clock h.parcel.stamp + 1) (record old { held = rest }) new → GoesOn (Ok tt) due_phase old new
-due-goes old new h rest first due on one r =
-    goes-across due_phase old new
-    (λ end t n ds is.
-    due-step t n ds old is new end h (first ∙ ap (λ hs. h ∷ hs) (sym r.held)) due on r.lines
-    (λ p popped.
-    delivery-of t n (ds ++ Freed ∷ []) h.from h.parcel p (record old { held = rest }) new
-    (free-of t n ds old rest is (sym (ap (drop 1) first))) (first_of old h rest first is.stands.kept) popped one r))
+-- however it ends
+pub item-given : (r : Result (Unit {0}) Halt) (old mid : StationState) (i : DeskItem) (popped settled : DeskState) →
+    able (length old.log) (old.clock + 1) ≡ true → old.desk ≡ i ∷ popped.items →
+    Enters r (input.Desk i) (Desk (me_of old)) (old.clock + 1) (with_desk old popped) mid →
+    Settles r i (record { items = mid.desk; spare = mid.spare }) settled →
+    GoesOn r desk_phase old (with_desk mid settled)
+item-given (Ok x) old mid i popped settled on first g same =
+    subst (λ d. GoesOn (Ok tt) desk_phase old (with_desk mid d)) (sym same)
+    (item-goes old mid i popped.items popped.spare on first g.0)
+item-given (Err halt.AtLimit) old mid i popped settled on first g again = absurd g
+item-given (Err halt.OutOfMemory) old mid i popped settled on first g again =
+    item-starves old mid i popped.items settled.items popped.spare settled.spare first g again
 
-pub due-full : (old : StationState) (h : HeldParcel) (rest : List HeldParcel) → old.held ≡ h ∷ rest →
-    is_due_parcel h ≡ true → able (length old.log) (max old.clock h.parcel.stamp + 1) ≡ false →
-    GoesOn (Err halt.AtLimit) due_phase old old
-due-full old h rest first due full t n ds is =
-    due-halt t n ds old is h rest first due full
-    (frame-limit old h.from h.parcel (first_of old h rest first is.stands.kept) full)
+-- the desk has room for the item
+pub given-spare : (r : Result (Unit {0}) Halt) (i : CoreInput) (e : Event) (stamp : ℕ) (old new : StationState) →
+    0 < old.spare → Enters r i e stamp old new → 0 < new.spare
+given-spare (Ok x) i e stamp old new room g = subst (λ k. 0 < k) (sym g.0.spare) room
+given-spare (Err halt.AtLimit) i e stamp old new room g = absurd g
+given-spare (Err halt.OutOfMemory) i e stamp old new room g =
+    subst (λ (s : StationState). 0 < s.spare) (sym g) room
 
--- it is lost for want of memory
-pub due-lost : (old new : StationState) (h : HeldParcel) (rest : List HeldParcel) → old.held ≡ h ∷ rest →
-    new ≡ record old { held = rest } → GoesOn (Err halt.OutOfMemory) due_phase old new
-due-lost old new h rest first e t n ds is = record {
-  made = [];
-  last = Freed ∷ Lost h.from h.parcel.number ∷ [];
-  is_made = dues-none (filter is_due (map frame_of old.held));
-  is_last = HeldLost h.from h.parcel.number;
-  stands =
-      subst (IsStationOf t n (ds ++ Freed ∷ Lost h.from h.parcel.number ∷ [])) (sym e)
-      (lost-of t n ds (Freed ∷ []) (record old { held = rest }) h.from h.parcel.number
-      (free-of t n ds old rest is (sym (ap (drop 1) first))));
-}
-
--- Held parcels
-
--- the first is due
-pub record FirstDue (hs : List HeldParcel) : Type 0 where
-  pub first : HeldParcel
-  pub rest : List HeldParcel
-  pub is : hs ≡ first ∷ rest
-  pub due : is_due_parcel first ≡ true
-
-pub first-due : (hs : List HeldParcel) → is_first_due hs ≡ true → FirstDue hs
-first-due [] e = absurd (cc (e))
-first-due (h ∷ hs) e = record { first = h; rest = hs; is = refl; due = e }
-
--- none is, or the first isn't due
-pub due-ends : (s : StationState) → is_first_due s.held ≡ false → Leads (Ok tt) due_phase s s
-due-ends s e t n ds is = go s.held refl e
-  where
-    go : (hs : List HeldParcel) → s.held ≡ hs → is_first_due hs ≡ false → DueEnds s s t n ds false
-    go [] first e = due-empty t n ds s is first
-    go (h ∷ hs) first e = due-later t n ds s is h hs first e
+pub item-fewer : (r : Result (Unit {0}) Halt) (i : CoreInput) (e : Event) (stamp : ℕ) (old mid : StationState)
+    (xs : List DeskItem) (x : DeskItem) (settled : DeskState) → xs ≡ x ∷ old.desk → Enters r i e stamp old mid →
+    Settles r x (record { items = mid.desk; spare = mid.spare }) settled → OnOk r (length settled.items < length xs)
+item-fewer (Ok y) i e stamp old mid xs x settled first g same =
+    fewer-by (length settled.items) (length old.desk) (length xs)
+    (ap (λ (d : DeskState). length d.items) same ∙ ap length g.0.desk) (ap length first)
+item-fewer (Err y) i e stamp old mid xs x settled first g again = tt
 
 -- no item is left
 pub desk-ends : (s : StationState) → s.desk ≡ [] → Leads (Ok tt) desk_phase s s
@@ -234,15 +216,7 @@ pub none-of : {X : Type 0} (xs : List X) → length xs ≤ 0 → xs ≡ []
 none-of [] h = refl
 none-of (x ∷ xs) h = absurd (omega (arith, h))
 
--- what was taken off is the first
-pub removed : {X : Type 0} (xs now : List X) (x : X) → 0 < length xs → x ≡ get_or xs 0 x → now ≡ remove xs 0 →
-    xs ≡ x ∷ now
-removed [] now x h first rest = absurd (omega (arith, h))
-removed (y ∷ xs) now x h first rest = λ i. sym first i ∷ sym rest i
-
-pub some-due : (hs : List HeldParcel) → is_first_due hs ≡ true → 0 < length hs
-some-due [] e = absurd (cc (e))
-some-due (h ∷ hs) e = omega arith
+-- Stamps
 
 pub above-max : (a b k : ℕ) → k ≡ max a b → a < k + 1
 above-max a b k e = grind (arith, e)

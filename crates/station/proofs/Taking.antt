@@ -1,33 +1,28 @@
 -- A frame that is taken is the one that came first, and the station stays that of its node.
-use Rattle.std.proofs.Common.{◌≡◌, ◌<◌, ◌≤◌, inl, ℕ, zero, suc, List, [], ◌∷◌, ◌++◌, length, refl, sym, ap, ◌∙◌}
+use Rattle.std.proofs.Common.{◌≡◌, ◌<◌, ◌≤◌, ℕ, zero, suc, List, [], ◌∷◌, ◌++◌, length, refl, sym, ap, ◌∙◌}
 use Rattle.std.proofs.Common.{subst, arith}
-use Rattle.std.specs.Prelude.{slice_get, Option, Some, Err}
+use Rattle.std.specs.Prelude.{slice_get, Some}
 use Rattle.std.proofs.lemmas.List.{length-append}
+use Rattle.std.proofs.lemmas.Option.{none-some, same_Some}
 use Rattle.rtrb.specs.Ring.{sent}
-use Rattle.ason_base.specs.declared.commands.DisturbKind.{DisturbKind}
 use Rattle.ason_base.specs.declared.ids.NodeId.{NodeId}
 use Rattle.control_channels.specs.declared.inputs.CoreInput.{CoreInput}
-use Rattle.control_channels.specs.ReadyControllers.{IsFromNeighbour}
 use Rattle.hop_reliable.proofs.Members.{each-append}
-use Rattle.round_rules.specs.Lines.{says}
 use Rattle.station_sound.specs.declared.parcels.Parcel.{Parcel}
 use Rattle.station_rings.specs.LinkStates.{IsTaken, LinkState}
 use Rattle.station_doings.specs.Entered.{me_of}
 use Rattle.station_doings.specs.Moves.{AreApart, ArePeersApart, IsChangedAt, TakesAt}
 use Rattle.station_doings.specs.States.{StationState}
 use Rattle.station_doings.specs.declared.held.HeldParcel.{HeldParcel}
-use Rattle.station_doings.proofs.Places.{all-moved, all-moved-then, changed-peers, moved-peers, nones-moved}
+use Rattle.station_doings.proofs.Places.{all-moved, all-moved-then, changed-peers, nones-moved}
 use Rattle.station_doings.proofs.Places.{taken-from, takes-at, takes-moved, takes-none}
-use Rattle.station.specs.declared.halts.Halt.{Halt}
-use Rattle.station.specs.declared.halts.Halt.TheVariants as halt
 use Rattle.station.specs.declared.links.Ahead.{Ahead}
 use Rattle.station.specs.declared.parts.Parts.{Parts}
 use Rattle.station.specs.Fits.{HeldKeeps, PartsFit, StationFits, state_of}
-use Rattle.station.specs.Leads.{GoesOnAt, IsMoving, IsRead, IsSending}
-use Rattle.station.specs.Rings.{HasDelivered, HasTaken, HasTakenAt, IsAhead, TakesIn}
+use Rattle.station.specs.Leads.{IsMoving, IsSending}
+use Rattle.station.specs.Rings.{HasDelivered, HasLost, HasTaken, HasTakenAt, IsAhead}
 use Rattle.station.proofs.Fitting.{Stays, changed-keeps, near-at}
-use Rattle.station.proofs.Frames.{IsDeliveredNow, bears_it, lost-goes, taken-bears, takes-it}
-use Rattle.station.proofs.Staying.{stay-goes}
+use Rattle.station.proofs.Frames.{taken-bears, takes-it}
 
 -- Which it is
 
@@ -36,8 +31,11 @@ first_is : (q : Parcel) (i : ℕ) (links after : List LinkState) (l : LinkState)
 first_is q i [] after l at is = absurd is
 first_is q i (k ∷ links) [] l at is = absurd is
 first_is q zero (k ∷ links) (m ∷ after) l at is =
-    let same : k ≡ l = cc (at) in (m.early, ap (λ (x : LinkState). x.early) (sym same) ∙ is.0.first)
+    let same = same_Some k l at in (m.early, ap (λ (x : LinkState). x.early) (sym same) ∙ is.0.first)
 first_is q (suc i) (k ∷ links) (m ∷ after) l at is = first_is q i links after l at is.1
+
+same_first : {X : Type 0} (x y : X) (xs ys : List X) → x ∷ xs ≡ y ∷ ys → x ≡ y
+same_first x y xs ys e = cc (e)
 
 -- the first of those that waited early there is the one that is known
 pub has-taken : (a : Ahead) (q : Parcel) (old : StationState) (links : List LinkState) → IsAhead a old.links →
@@ -45,7 +43,7 @@ pub has-taken : (a : Ahead) (q : Parcel) (old : StationState) (links : List Link
 has-taken a q old links ahead is =
     let first = first_is q a.place old.links links ahead.head.link ahead.head.there is in
     let whole : q ∷ first.0 ≡ ahead.head.head.parcel ∷ ahead.head.head.rest = sym first.1 ∙ ahead.head.head.first in
-    let same : q ≡ ahead.head.head.parcel = cc (whole) in
+    let same = same_first q ahead.head.head.parcel first.0 ahead.head.head.rest whole in
     record {
       taken = taken-from q a.from a.place old.links links ahead.from is;
       number = ap (λ (p : Parcel). p.number) same ∙ ahead.head.head.number;
@@ -53,7 +51,7 @@ has-taken a q old links ahead is =
     }
 
 below_length : (links : List LinkState) (i : ℕ) (l : LinkState) → slice_get links i ≡ Some l → i < length links
-below_length [] i l at = absurd (cc (at))
+below_length [] i l at = absurd (none-some l at)
 below_length (k ∷ links) zero l at = omega arith
 below_length (k ∷ links) (suc i) l at = omega (arith, below_length links i l at)
 
@@ -67,12 +65,10 @@ pub taken-at : (a : Ahead) (q : Parcel) (old : StationState) (links : List LinkS
 taken-at a q old links h =
     record { from = a.from; parcel = q; takes = takes-at a.from q a.place old.links links h.taken }
 
-pub delivered-at : (a : Ahead) (old new : StationState) (apart : ArePeersApart old.links) (i : CoreInput) →
-    HasDelivered a i old new → HasTakenAt a.place old.links new.links
-delivered-at a old new apart i h =
-    record { from = a.from; parcel = h.parcel; takes = takes-it a old new apart i h }
-
 -- What moves
+
+no_less : (k : ℕ) → k ≤ k
+no_less k = omega arith
 
 -- a frame was taken
 pub taken-moves : (u : NodeId) (q : Parcel) (i : ℕ) (old new : StationState) → TakesAt u q i old.links new.links →
@@ -90,20 +86,12 @@ delivered-moves a old new apart i h =
 pub moving-none : (s : StationState) → IsMoving s s
 moving-none s = record { links = all-moved s.links; lines = refl; grows = omega arith }
 
--- it isn't delivered, at the limit or for want of memory
-pub fails-moves : (a : Ahead) (e : Halt) (old new : StationState) → TakesIn (Err e) a old new → IsMoving old new
-fails-moves a halt.AtLimit old new h = subst (IsMoving old) (sym h.0) (moving-none old)
-fails-moves a halt.OutOfMemory old new h =
+-- it is lost for want of memory
+pub lost-moves : (a : Ahead) (old new : StationState) → HasLost a old new → IsMoving old new
+lost-moves a old new h =
     subst (IsMoving old) (sym h.rest)
     (taken-moves a.from h.parcel a.place old (record old { links = h.links })
-    (takes-at a.from h.parcel a.place old.links h.links h.taken.taken) refl (omega arith))
-
-pub fails-goes : (a : Ahead) (e : Halt) (o : Option DisturbKind) (old new : StationState) → IsAhead a old.links →
-    ArePeersApart old.links → IsDeliveredNow o → says old.lines a.from (me_of old) a.head.number ≡ o →
-    TakesIn (Err e) a old new → GoesOnAt (Err e) a.place old new
-fails-goes a halt.AtLimit o old new ahead apart now said h =
-    subst (λ s. GoesOnAt (Err halt.AtLimit) a.place old s) (sym h.0) (stay-goes a old o ahead now said h.1)
-fails-goes a halt.OutOfMemory o old new ahead apart now said h = lost-goes a o old new apart now said h
+    (takes-at a.from h.parcel a.place old.links h.links h.taken.taken) refl (no_less (length old.log)))
 
 -- What holds of every station
 
@@ -169,19 +157,6 @@ hold-parts a q p new links ahead is same me fit = record {
 }
 
 -- Twice
-
--- it is read again after its first delivery
-pub delivered-near : (a : Ahead) (old mid : StationState) (apart : ArePeersApart old.links) (i : CoreInput) →
-    IsAhead a old.links → HasDelivered a i old mid → StationFits mid → IsFromNeighbour mid.controller.node.place i
-delivered-near a old mid apart i ahead h fit =
-    let moved = takes-moved a.from h.parcel a.place old.links mid.links (takes-it a old mid apart i h) in
-    subst (IsFromNeighbour mid.controller.node.place) (sym h.given)
-    (near-at mid.controller.node.place mid.controller.steps mid.clock a.place a.from mid.links fit.links
-    (ap (λ ns. slice_get ns a.place) (moved-peers old.links mid.links moved) ∙ ahead.from))
-
-pub delivered-read : (a : Ahead) (old mid : StationState) (apart : ArePeersApart old.links) (i : CoreInput) →
-    HasDelivered a i old mid → IsRead i
-delivered-read a old mid apart i h = subst IsRead (sym h.given) (inl (bears_it a old mid apart i h))
 
 -- frames were sent after it
 pub delivered-on : (a : Ahead) (old mid new : StationState) (apart : ArePeersApart old.links) (i : CoreInput) →

@@ -2,6 +2,7 @@
 use Rattle.std.proofs.Common.{◌≡◌, ◌≤◌, ◌∙◌, ℕ, List, [], ◌∷◌, ◌++◌, append-nil, append_assoc, refl, sym, ap, subst}
 use Rattle.std.proofs.Common.{inl, inr, arith}
 use Rattle.std.specs.Prelude.{Result, Ok, Err, OnErr, OnOk, Option, Some}
+use Rattle.std.proofs.lemmas.Option.{same_Some}
 use Rattle.mgmt_view.specs.Publishing.{MayWait, PublisherState, with_published}
 use Rattle.mgmt_view.specs.Tables.{EndsWith, last_in}
 use Rattle.mgmt_view.specs.declared.node_table.NodeTable.{NodeTable}
@@ -13,8 +14,7 @@ ends-so : (xs ys all : List NodeTable) (t u : NodeTable) → all ≡ xs ++ (ys +
 ends-so xs ys all t u is ends =
     let there : last_in all ≡ Some t =
     ap last_in (is ∙ sym (append_assoc xs ys (t ∷ []))) ∙ last-snoc (xs ++ ys) t in
-    let same : Some t ≡ Some u = sym there ∙ ends in
-    cc (same)
+    same_Some t u (sym there ∙ ends)
 
 no-longer : (t u : NodeTable) (n : ℕ) → t ≡ u → t.entries ≤ n → u.entries ≤ n
 no-longer t u n same few = subst (λ (k : NodeTable). k.entries ≤ n) same few
@@ -23,7 +23,7 @@ no-longer t u n same few = subst (λ (k : NodeTable). k.entries ≤ n) same few
 pub told-after : {X E : Type 0} (r : Result X E) (p q : PublisherState) (t : NodeTable) (n : ℕ) → TellsUpTo (Some p) n →
     t.entries ≤ n → OnOk r (q ≡ with_published p t) → OnErr r (MayWait p t q) → TellsUpTo (Some q) n
 told-after (Ok x) p q t n told few ok err k last is ends =
-    let same : q ≡ k = cc (is) in
+    let same = same_Some q k is in
     no-longer t last n
     (ends-so p.published p.waiting (k.published ++ k.waiting) t last
     (ap (λ (s : PublisherState). s.published ++ s.waiting) (sym same ∙ ok)
@@ -39,7 +39,7 @@ told-after (Err x) p q t n told few ok err k last is ends =
     ]
   where
     it : q ≡ k
-    it = cc (is)
+    it = same_Some q k is
 
 -- and once the log is longer
 pub told-on : (o : Option PublisherState) (m n : ℕ) → TellsUpTo o m → m ≤ n → TellsUpTo o n

@@ -1,7 +1,7 @@
 -- A frame that is taken and delivered twice.
 use Rattle.std.proofs.Common.{◌≡◌, ◌+◌, true, false, List, [], ◌∷◌, ◌++◌, length, map, sym, ap, ◌∙◌, subst}
-use Rattle.std.proofs.Common.{append_assoc}
-use Rattle.std.specs.Prelude.{max, Some, Ok, Err}
+use Rattle.std.proofs.Common.{append_assoc, inl, inr, refl}
+use Rattle.std.specs.Prelude.{max, Some, Ok, Err, OnOk, Result}
 use Rattle.ason_base.specs.declared.commands.DisturbKind.TheVariants.{Repeat}
 use Rattle.ason_base.specs.declared.commands.Event.TheVariants.{Deliver}
 use Rattle.ason_base.specs.declared.ids.NodeId.{NodeId}
@@ -28,14 +28,19 @@ use Rattle.station_doings.proofs.Places.{nones-sent, takes-none}
 use Rattle.station_doings.proofs.RingSteps.{ring-half, ring-step}
 use Rattle.station_doings.proofs.Starving.{takings-none}
 use Rattle.station_doings.proofs.Taking.{views-sent}
+use Rattle.station.specs.declared.halts.Halt.{Halt}
 use Rattle.station.specs.declared.halts.Halt.TheVariants as halt
 use Rattle.station.specs.declared.links.Ahead.{Ahead}
-use Rattle.station.specs.Leads.{GoesOnAt}
-use Rattle.station.specs.Rings.{HasDelivered}
-use Rattle.station.proofs.Frames.{bears_it, came-after, first-delivery, it, lost-of, popped-is}
-use Rattle.station.proofs.Frames.{says-it, takes-first, takes-it}
+use Rattle.station.specs.Entering.{is_able_for}
+use Rattle.station.specs.Leads.{GoesOnAt, IsMoving}
+use Rattle.station.specs.Rings.{GivesTwice, HasDelivered, HasTakenAs, HasTakenAt}
+use Rattle.station.proofs.Given.{delivered-of, lost-of-taken}
+use Rattle.station.proofs.Frames.{bears_it, came-after, first-delivery, it, lost-goes, lost-of, popped-is}
+use Rattle.station.proofs.Frames.{repeat-not-held, says-it, takes-first, takes-it}
 use Rattle.station.proofs.Leading.{goes-across}
 use Rattle.station.proofs.Staying.{frame-limit}
+use Rattle.station.proofs.Stepping.{sending-entered}
+use Rattle.station.proofs.Taking.{delivered-moves, delivered-on, lost-moves, moving-sends}
 
 module _ (a : Ahead) (old mid : StationState) (apart : ArePeersApart old.links) (i : CoreInput)
     (h : HasDelivered a i old mid) (said : says old.lines a.from (me_of old) a.head.number ≡ Some Repeat) where
@@ -57,7 +62,7 @@ module _ (a : Ahead) (old mid : StationState) (apart : ArePeersApart old.links) 
   once_more ds = append_assoc ds (Got p.from p.number (Some Repeat) ∷ []) _
 
   first : (t : Network) (n : NodeId) (ds : List Doing) → IsStationOf t n ds old → IsStationOf t n (once ds) mid
-  first t n ds is = first-delivery a old mid apart i h (Some Repeat) t n ds is (λ e. absurd (cc (e)))
+  first t n ds is = first-delivery a old mid apart i h (Some Repeat) t n ds is repeat-not-held
 
   -- it came over its link, and stays so
   came : (t : Network) (n : NodeId) (ds : List Doing) → IsStationOf t n ds old →
@@ -138,3 +143,38 @@ module _ (a : Ahead) (old mid : StationState) (apart : ArePeersApart old.links) 
           (sym h.taken.stamp)
           (subst (λ k. HasEntered i (Deliver (me_of mid) a.from k) (max mid.clock a.head.stamp + 1) mid new)
           (sym h.taken.number) r))
+
+-- However it ends
+
+pub twice-goes : (r : Result (Unit {0}) Halt) (a : Ahead) (i : CoreInput) (old mid new : StationState) →
+    ArePeersApart old.links → HasTakenAs a i old mid → is_able_for a.head.stamp old ≡ true →
+    GivesTwice r a i mid new → says old.lines a.from (me_of old) a.head.number ≡ Some Repeat →
+    GoesOnAt r a.place old new
+twice-goes (Ok x) a i old mid new apart h able g said =
+    repeat-goes a old g.0 apart i (delivered-of a i old mid g.0 h able g.1) said new g.2 g.3.0
+twice-goes (Err halt.AtLimit) a i old mid new apart h able g said =
+    half-goes a old new apart i (delivered-of a i old mid new h able g.0) said g.1
+twice-goes (Err halt.OutOfMemory) a i old mid new apart h able g said = elim g [
+  | inl same ↦ lost-goes a (Some Repeat) old new apart (inr refl) said (lost-of-taken a i old mid new h same)
+  | inr first ↦ lost-half a old new apart i (delivered-of a i old mid new h able first) said
+]
+
+pub twice-taken : (r : Result (Unit {0}) Halt) (a : Ahead) (i : CoreInput) (old mid new : StationState) →
+    ArePeersApart old.links → HasTakenAs a i old mid → is_able_for a.head.stamp old ≡ true →
+    GivesTwice r a i mid new → OnOk r (HasTakenAt a.place old.links new.links)
+twice-taken (Ok x) a i old mid new apart h able g =
+    delivered-on a old g.0 new apart i (delivered-of a i old mid g.0 h able g.1) (sending-entered _ _ _ _ _ g.3.0)
+twice-taken (Err e) a i old mid new apart h able g = tt
+
+pub twice-moves : (r : Result (Unit {0}) Halt) (a : Ahead) (i : CoreInput) (old mid new : StationState) →
+    ArePeersApart old.links → HasTakenAs a i old mid → is_able_for a.head.stamp old ≡ true →
+    GivesTwice r a i mid new → IsMoving old new
+twice-moves (Ok x) a i old mid new apart h able g =
+    moving-sends old g.0 new (delivered-moves a old g.0 apart i (delivered-of a i old mid g.0 h able g.1))
+    (sending-entered _ _ _ _ _ g.3.0)
+twice-moves (Err halt.AtLimit) a i old mid new apart h able g =
+    delivered-moves a old new apart i (delivered-of a i old mid new h able g.0)
+twice-moves (Err halt.OutOfMemory) a i old mid new apart h able g = elim g [
+  | inl same ↦ lost-moves a old new (lost-of-taken a i old mid new h same)
+  | inr first ↦ delivered-moves a old new apart i (delivered-of a i old mid new h able first)
+]

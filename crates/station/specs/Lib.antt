@@ -1,5 +1,6 @@
 pub mod Desks
 pub mod Dues
+pub mod Entering
 pub mod Fits
 pub mod Joined
 pub mod Leads

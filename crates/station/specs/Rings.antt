@@ -1,5 +1,5 @@
 -- A frame that is taken from a ring.
-use Rattle.std.specs.Prelude.{◌≡◌, ◌+◌, ℕ, max, true, false, List, Some, length, slice_get, Result, Ok, Err}
+use Rattle.std.specs.Prelude.{◌≡◌, ◌+◌, ◌⊎◌, ℕ, max, true, false, List, Some, length, slice_get, Result, Ok, Err}
 use Rattle.ason_base.specs.declared.commands.Event.TheVariants.{Deliver}
 use Rattle.ason_base.specs.declared.ids.NodeId.{NodeId}
 use Rattle.wire_buf.specs.Codecs.{HasOneMeaning}
@@ -14,6 +14,7 @@ use Rattle.station_doings.specs.States.{StationState}
 use Rattle.station.specs.declared.halts.Halt.{Halt}
 use Rattle.station.specs.declared.halts.Halt.TheVariants as halt
 use Rattle.station.specs.declared.links.Ahead.{Ahead}
+use Rattle.station.specs.Entering.{Gives, is_able_for}
 use Rattle.station.specs.Sending.{IsHeadAt}
 
 -- it is the first frame that waits early at this place, which leads to its sender
@@ -26,6 +27,14 @@ pub record HasTaken (a : Ahead) (q : Parcel) (old : StationState) (links : List 
   pub taken : IsChangedAt (IsTakenOf a.from q) a.place old.links links
   pub number : q.number ≡ a.head.number
   pub stamp : q.stamp ≡ a.head.stamp
+
+-- as this input
+pub record HasTakenAs (a : Ahead) (i : CoreInput) (old new : StationState) : Type 0 where
+  pub parcel : Parcel
+  pub links : List LinkState
+  pub taken : HasTaken a parcel old links
+  pub given : i ≡ input.Frame a.from parcel.frame
+  pub rest : new ≡ record old { links = links }
 
 -- and delivered
 pub record HasDelivered (a : Ahead) (i : CoreInput) (old new : StationState) : Type 0 where
@@ -62,9 +71,13 @@ pub record IsDrainedAt (place : ℕ) (links after : List LinkState) : Type 0 whe
   pub is : slice_get after place ≡ Some new
   pub drained : IsDrained old new
 
--- How taking a frame and delivering it ends.
-abbrev pub TakesIn : Result CoreInput Halt → Ahead → StationState → StationState → Type 0
-TakesIn (Ok i) a old new = HasDelivered a i old new
-TakesIn (Err halt.AtLimit) a old new =
-    (new ≡ old) × (able (length old.log) (max old.clock a.head.stamp + 1) ≡ false)
-TakesIn (Err halt.OutOfMemory) a old new = HasLost a old new
+-- Twice
+
+-- How delivering a frame that was taken ends that is delivered twice.
+abbrev pub GivesTwice : Result (Unit {0}) Halt → Ahead → CoreInput → StationState → StationState → Type 0
+GivesTwice (Ok x) a i old new =
+    (mid : StationState) × Gives (Ok tt) a.head a.from i old mid × (is_able_for a.head.stamp mid ≡ true)
+    × Gives (Ok tt) a.head a.from i mid new
+GivesTwice (Err halt.AtLimit) a i old new =
+    Gives (Ok tt) a.head a.from i old new × (is_able_for a.head.stamp new ≡ false)
+GivesTwice (Err halt.OutOfMemory) a i old new = (new ≡ old) ⊎ Gives (Ok tt) a.head a.from i old new

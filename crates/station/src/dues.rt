@@ -7,11 +7,11 @@ ghost use Rattle.station.specs.Leads.{GoesOn, IsSending, Leads};
 ghost use Rattle.station.specs.Dues.{is_first_due};
 
 use crate::halts::Halt;
-use crate::parts::{Parts, enter, is_able};
-use ason_base::Event;
+use crate::parts::{Parts, enter_frame, is_able_for};
 use ason_io::Gate;
 use controller::CoreInput;
 use station_doings::HeldParcel;
+use station_rings::Head;
 
 /// After so many ticks a frame that is held is due.
 const TICKS_HELD: u64 = 2;
@@ -36,22 +36,19 @@ fn free_first<G: Gate>(parts: &mut Parts, gate: &G) -> Result<(), Halt>
     ensures sends { IsSending (state_of parts.old) (state_of parts.new) }
     ensures fit { PartsFit parts.new }
 {
-    let stamp = parts.clock.max(parts.held[0].parcel.stamp);
-    if !is_able(parts, stamp) {
+    if !is_able_for(parts, parts.held[0].parcel.stamp) {
         return Err(Halt::AtLimit);
     }
     let HeldParcel { from, parcel, .. } = parts.held.remove(0);
-    let event = Event::Deliver {
-        to: parts.me,
-        from,
+    let head = Head {
         number: parcel.number,
+        stamp: parcel.stamp,
     };
     let input = CoreInput::Frame {
         from,
         bytes: parcel.frame,
     };
-    enter(parts, gate, &input, event, stamp + 1)?;
-    Ok(())
+    enter_frame(parts, gate, &input, from, head)
 }
 
 /// The parcels that are due are let go and delivered, in the order of their taking.

@@ -4,6 +4,7 @@ ghost use Rattle.std.specs.Prelude.{◌≡◌, ◌<◌, ◌∷◌, OnOk, length}
 ghost use Rattle.ason_base.specs.declared.commands.DeskItem.{DeskItem};
 ghost use Rattle.control_channels.specs.declared.inputs.CoreInput.{CoreInput};
 ghost use Rattle.station_doings.specs.Phases.{desk_phase};
+ghost use Rattle.station.specs.Desks.{Settles};
 ghost use Rattle.station.specs.Fits.{PartsFit, state_of};
 ghost use Rattle.station.specs.Leads.{GoesOn, IsSending, Leads};
 
@@ -14,13 +15,14 @@ use ason_base::Event;
 use ason_io::Gate;
 use controller::CoreInput;
 
-// Puts the item of this input back to its place.
-fn restore(desk: &mut Desk, input: CoreInput)
+// Puts the item of this input back to its place, if it was refused.
+fn settle(desk: &mut Desk, input: CoreInput, ended: Result<(), Halt>)
     requires { 0 < desk.old.spare }
-    ensures { (i : DeskItem) → input ≡ CoreInput.Desk i → desk.new.items ≡ i ∷ desk.old.items }
+    ensures { (i : DeskItem) → input ≡ CoreInput.Desk i → Settles ended i desk.old desk.new }
 {
-    if let CoreInput::Desk(item) = input {
-        desk.put_back(item);
+    match (ended, input) {
+        (Err(_), CoreInput::Desk(item)) => desk.put_back(item),
+        _ => {}
     }
 }
 
@@ -40,13 +42,9 @@ fn handle_first<G: Gate>(parts: &mut Parts, gate: &G) -> Result<(), Halt>
     let event = Event::Desk { node: parts.me };
     let stamp = parts.clock + 1;
     let input = CoreInput::Desk(parts.desk.pop());
-    match enter(parts, gate, &input, event, stamp) {
-        Ok(()) => Ok(()),
-        Err(_) => {
-            restore(&mut parts.desk, input);
-            Err(Halt::OutOfMemory)
-        }
-    }
+    let ended = enter(parts, gate, &input, event, stamp);
+    settle(&mut parts.desk, input, ended);
+    ended
 }
 
 /// All items of the desk are handled.

@@ -1,20 +1,22 @@
 //! What a station is made of, and one event of it.
 
-ghost use Rattle.std.specs.Prelude.{◌≡◌, ◌<◌, ◌≤◌, ◌+◌, ◌++◌, ◌∷◌, [], OnErr, OnOk, length, true, vec_capacity};
-ghost use Rattle.std.specs.Prelude.{vec_len};
-ghost use Rattle.control_channels.specs.Controllers.{IsUnambiguous};
+ghost use Rattle.std.specs.Prelude.{◌≡◌, ◌<◌, ◌≤◌, ◌+◌, ◌^◌, ◌++◌, ◌∷◌, [], IfOk, OnErr, OnOk, length, true};
+ghost use Rattle.std.specs.Prelude.{vec_capacity, vec_len};
+ghost use Rattle.control_channels.specs.Controllers.{IsStep, IsUnambiguous};
 ghost use Rattle.control_channels.specs.ReadyControllers.{IsFromNeighbour};
-ghost use Rattle.station_doings.specs.Entered.{HasEntered, able};
+ghost use Rattle.station_doings.specs.Entered.{able};
+ghost use Rattle.station.specs.Entering.{Enters, Gives, is_able_for};
 ghost use Rattle.station.specs.Fits.{PartsFit, state_of};
 ghost use Rattle.station.specs.Leads.{IsRead};
 
 use crate::desks::Desk;
+use crate::halts::Halt;
 use crate::links::send_frames;
 use ason_base::{Disturb, Entry, Event, NodeId, OutOfMemory};
 use ason_io::Gate;
-use controller::{Controller, CoreInput};
+use controller::{Controller, CoreInput, Frames};
 use station_doings::{HeldParcel, Turn};
-use station_rings::Link;
+use station_rings::{Head, Link};
 
 /// The most lines that a node's log has.
 const MOST_LINES: usize = 50_000;
@@ -51,6 +53,29 @@ pub(crate) fn write(log: &mut Vec<Entry>, entry: Entry)
     }
 }
 
+// The controller takes an input, and room is made for a line. After want of memory the controller is as it was.
+fn react<G: Gate>(
+    controller: &mut Controller,
+    log: &mut Vec<Entry>,
+    me: NodeId,
+    gate: &G,
+    input: &CoreInput,
+) -> Result<Frames, OutOfMemory>
+    requires few { controller.old.steps < 50000 }
+    requires from { IsFromNeighbour controller.old.node.place input.now }
+    ensures step { IfOk result (IsStep controller.old controller.new input.now) }
+    ensures one { OnOk result (IsUnambiguous input.now) }
+    ensures few { IfOk result (λ fs. length fs ≤ 2 ^ 40) }
+    ensures place { controller.new.node.place ≡ controller.old.node.place }
+    ensures err { OnErr result (controller.new ≡ controller.old) }
+    ensures log { log.new.items ≡ log.old.items }
+    ensures room { OnOk result (vec_len log.new + 1 ≤ vec_capacity log.new) }
+{
+    log.reserve(1)?;
+    gate.before(me, log.len() as u64 + 1);
+    controller.step(input)
+}
+
 /// The controller takes an input, a line is written with this stamp, and the frames that go out bear it. What needs
 /// memory comes first, so that after a refusal nothing has changed.
 pub(crate) fn enter<G: Gate>(
@@ -59,24 +84,53 @@ pub(crate) fn enter<G: Gate>(
     input: &CoreInput,
     event: Event,
     stamp: u64,
-) -> Result<(), OutOfMemory>
+) -> Result<(), Halt>
     requires fit { PartsFit parts.old }
     requires from { IsFromNeighbour parts.old.controller.node.place input.now }
     requires read { IsRead input.now }
     requires able { able (length parts.old.log.items) stamp ≡ true }
     requires above { parts.old.clock < stamp }
-    ensures entered { OnOk result
-        (HasEntered input.now event stamp (state_of parts.old) (state_of parts.new)) }
-    ensures one { OnOk result (IsUnambiguous input.now) }
-    ensures same { OnErr result (state_of parts.new ≡ state_of parts.old) }
+    ensures enters { Enters result input.now event stamp (state_of parts.old) (state_of parts.new) }
+    ensures place { parts.new.controller.node.place ≡ parts.old.controller.node.place }
     ensures fit { PartsFit parts.new }
 {
-    parts.log.reserve(1)?;
-    gate.before(parts.me, parts.log.len() as u64 + 1);
-    let frames = parts.controller.step(input)?;
+    let me = parts.me;
+    let frames = react(&mut parts.controller, &mut parts.log, me, gate, input)?;
     send_frames(&mut parts.links, frames, stamp);
     parts.clock = stamp;
-    let node = Some(parts.me);
+    let node = Some(me);
     write(&mut parts.log, Entry { stamp, node, event });
     Ok(())
+}
+
+/// Whether a frame with this stamp can be delivered.
+pub(crate) fn is_able_for(parts: &Parts, stamp: u64) -> bool
+    ensures { result ≡ is_able_for stamp (state_of parts.now) }
+{
+    is_able(parts, parts.clock.max(stamp))
+}
+
+/// A frame that came from a neighbour is delivered, as this input.
+pub(crate) fn enter_frame<G: Gate>(
+    parts: &mut Parts,
+    gate: &G,
+    input: &CoreInput,
+    from: NodeId,
+    head: Head,
+) -> Result<(), Halt>
+    requires fit { PartsFit parts.old }
+    requires from { IsFromNeighbour parts.old.controller.node.place input.now }
+    requires read { IsRead input.now }
+    requires able { is_able_for head.stamp (state_of parts.old) ≡ true }
+    ensures gives { Gives result head from input.now (state_of parts.old) (state_of parts.new) }
+    ensures place { parts.new.controller.node.place ≡ parts.old.controller.node.place }
+    ensures fit { PartsFit parts.new }
+{
+    let event = Event::Deliver {
+        to: parts.me,
+        from,
+        number: head.number,
+    };
+    let stamp = parts.clock.max(head.stamp);
+    enter(parts, gate, input, event, stamp + 1)
 }

@@ -1,20 +1,23 @@
 //! The frames of the rings.
 
-ghost use Rattle.std.specs.Prelude.{◌≡◌, ◌<◌, ◌≤◌, ◌+◌, ◌++◌, ◌∷◌, [], None, OnOk, Ok, Some, length, vec_capacity, vec_len};
+ghost use Rattle.std.specs.Prelude.{◌≡◌, ◌<◌, ◌≤◌, ◌+◌, ◌++◌, ◌∷◌, [], None, OnOk, Ok, Some, length, true};
+ghost use Rattle.std.specs.Prelude.{vec_capacity, vec_len};
 ghost use Rattle.std.specs.List.{AllZip};
 ghost use Rattle.ason_base.specs.declared.commands.DisturbKind.{DisturbKind};
+ghost use Rattle.control_channels.specs.ReadyControllers.{IsFromNeighbour};
 ghost use Rattle.round_rules.specs.Lines.{says};
 ghost use Rattle.station_doings.specs.Phases.{rings_phase};
 ghost use Rattle.station_doings.specs.Moves.{IsDrained};
+ghost use Rattle.station.specs.Entering.{is_able_for};
 ghost use Rattle.station.specs.Fits.{PartsFit, state_of};
-ghost use Rattle.station.specs.Leads.{GoesOnAt, GoesPast, IsMoving, Leads};
-ghost use Rattle.station.specs.Rings.{HasTakenAt, IsAhead, IsDrainedAt, TakesIn};
+ghost use Rattle.station.specs.Leads.{GoesOnAt, GoesPast, IsMoving, IsRead, Leads};
+ghost use Rattle.station.specs.Rings.{GivesTwice, HasTakenAs, HasTakenAt, IsAhead, IsDrainedAt};
 
 use crate::halts::Halt;
 use crate::lines::says;
 use crate::links::{Ahead, head_at, known_at, peer_at, take_at};
-use crate::parts::{Parts, enter, is_able};
-use ason_base::{DisturbKind, Event};
+use crate::parts::{Parts, enter_frame, is_able_for};
+use ason_base::DisturbKind;
 use ason_io::Gate;
 use controller::CoreInput;
 use station_doings::HeldParcel;
@@ -73,32 +76,23 @@ fn hold(parts: &mut Parts, ahead: Ahead) -> Result<(), Halt>
     Ok(())
 }
 
-// The frame is taken and delivered, as this input. It is lost where memory is wanting.
-fn take_in<G: Gate>(parts: &mut Parts, gate: &G, ahead: Ahead) -> Result<CoreInput, Halt>
+// The frame is taken, as this input.
+fn take_input(parts: &mut Parts, ahead: Ahead) -> CoreInput
     requires fit { PartsFit parts.old }
     requires ahead { IsAhead ahead parts.old.links.items }
-    ensures takes { TakesIn result ahead (state_of parts.old) (state_of parts.new) }
+    ensures taken { HasTakenAs ahead result (state_of parts.old) (state_of parts.new) }
+    ensures from { IsFromNeighbour parts.new.controller.node.place result }
+    ensures read { IsRead result }
     ensures fit { PartsFit parts.new }
 {
-    let stamp = parts.clock.max(ahead.head.stamp);
-    if !is_able(parts, stamp) {
-        return Err(Halt::AtLimit);
-    }
     let parcel = take_at(&mut parts.links, ahead.place);
-    let event = Event::Deliver {
-        to: parts.me,
-        from: ahead.from,
-        number: parcel.number,
-    };
-    let input = CoreInput::Frame {
+    CoreInput::Frame {
         from: ahead.from,
         bytes: parcel.frame,
-    };
-    enter(parts, gate, &input, event, stamp + 1)?;
-    Ok(input)
+    }
 }
 
-// The frame is taken and delivered.
+// The frame is taken and delivered. It is lost where memory is wanting.
 fn deliver<G: Gate>(parts: &mut Parts, gate: &G, ahead: Ahead) -> Result<(), Halt>
     requires fit { PartsFit parts.old }
     requires ahead { IsAhead ahead parts.old.links.items }
@@ -109,8 +103,32 @@ fn deliver<G: Gate>(parts: &mut Parts, gate: &G, ahead: Ahead) -> Result<(), Hal
     ensures moves { IsMoving (state_of parts.old) (state_of parts.new) }
     ensures fit { PartsFit parts.new }
 {
-    let _input = take_in(parts, gate, ahead)?;
-    Ok(())
+    if !is_able_for(parts, ahead.head.stamp) {
+        return Err(Halt::AtLimit);
+    }
+    let input = take_input(parts, ahead);
+    enter_frame(parts, gate, &input, ahead.from, ahead.head)
+}
+
+// The frame that was taken as this input is delivered twice. It is lost where memory is wanting.
+fn enter_twice<G: Gate>(
+    parts: &mut Parts,
+    gate: &G,
+    ahead: Ahead,
+    input: &CoreInput,
+) -> Result<(), Halt>
+    requires fit { PartsFit parts.old }
+    requires from { IsFromNeighbour parts.old.controller.node.place input.now }
+    requires read { IsRead input.now }
+    requires able { is_able_for ahead.head.stamp (state_of parts.old) ≡ true }
+    ensures gives { GivesTwice result ahead input.now (state_of parts.old) (state_of parts.new) }
+    ensures fit { PartsFit parts.new }
+{
+    enter_frame(parts, gate, input, ahead.from, ahead.head)?;
+    if !is_able_for(parts, ahead.head.stamp) {
+        return Err(Halt::AtLimit);
+    }
+    enter_frame(parts, gate, input, ahead.from, ahead.head)
 }
 
 // The frame is taken, and delivered twice.
@@ -125,18 +143,11 @@ fn repeat<G: Gate>(parts: &mut Parts, gate: &G, ahead: Ahead) -> Result<(), Halt
     ensures moves { IsMoving (state_of parts.old) (state_of parts.new) }
     ensures fit { PartsFit parts.new }
 {
-    let input = take_in(parts, gate, ahead)?;
-    let stamp = parts.clock.max(ahead.head.stamp);
-    if !is_able(parts, stamp) {
+    if !is_able_for(parts, ahead.head.stamp) {
         return Err(Halt::AtLimit);
     }
-    let event = Event::Deliver {
-        to: parts.me,
-        from: ahead.from,
-        number: ahead.head.number,
-    };
-    enter(parts, gate, &input, event, stamp + 1)?;
-    Ok(())
+    let input = take_input(parts, ahead);
+    enter_twice(parts, gate, ahead, &input)
 }
 
 // What the last line that names the frame says is done with it.

@@ -305,14 +305,21 @@ impl Station {
         }
     }
 
-    /// Ends it. It may wait for the viewer.
-    pub fn end<R: Wait>(self, rt: &R) {
+    // Its publisher. All else is let go.
+    fn into_publisher(self) -> Option<Publisher>
+        ensures { result ≡ self.publisher }
+    {
         let Station {
             alloc: _,
             parts: _,
             publisher,
         } = self;
-        if let Some(publisher) = publisher {
+        publisher
+    }
+
+    /// Ends it. It may wait for the viewer.
+    pub fn end<R: Wait>(self, rt: &R) {
+        if let Some(publisher) = self.into_publisher() {
             publisher.end(rt);
         }
     }
@@ -321,12 +328,7 @@ impl Station {
     pub fn unmake(self)
         requires { self.publisher ≡ None }
     {
-        let Station {
-            alloc: _,
-            parts: _,
-            publisher,
-        } = self;
-        match publisher {
+        match self.into_publisher() {
             None => {}
             Some(_) => unreachable!(),
         }

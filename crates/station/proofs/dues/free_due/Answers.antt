@@ -5,7 +5,8 @@ use Rattle.station_doings.specs.Phases.{due_phase}
 use Rattle.station.specs.Dues.{is_first_due}
 use Rattle.station.specs.Fits.{state_of}
 use Rattle.station.specs.Leads.{Leads}
-use Rattle.station.proofs.Stepping.{due-ends, sending-none, sending-then}
+use Rattle.station.proofs.Freeing.{due-ends}
+use Rattle.station.proofs.Stepping.{sending-none, sending-then}
 use Rattle.station.proofs.dues.free_due.Goals as goal
 
 pub dues-init : goal.dues-init

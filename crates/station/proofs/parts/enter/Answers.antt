@@ -1,46 +1,61 @@
-use Rattle.std.proofs.Common.{◌∷◌, [], ◌++◌, length, refl, ◌∙◌, arith}
-use Rattle.std.specs.Prelude.{Some}
-use Rattle.station.proofs.Fitting.{able-few, frames-bear, may-send, parts-entered}
+use Rattle.std.proofs.Common.{◌∷◌, [], ◌++◌, length, refl, sym, ap, ◌∙◌, subst, arith}
+use Rattle.std.specs.Prelude.{Err, Some}
+use Rattle.std.proofs.lemmas.Result.{err_from_is_err_and}
+use Rattle.station.specs.Entering.{Enters}
+use Rattle.station.specs.Fits.{state_of}
+use Rattle.station.proofs.Fitting.{few-steps, frames-bear, may-send, parts-entered}
 use Rattle.station.proofs.parts.enter.Goals as goal
+
+pub react-requires-clause-few : goal.react-requires-clause-few
+react-requires-clause-few g c =
+    λ κs le.
+    few-steps (state_of c.args.parts.now) c.args.stamp c.requires.able c.requires.fit.station
+
+pub returns-in_err-frames-clause-enters : goal.returns-in_err-frames-clause-enters
+returns-in_err-frames-clause-enters g c =
+    let s = state_of c.args.parts.now in
+    let m = record s { controller = c.react.new.controller; log = c.react.new.log.items } in
+    let p = err_from_is_err_and c.from_residual.result c.from_residual.ensures.1 in
+    subst (λ r. Enters r c.args.input.now c.args.event c.args.stamp s m) (sym (p.1 ∙ ap Err p.2))
+    (λ i. record s { controller = c.in_err-frames.ensures.err i; log = c.react.ensures.log i })
 
 pub send_frames-requires-clause-may : goal.send_frames-requires-clause-may
 send_frames-requires-clause-may g c =
     let parts = c.args.parts.now in
     may-send parts.controller.node.place parts.controller.steps parts.clock c.args.stamp
     (length c.in_ok-frames.frames) parts.links.items
-    (omega (arith, able-few (length parts.log.items) c.args.stamp c.requires.able, c.requires.fit.station.count))
-    c.in_ok-frames.ensures.few (omega (arith, c.requires.above)) c.requires.fit.station.links
+    (few-steps (state_of parts) c.args.stamp c.requires.able c.requires.fit.station) c.in_ok-frames.ensures.few
+    (omega (arith, c.requires.above)) c.requires.fit.station.links
 
 pub send_frames-requires-clause-bears : goal.send_frames-requires-clause-bears
 send_frames-requires-clause-bears g c =
-    frames-bear c.args.parts.now.controller c.step.new.self c.args.input.now c.in_ok-frames.frames c.requires.read
-    c.in_ok-frames.ensures.step
+    frames-bear c.args.parts.now.controller c.react.new.controller c.args.input.now c.in_ok-frames.frames
+    c.requires.read c.in_ok-frames.ensures.step
 
-pub returns-clause-entered : goal.returns-clause-entered
-returns-clause-entered g c = record {
-  frames = c.in_ok-frames.frames;
-  step = c.in_ok-frames.ensures.step;
-  few =
-      omega (
-        arith,
-        able-few (length c.args.parts.now.log.items) c.args.stamp c.requires.able,
-        c.requires.fit.station.count,
-      );
-  above = c.requires.above;
-  clock = refl;
-  log =
-      c.write.ensures
-      ∙ (λ i. c.reserve.ensures.items i
-      ++ record { stamp = c.args.stamp; node = Some (c.requires.fit.me i); event = c.args.event } ∷ []);
-  links = c.send_frames.ensures;
-  desk = refl;
-  spare = refl;
-  held = refl;
-  lines = refl;
-}
+pub returns-clause-enters : goal.returns-clause-enters
+returns-clause-enters g c = (
+  record {
+    frames = c.in_ok-frames.frames;
+    step = c.in_ok-frames.ensures.step;
+    few =
+        few-steps (state_of c.args.parts.now) c.args.stamp c.requires.able c.requires.fit.station;
+    above = c.requires.above;
+    clock = refl;
+    log =
+        c.write.ensures
+        ∙ (λ i. c.react.ensures.log i
+        ++ record { stamp = c.args.stamp; node = Some (c.requires.fit.me i); event = c.args.event } ∷ []);
+    links = c.send_frames.ensures;
+    desk = refl;
+    spare = refl;
+    held = refl;
+    lines = refl;
+  },
+  c.in_ok-frames.ensures.one,
+)
 
 pub returns-clause-fit : goal.returns-clause-fit
-unfolding returns-clause-entered
+unfolding returns-clause-enters
 returns-clause-fit g c =
-    parts-entered c.args.input.now c.args.event c.args.stamp c.args.parts.now _ (returns-clause-entered g c)
-    c.in_ok-frames.ensures.few c.step.ensures.place refl c.requires.fit
+    parts-entered c.args.input.now c.args.event c.args.stamp c.args.parts.now _ (returns-clause-enters g c).0
+    c.in_ok-frames.ensures.few c.react.ensures.place refl c.requires.fit

@@ -10,8 +10,8 @@ use Rattle.station.specs.declared.halts.Halt.TheVariants as halt
 use Rattle.station.specs.Fits.{state_of}
 use Rattle.station.specs.Leads.{Leads}
 use Rattle.station.proofs.Ageing.{aged-parts, may-age}
-use Rattle.station.proofs.Stepping.{sending-entered, sending-none, sending-same}
-use Rattle.station.proofs.Stepping.{tick-full, tick-leads, tick-none, tick-starves}
+use Rattle.station.proofs.Stepping.{given-sends, sending-entered, sending-none}
+use Rattle.station.proofs.Stepping.{tick-full, tick-leads, tick-none, tick-refused}
 use Rattle.station.proofs.ticks.tick.Goals as goal
 
 pub returns-then-not-tick-clause-on : goal.returns-then-not-tick-clause-on
@@ -48,7 +48,7 @@ returns-clause-on g c =
     let s = state_of c.args.parts.now in
     let m = state_of c.enter.new.parts in
     let r : HasEntered input.Tick (Tick (me_of s)) (s.clock + 1) s m =
-    subst (λ x. HasEntered input.Tick (Tick x) (s.clock + 1) s m) c.requires.fit.me c.in_ok-enter.ensures.entered in
+    subst (λ x. HasEntered input.Tick (Tick x) (s.clock + 1) s m) c.requires.fit.me c.in_ok-enter.ensures.enters.0 in
     subst (λ b. Leads (Ok tt) (tick_phase b) s (record m { held = c.age.new.held.items }))
     (sym c.if-not-tick.false)
     (tick-leads s m c.age.new.held.items (sym c.is_able.ensures ∙ c.if-not-is_able.false) r
@@ -57,18 +57,18 @@ returns-clause-on g c =
 pub returns-clause-held : goal.returns-clause-held
 returns-clause-held g c =
     let hs = c.args.parts.now.held.items in
-    c.age.ensures ∙ ap (map parcel_ticked) c.in_ok-enter.ensures.entered.held
+    c.age.ensures ∙ ap (map parcel_ticked) c.in_ok-enter.ensures.enters.0.held
     ∙ sym (ap (λ b. cond b (map parcel_ticked hs) hs) c.if-not-tick.false)
 
 pub returns-clause-sends : goal.returns-clause-sends
 returns-clause-sends g c =
-    let f = sending-entered _ _ _ _ _ c.in_ok-enter.ensures.entered in
+    let f = sending-entered _ _ _ _ _ c.in_ok-enter.ensures.enters.0 in
     record { links = f.links; lines = f.lines; grows = f.grows }
 
 pub returns-clause-fit : goal.returns-clause-fit
 returns-clause-fit g c =
     aged-parts c.args.parts.now c.enter.new.parts _ c.requires.fit c.enter.ensures.fit
-    c.in_ok-enter.ensures.entered.step.steps c.in_ok-enter.ensures.entered.held c.age.ensures refl refl
+    c.in_ok-enter.ensures.enters.0.step.steps c.in_ok-enter.ensures.enters.0.held c.age.ensures refl refl
 
 pub returns-in_err-enter-clause-on : goal.returns-in_err-enter-clause-on
 returns-in_err-enter-clause-on g c =
@@ -76,8 +76,8 @@ returns-in_err-enter-clause-on g c =
     let m = state_of c.enter.new.parts in
     let p = err_from_is_err_and c.from_residual.result c.from_residual.ensures.1 in
     subst (λ r. Leads r (tick_phase c.args.tick) s m) (sym (p.1 ∙ ap Err p.2))
-    (tick-starves c.args.tick s m c.in_err-enter.ensures.same)
+    (tick-refused _ _ _ _ c.args.tick s m c.in_err-enter.ensures.enters)
 
 pub returns-in_err-enter-clause-sends : goal.returns-in_err-enter-clause-sends
 returns-in_err-enter-clause-sends g c =
-    sending-same (state_of c.args.parts.now) (state_of c.enter.new.parts) c.in_err-enter.ensures.same
+    given-sends (Err _) _ _ _ (state_of c.args.parts.now) (state_of c.enter.new.parts) c.in_err-enter.ensures.enters
