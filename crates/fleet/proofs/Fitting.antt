@@ -1,10 +1,11 @@
 -- Sums over the stations of a fleet fit in 64 bits.
 use Rattle.std.proofs.Common.{◌≡◌, ◌≤◌, ◌<◌, ◌+◌, ◌-◌, ◌*◌, ◌^◌, ℕ, suc, Bool, true, false, cond, nat_eq, nat_le, List}
-use Rattle.std.proofs.Common.{[], ◌∷◌, ◌++◌, drop, filter, get_or, length, take, refl, sym, ap, ◌∙◌, subst, arith}
-use Rattle.std.specs.Prelude.{◌&&◌, min, None, Option, Some, slice_get, sum_by}
+use Rattle.std.proofs.Common.{append-nil, append_assoc}
+use Rattle.std.proofs.Common.{[], ◌∷◌, ◌++◌, drop, filter, get_or, length, map, take, refl, sym, ap, ◌∙◌, subst, arith}
+use Rattle.std.specs.Prelude.{◌&&◌, flat_map, min, None, Option, Some, slice_get, sum_by}
 use Rattle.std.specs.List.{AllByRecursion, AllZip}
 use Rattle.std.proofs.Math.Nat.{min-eq_left}
-use Rattle.std.proofs.lemmas.List.{length-append, length-map}
+use Rattle.std.proofs.lemmas.List.{length-append, length-map, map-append, take_more}
 use Rattle.std.proofs.lemmas.List.Sums.{sum_by-cons, sum_by_more, sum_by_more_le}
 use Rattle.std.proofs.lemmas.Option.{get_or_from_slice_get}
 use Rattle.ason_base.specs.declared.ids.NodeId.{NodeId}
@@ -157,6 +158,25 @@ items-fit t lines f r s = each (ids_of t) f.stations s.stations.each
     each [] (x ∷ xs) all = absurd all
     each (n ∷ ns) [] all = absurd all
     each (n ∷ ns) (x ∷ xs) all = (one n x all.0, each ns xs all.1)
+
+flat_end : {X Y : Type 0} (f : X → List Y) (xs : List X) (y : X) → flat_map f (xs ++ y ∷ []) ≡ flat_map f xs ++ f y
+flat_end f [] y = append-nil (f y)
+flat_end f (x ∷ xs) y = ap (λ zs. f x ++ zs) (flat_end f xs y) ∙ sym (append_assoc (f x) (flat_map f xs) (f y))
+
+-- what is listed of one item more
+pub flat-more : {X Y : Type 0} (f : X → List Y) (xs : List X) (i : ℕ) (x : X) → x ≡ get_or xs i x → i < length xs →
+    flat_map f (take (i + 1) xs) ≡ flat_map f (take i xs) ++ f x
+flat-more f xs i x is below =
+    ap (flat_map f) (take_more xs i x below) ∙ flat_end f (take i xs) (get_or xs i x)
+    ∙ ap (λ z. flat_map f (take i xs) ++ f z) (sym is)
+
+-- the log of one station more
+pub logs-more : (xs : List StationState) (i : ℕ) (x : StationState) → x ≡ get_or xs i x → i < length xs →
+    map (λ (s : StationState). s.log) (take (i + 1) xs) ≡ map (λ (s : StationState). s.log) (take i xs) ++ x.log ∷ []
+logs-more xs i x is below =
+    ap (map (λ (s : StationState). s.log)) (take_more xs i x below)
+    ∙ map-append (λ (s : StationState). s.log) (take i xs) (get_or xs i x ∷ [])
+    ∙ ap (λ (z : StationState). map (λ (s : StationState). s.log) (take i xs) ++ z.log ∷ []) (sym is)
 
 -- one station more is counted
 pub sum-more : (f : StationState → ℕ) (xs : List StationState) (i so_far item next : ℕ) (d : StationState) →

@@ -1,5 +1,5 @@
 -- What is shown of a station that hears bytes that spell nothing.
-use Rattle.std.proofs.Common.{◌≡◌, List, [], ◌∷◌, refl, sym, ap, append-nil, subst}
+use Rattle.std.proofs.Common.{◌≡◌, List, [], ◌∷◌, refl, sym, append-nil, subst}
 use Rattle.ason_base.specs.declared.ids.NodeId.{NodeId}
 use Rattle.station_doings.specs.States.{StationState}
 use Rattle.station.specs.Noise.{HasHeard}

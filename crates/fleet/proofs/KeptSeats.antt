@@ -1,7 +1,7 @@
 -- Where links and seats stay a fleet stays connected, and with more room on desks it stands for the same records.
 use Rattle.std.proofs.Common.{◌≡◌, ◌≤◌, ◌<◌, ◌^◌, ℕ, List, [], ◌∷◌, ◌++◌, length, map, refl, sym, ap, ◌∙◌}
 use Rattle.std.proofs.Common.{subst}
-use Rattle.std.specs.Prelude.{Some, slice_get, slice_set}
+use Rattle.std.specs.Prelude.{Err, Ok, OnErr, Result, Some, slice_get, slice_set}
 use Rattle.std.specs.List.{AllZip}
 use Rattle.std.proofs.lemmas.List.{length-map}
 use Rattle.ason_base.specs.declared.ids.NodeId.{NodeId}
@@ -82,6 +82,11 @@ pub seats-roomed : (seats : List Seat) (xs lent mid now : List StationState) →
 seats-roomed seats xs lent mid now are was same is =
     subst (HaveSeats seats) (sym is)
     (seats-kept seats lent mid (subst (HaveSeats seats) (sym was) are) (room-links lent mid same))
+
+-- what holds in any case holds after an error
+pub on-any-err : {X E : Type 0} (r : Result X E) (P : Type 0) → P → OnErr r P
+on-any-err (Ok x) P p = tt
+on-any-err (Err e) P p = p
 
 -- and came back with the same links
 pub seats-back : (seats : List Seat) (xs lent mid now : List StationState) → HaveSeats seats xs → lent ≡ xs →

@@ -6,6 +6,7 @@ pub mod Counted
 pub mod Ended
 pub mod Fallback
 pub mod Finding
+pub mod FirstPlaces
 pub mod Firsts
 pub mod Fitting
 pub mod Following

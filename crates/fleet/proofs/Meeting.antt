@@ -71,6 +71,17 @@ read-ends old place link e a b j read l m at at_back =
     subst (λ (k : LinkState). AreEnds k m × AreFew k m) near
     (subst (λ (k : LinkState). AreEnds j.near k × AreFew j.near k) far (j.ends, j.few))
 
+-- there are such links
+pub read-place : (old : List StationState) (place link : ℕ) (e : End) (a b : StationState)
+    (j : AreJoined old place link e) → AreRead old place link e j a b → link < length a.links
+read-place old place link e a b j read =
+    get_within a.links link j.near (ap (λ (s : StationState). slice_get s.links link) read.here ∙ j.is_near)
+
+pub read-back : (old : List StationState) (place link : ℕ) (e : End) (a b : StationState)
+    (j : AreJoined old place link e) → AreRead old place link e j a b → e.link < length b.links
+read-back old place link e a b j read =
+    get_within b.links e.link j.far (ap (λ (s : StationState). slice_get s.links e.link) read.there ∙ j.is_far)
+
 -- after the look
 met : (old now : List StationState) (place link : ℕ) (e : End) (a b x y : StationState)
     (j : AreJoined old place link e) → AreRead old place link e j a b → AreLooked link a x e.link b y →

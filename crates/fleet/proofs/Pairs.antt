@@ -1,12 +1,14 @@
 -- Two stations of a list that is split between them are joined.
 use Rattle.std.proofs.Common.{◌≡◌, ◌<◌, ℕ, List, ◌++◌, get_or, map, take, drop, sym, ap, ◌∙◌, subst}
-use Rattle.std.specs.Prelude.{Option, Some, slice_get, slice_set}
+use Rattle.std.specs.Prelude.{IsTrue, Option, Some, slice_get, slice_set}
 use Rattle.std.proofs.lemmas.List.{map-append, take-append-drop}
 use Rattle.hop_reliable.proofs.Members.{get_within}
 use Rattle.std.proofs.lemmas.Option.{get_or_from_slice_get}
+use Rattle.mesh_nodes.specs.LocalNodes.{is_neighbour}
 use Rattle.mgmt_view.specs.Publishing.{PublisherState}
+use Rattle.station_doings.specs.Entered.{me_of}
 use Rattle.station_doings.specs.States.{StationState}
-use Rattle.station.specs.Joined.{AreConnected}
+use Rattle.station.specs.Joined.{AreConnected, IsApartFrom}
 use Rattle.fleet.specs.Joining.{AreJoinedAt, MayBeJoined}
 use Rattle.fleet.specs.Views.{publishers_of}
 use Rattle.fleet.proofs.Places.{map-back}
@@ -27,6 +29,29 @@ module _ (old front back : List StationState) (low high : ℕ) (a b x y : Statio
 
   there : b ≡ may.there
   there = last ∙ get_or_from_slice_get back 0 may.there b there_at
+
+  -- each is near the other, and no link leads to it yet
+  pub pair-near : IsTrue (is_neighbour a.controller.node.place (me_of b))
+  pair-near =
+      subst (λ (s : StationState). IsTrue (is_neighbour s.controller.node.place (me_of b))) (sym here)
+      (subst (λ (s : StationState). IsTrue (is_neighbour may.here.controller.node.place (me_of s))) (sym there)
+      may.near)
+
+  pub pair-near_back : IsTrue (is_neighbour b.controller.node.place (me_of a))
+  pair-near_back =
+      subst (λ (s : StationState). IsTrue (is_neighbour s.controller.node.place (me_of a))) (sym there)
+      (subst (λ (s : StationState). IsTrue (is_neighbour may.there.controller.node.place (me_of s))) (sym here)
+      may.near_back)
+
+  pub pair-apart : IsApartFrom (me_of b) a
+  pair-apart =
+      subst (IsApartFrom (me_of b)) (sym here)
+      (subst (λ (s : StationState). IsApartFrom (me_of s) may.here) (sym there) may.apart)
+
+  pub pair-apart_back : IsApartFrom (me_of a) b
+  pair-apart_back =
+      subst (IsApartFrom (me_of a)) (sym there)
+      (subst (λ (s : StationState). IsApartFrom (me_of s) may.there) (sym here) may.apart_back)
 
   pub joined-pair : AreConnected a x b y → AreJoinedAt low high old (slice_set front low x ++ slice_set back 0 y)
   joined-pair connected = record {

@@ -1,6 +1,6 @@
 //! The logs and the posts in one order.
 
-ghost use Rattle.std.specs.Prelude.{◌≡◌, ◌≤◌, ◌+◌, ◌*◌, ◌∷◌, IfOk, List, length, map, sum_by};
+ghost use Rattle.std.specs.Prelude.{◌≡◌, ◌≤◌, ◌+◌, ◌*◌, ◌++◌, ◌∷◌, [], IfOk, List, OnOk, length, map, sum_by};
 ghost use Rattle.ason_base.specs.declared.commands.Disturb.{Disturb};
 ghost use Rattle.ason_base.specs.Network.{Network};
 ghost use Rattle.log_merge.specs.Lines.{line_of, lines_left, lists_of};
@@ -55,6 +55,15 @@ fn owned(alloc: Global, line: EntryRef) -> Result<Entry, OutOfMemory>
     })
 }
 
+// Puts the line at the end, with an event of its own.
+fn add_line(alloc: Global, all: &mut Vec<Entry>, line: EntryRef) -> Result<(), OutOfMemory>
+    ensures { OnOk result (all.new.items ≡ all.old.items ++ line_of line.entry ∷ []) }
+{
+    let entry = owned(alloc, line)?;
+    all.push(entry)?;
+    Ok(())
+}
+
 impl Fleet {
     /// The lines of all logs and the posts in one order, one at a time: by stamp, then node, a post first.
     pub fn entries(&self, alloc: Global) -> Result<Merging<'_>, OutOfMemory>
@@ -70,9 +79,10 @@ impl Fleet {
     pub fn merged(&self, alloc: Global) -> Result<Vec<Entry>, OutOfMemory>
         ensures { IfOk result (λ v. Merges self.now v.items) }
     {
+        let lines = self.entries(alloc)?;
         let mut all = Vec::new(alloc);
-        for line in self.entries(alloc)? {
-            all.push(owned(alloc, line)?)?;
+        for line in lines {
+            add_line(alloc, &mut all, line)?;
         }
         Ok(all)
     }

@@ -1,6 +1,7 @@
 //! Commands that are posted.
 
-ghost use Rattle.std.specs.Prelude.{◌≡◌, ◌≤◌, ◌<◌, ◌+◌, ◌^◌, IfOk, OnErr, OnOk, Some, length, map, position};
+ghost use Rattle.std.specs.Prelude.{◌≡◌, ◌≤◌, ◌<◌, ◌+◌, ◌^◌, ◌++◌, ◌∷◌, [], IfOk, OnErr, OnOk, Some, length, map};
+ghost use Rattle.std.specs.Prelude.{position};
 ghost use Rattle.std.specs.List.{AllByRecursion};
 ghost use Rattle.world_core.specs.Replays.{ingress_of};
 ghost use Rattle.fleet.specs.Commands.{IsAsBefore, Posts, StandsOn, but_room, is_seat};
@@ -131,6 +132,27 @@ fn line_of(alloc: Global, stamp: u64, command: &Command) -> Result<Entry, OutOfM
     })
 }
 
+// Makes room for so many items more on each desk, and lists the post.
+fn list_post(
+    alloc: Global,
+    stations: &mut [Station],
+    posts: &mut Vec<Entry>,
+    items: usize,
+    command: &Command,
+    stamp: u64,
+) -> Result<(), OutOfMemory>
+    ensures room { OnOk result (HaveRoom items stations.new) }
+    ensures same { map but_room stations.new ≡ map but_room stations.old }
+    ensures posts { OnOk result
+        (posts.new.items ≡ posts.old.items ++ post_of stamp command.now ∷ []) }
+    ensures err { OnErr result (posts.new.items ≡ posts.old.items) }
+{
+    make_room(stations, items)?;
+    let line = line_of(alloc, stamp, command)?;
+    posts.push(line)?;
+    Ok(())
+}
+
 impl Fleet {
     // A command of a call goes to the desk of its ingress.
     fn order(&mut self, ingress: NodeId, command: &Command, stamp: u64) -> Result<(), OutOfMemory>
@@ -144,9 +166,14 @@ impl Fleet {
             None => Ok(()),
             Some(place) => {
                 let item = DeskItem::Order(command.copy(self.alloc)?);
-                let line = line_of(self.alloc, stamp, command)?;
-                make_room(&mut self.stations, 1)?;
-                self.posts.push(line)?;
+                list_post(
+                    self.alloc,
+                    &mut self.stations,
+                    &mut self.posts,
+                    1,
+                    command,
+                    stamp,
+                )?;
                 take_order(&mut self.stations, place, item, stamp);
                 Ok(())
             }
@@ -161,9 +188,15 @@ impl Fleet {
         ensures shown { shown_by self.new.stations ≡ shown_by self.old.stations }
     {
         let failed = failed_after(self.alloc, &self.failed, command)?;
-        let line = line_of(self.alloc, stamp, command)?;
-        make_room(&mut self.stations, self.network.links().len())?;
-        self.posts.push(line)?;
+        let items = self.network.links().len();
+        list_post(
+            self.alloc,
+            &mut self.stations,
+            &mut self.posts,
+            items,
+            command,
+            stamp,
+        )?;
         take_news(
             &mut self.stations,
             &self.seats,

@@ -56,14 +56,24 @@ fn is_at_limit(station: &Station) -> bool
 fn any_starved(stations: &[Station]) -> bool
     ensures { result ≡ list_any was_starved stations.now }
 {
-    stations.iter().any(|station| is_starved(station))
+    for station in stations {
+        if is_starved(station) {
+            return true;
+        }
+    }
+    false
 }
 
 // The place of the first station at its limit.
 fn first_at_limit(stations: &[Station]) -> Option<usize>
     ensures { result ≡ position was_at_limit stations.now }
 {
-    stations.iter().position(|station| is_at_limit(station))
+    for place in 0..stations.len() {
+        if is_at_limit(&stations[place]) {
+            return Some(place);
+        }
+    }
+    None
 }
 
 // The fault that ended the turns of some station, if one did: want of memory before a limit, and of the nodes at their

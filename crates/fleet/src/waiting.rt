@@ -1,6 +1,7 @@
 //! What waits at stations, and what a table shows of them.
 
-ghost use Rattle.std.specs.Prelude.{◌≡◌, ◌≤◌, ◌<◌, ◌↔◌, ◌^◌, [], IfOk, IsTrue, List, flat_map, length, sum_by};
+ghost use Rattle.std.specs.Prelude.{◌≡◌, ◌≤◌, ◌<◌, ◌↔◌, ◌^◌, ◌++◌, [], IfOk, IsTrue, List, OnOk, length};
+ghost use Rattle.std.specs.Prelude.{flat_map, sum_by};
 ghost use Rattle.std.specs.List.{AllByRecursion, list_all};
 ghost use Rattle.ason_base.specs.declared.commands.Disturb.{Disturb};
 ghost use Rattle.ason_base.specs.Network.{Network};
@@ -12,7 +13,7 @@ ghost use Rattle.fleet.specs.Standing.{StandsFor};
 ghost use Rattle.fleet.specs.Waiting.{call_rows_of, has_nothing, leg_rows_of, rows_due_of, unacked_of};
 
 use crate::fleet::{Fleet, FleetPending};
-use ason_base::{CallRows, LegRows, OutOfMemory, TableRows};
+use ason_base::{CallRow, CallRows, LegRow, LegRows, OutOfMemory, TableRows};
 use station::Station;
 use std::alloc::Global;
 
@@ -28,7 +29,12 @@ fn has_nothing(station: &Station) -> bool
 fn are_quiet(stations: &[Station]) -> bool
     ensures { result ≡ list_all has_nothing stations.now }
 {
-    stations.iter().all(|station| has_nothing(station))
+    for station in stations {
+        if !has_nothing(station) {
+            return false;
+        }
+    }
+    true
 }
 
 // How many items wait on all desks. A sum that doesn't fit is the most that does.
@@ -70,6 +76,22 @@ fn rows_due_of(stations: &[Station]) -> usize
     sum
 }
 
+// What a table shows of the station, at the end of these lists.
+fn add_rows(
+    alloc: Global,
+    station: &Station,
+    calls: &mut Vec<CallRow>,
+    legs: &mut Vec<LegRow>,
+) -> Result<(), OutOfMemory>
+    ensures calls { OnOk result (calls.new.items ≡ calls.old.items ++ call_rows_of station.now) }
+    ensures legs { OnOk result (legs.new.items ≡ legs.old.items ++ leg_rows_of station.now) }
+{
+    let rows = station.controller().rows(alloc)?;
+    calls.extend_from_slice(rows.calls.items())?;
+    legs.extend_from_slice(rows.legs.items())?;
+    Ok(())
+}
+
 // What a table shows of the stations, one after the other.
 fn rows_of(alloc: Global, stations: &[Station]) -> Result<TableRows, OutOfMemory>
     ensures calls { IfOk result (λ rows. rows.calls ≡ flat_map call_rows_of stations.now) }
@@ -78,9 +100,7 @@ fn rows_of(alloc: Global, stations: &[Station]) -> Result<TableRows, OutOfMemory
     let mut calls = Vec::new(alloc);
     let mut legs = Vec::new(alloc);
     for station in stations {
-        let rows = station.controller().rows(alloc)?;
-        calls.extend_from_slice(rows.calls.items())?;
-        legs.extend_from_slice(rows.legs.items())?;
+        add_rows(alloc, station, &mut calls, &mut legs)?;
     }
     let calls = CallRows::from_vec(calls);
     let legs = LegRows::from_vec(legs);

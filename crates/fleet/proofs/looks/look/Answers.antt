@@ -1,6 +1,54 @@
 use Rattle.std.proofs.Common.{arith, get_or, ap}
-use Rattle.fleet.proofs.Meeting.{here-within, met-high, met-low, read-ends, read-high, read-low}
+use Rattle.fleet.proofs.Meeting.{here-within, met-high, met-low, read-back, read-ends, read-high, read-low, read-place}
 use Rattle.fleet.proofs.looks.look.Goals as goal
+
+pub look-requires-clause-place : goal.look-requires-clause-place
+look-requires-clause-place c =
+    let split = c.split_at_mut-low in
+    let old = c.args.stations.now in
+    let a = get_or split.result.0.now c.args.place c.index-low-place.result in
+    let b = get_or split.result.1.now 0 c.index-high-0.result in
+    read-place old c.args.place c.args.link c.args.end a b c.requires
+    (read-low old split.result.0.now split.result.1.now c.args.place c.args.link c.args.end a b c.requires
+    c.if-place-end.true split.ensures.front split.ensures.back
+    (ap (get_or split.result.0.now c.args.place) c.index-low-place.is)
+    (ap (get_or split.result.1.now 0) c.index-high-0.is))
+
+pub look-requires-clause-back : goal.look-requires-clause-back
+look-requires-clause-back c =
+    let split = c.split_at_mut-low in
+    let old = c.args.stations.now in
+    let a = get_or split.result.0.now c.args.place c.index-low-place.result in
+    let b = get_or split.result.1.now 0 c.index-high-0.result in
+    read-back old c.args.place c.args.link c.args.end a b c.requires
+    (read-low old split.result.0.now split.result.1.now c.args.place c.args.link c.args.end a b c.requires
+    c.if-place-end.true split.ensures.front split.ensures.back
+    (ap (get_or split.result.0.now c.args.place) c.index-low-place.is)
+    (ap (get_or split.result.1.now 0) c.index-high-0.is))
+
+pub look-requires-else-place-end-clause-place : goal.look-requires-else-place-end-clause-place
+look-requires-else-place-end-clause-place c =
+    let split = c.split_at_mut-low-else-place-end in
+    let old = c.args.stations.now in
+    let a = get_or split.result.1.now 0 c.index-high-0-else-place-end.result in
+    let b = get_or split.result.0.now c.args.end.station c.index-low-end.result in
+    read-place old c.args.place c.args.link c.args.end a b c.requires
+    (read-high old split.result.0.now split.result.1.now c.args.place c.args.link c.args.end a b c.requires
+    c.if-place-end.false split.ensures.front split.ensures.back
+    (ap (get_or split.result.1.now 0) c.index-high-0-else-place-end.is)
+    (ap (get_or split.result.0.now c.args.end.station) c.index-low-end.is))
+
+pub look-requires-else-place-end-clause-back : goal.look-requires-else-place-end-clause-back
+look-requires-else-place-end-clause-back c =
+    let split = c.split_at_mut-low-else-place-end in
+    let old = c.args.stations.now in
+    let a = get_or split.result.1.now 0 c.index-high-0-else-place-end.result in
+    let b = get_or split.result.0.now c.args.end.station c.index-low-end.result in
+    read-back old c.args.place c.args.link c.args.end a b c.requires
+    (read-high old split.result.0.now split.result.1.now c.args.place c.args.link c.args.end a b c.requires
+    c.if-place-end.false split.ensures.front split.ensures.back
+    (ap (get_or split.result.1.now 0) c.index-high-0-else-place-end.is)
+    (ap (get_or split.result.0.now c.args.end.station) c.index-low-end.is))
 
 pub look-requires-clause-ends : goal.look-requires-clause-ends
 look-requires-clause-ends c =
@@ -10,7 +58,7 @@ look-requires-clause-ends c =
     let b = get_or split.result.1.now 0 c.index-high-0.result in
     read-ends old c.args.place c.args.link c.args.end a b c.requires
     (read-low old split.result.0.now split.result.1.now c.args.place c.args.link c.args.end a b c.requires
-    (omega (arith, c.if-place-end.true)) split.ensures.front split.ensures.back
+    c.if-place-end.true split.ensures.front split.ensures.back
     (ap (get_or split.result.0.now c.args.place) c.index-low-place.is)
     (ap (get_or split.result.1.now 0) c.index-high-0.is))
 
@@ -27,7 +75,7 @@ look-requires-else-place-end-clause-ends c =
     let b = get_or split.result.0.now c.args.end.station c.index-low-end.result in
     read-ends old c.args.place c.args.link c.args.end a b c.requires
     (read-high old split.result.0.now split.result.1.now c.args.place c.args.link c.args.end a b c.requires
-    (omega (arith, c.if-place-end.false)) split.ensures.front split.ensures.back
+    c.if-place-end.false split.ensures.front split.ensures.back
     (ap (get_or split.result.1.now 0) c.index-high-0-else-place-end.is)
     (ap (get_or split.result.0.now c.args.end.station) c.index-low-end.is))
 
@@ -40,10 +88,10 @@ returns-then-place-end c =
     met-low old split.result.0.now split.result.1.now c.args.place c.args.link c.args.end a b c.look.new.a c.look.new.b
     c.requires
     (read-low old split.result.0.now split.result.1.now c.args.place c.args.link c.args.end a b c.requires
-    (omega (arith, c.if-place-end.true)) split.ensures.front split.ensures.back
+    c.if-place-end.true split.ensures.front split.ensures.back
     (ap (get_or split.result.0.now c.args.place) c.index-low-place.is)
     (ap (get_or split.result.1.now 0) c.index-high-0.is))
-    (omega (arith, c.if-place-end.true)) split.ensures.front split.ensures.back c.look.ensures
+    c.if-place-end.true split.ensures.front split.ensures.back c.look.ensures
 
 pub returns-else-place-end : goal.returns-else-place-end
 returns-else-place-end c =
@@ -55,7 +103,7 @@ returns-else-place-end c =
     met-high old split.result.0.now split.result.1.now c.args.place c.args.link c.args.end a b look.new.a look.new.b
     c.requires
     (read-high old split.result.0.now split.result.1.now c.args.place c.args.link c.args.end a b c.requires
-    (omega (arith, c.if-place-end.false)) split.ensures.front split.ensures.back
+    c.if-place-end.false split.ensures.front split.ensures.back
     (ap (get_or split.result.1.now 0) c.index-high-0-else-place-end.is)
     (ap (get_or split.result.0.now c.args.end.station) c.index-low-end.is))
-    (omega (arith, c.if-place-end.false)) split.ensures.front split.ensures.back look.ensures
+    c.if-place-end.false split.ensures.front split.ensures.back look.ensures

@@ -5,71 +5,64 @@ use Rattle.std.proofs.lemmas.List.{with_items_is}
 use Rattle.mesh_rules.specs.Failures.{failed_after}
 use Rattle.station_doings.specs.States.{StationState}
 use Rattle.fleet.specs.Commands.{but_room}
-use Rattle.fleet.specs.Posting.{HaveRoom, news_for}
+use Rattle.fleet.specs.Posting.{HaveRoom, news_for, post_of}
 use Rattle.fleet.specs.Standing.{FleetState}
 use Rattle.fleet.specs.Views.{shown_by}
-use Rattle.fleet.proofs.KeptSeats.{items-links, seats-back, seats-count, seats-roomed}
+use Rattle.fleet.proofs.KeptSeats.{items-links, on-any-err, seats-back, seats-count, seats-roomed}
 use Rattle.fleet.proofs.Taking.{room-clocks, stamp-above, take-roomed, take-same}
 use Rattle.fleet.proofs.Unwatched.{items-shown, room-shown}
 use Rattle.fleet.proofs.fleet.Fleet.change.Goals as goal
 
 pub invariant_of-self : goal.invariant_of-self
 invariant_of-self c =
-    seats-roomed c.self.inside.seats.items c.self.inside.stations.items c.deref_mut.result.now c.make_room.new.stations
-    (with_items c.self.inside.stations c.make_room.new.stations).items c.self.invariant c.deref_mut.ensures.value
-    c.make_room.ensures.same (with_items_is c.self.inside.stations c.make_room.new.stations
-    (omega (arith, c.make_room.auto.stations, c.deref_mut.ensures.len)))
-
-pub invariant_of-self-in_err-push : goal.invariant_of-self-in_err-push
-invariant_of-self-in_err-push c =
-    seats-roomed c.self.inside.seats.items c.self.inside.stations.items c.deref_mut.result.now c.make_room.new.stations
-    (with_items c.self.inside.stations c.make_room.new.stations).items c.self.invariant c.deref_mut.ensures.value
-    c.make_room.ensures.same (with_items_is c.self.inside.stations c.make_room.new.stations
-    (omega (arith, c.make_room.auto.stations, c.deref_mut.ensures.len)))
+    seats-roomed c.self.inside.seats.items c.self.inside.stations.items c.deref_mut.result.now c.list_post.new.stations
+    (with_items c.self.inside.stations c.list_post.new.stations).items c.self.invariant c.deref_mut.ensures.value
+    c.list_post.ensures.same (with_items_is c.self.inside.stations c.list_post.new.stations
+    (omega (arith, c.list_post.auto.stations, c.deref_mut.ensures.len)))
 
 pub take_news-requires : goal.take_news-requires
 take_news-requires c =
-    let mid = c.make_room.new.stations in
+    let mid = c.list_post.new.stations in
     let is : c.deref_mut-2.result.now ≡ mid =
     c.deref_mut-2.ensures.value
-    ∙ with_items_is c.self.inside.stations mid (omega (arith, c.make_room.auto.stations, c.deref_mut.ensures.len)) in
+    ∙ with_items_is c.self.inside.stations mid (omega (arith, c.list_post.auto.stations, c.deref_mut.ensures.len)) in
     record {
       count = omega (
         arith,
         ap length is,
-        c.make_room.auto.stations,
+        c.list_post.auto.stations,
         c.deref_mut.ensures.len,
         c.self.inside.stations.ok.0,
         seats-count c.self.inside.seats.items c.self.inside.stations.items c.self.invariant,
         ap length c.deref-2.ensures.value,
       );
       room =
-          subst (λ k. HaveRoom k c.deref_mut-2.result.now) (ap length c.links.ensures.list)
-          (subst (HaveRoom (length c.links.result.now)) (sym is) c.in_ok-make_room.ensures.room);
+          subst (λ k. HaveRoom k c.deref_mut-2.result.now) (ap length c.links-items.ensures.list)
+          (subst (HaveRoom (length c.links-items.result.now)) (sym is) c.in_ok-list_post.ensures.room);
       clocks =
           subst (AllByRecursion (λ (s : StationState). s.clock ≤ c.args.stamp)) (sym is)
-          (room-clocks c.args.stamp c.deref_mut.result.now mid c.make_room.ensures.same
+          (room-clocks c.args.stamp c.deref_mut.result.now mid c.list_post.ensures.same
           (stamp-above c.args.stamp c.deref_mut.result.now c.args.self.now.stations
           (c.deref_mut.ensures.value ∙ ap (λ (f : FleetState). f.stations) c.self.view_is) c.requires));
     }
 
 pub invariant_of-self-2 : goal.invariant_of-self-2
 invariant_of-self-2 c =
-    let mid = c.make_room.new.stations in
+    let mid = c.list_post.new.stations in
     let vec = with_items c.self.inside.stations mid in
     let new = c.take_news.new.stations in
     let is : vec.items ≡ mid =
-    with_items_is c.self.inside.stations mid (omega (arith, c.make_room.auto.stations, c.deref_mut.ensures.len)) in
+    with_items_is c.self.inside.stations mid (omega (arith, c.list_post.auto.stations, c.deref_mut.ensures.len)) in
     let lent : c.deref_mut-2.result.now ≡ mid = c.deref_mut-2.ensures.value ∙ is in
     seats-back c.self.inside.seats.items vec.items c.deref_mut-2.result.now new (with_items vec new).items
     (seats-roomed c.self.inside.seats.items c.self.inside.stations.items c.deref_mut.result.now mid vec.items
-    c.self.invariant c.deref_mut.ensures.value c.make_room.ensures.same is)
+    c.self.invariant c.deref_mut.ensures.value c.list_post.ensures.same is)
     c.deref_mut-2.ensures.value
     (items-links (news_for c.self.inside.network c.deref-3.result.now c.deref-4.result.now) c.args.stamp
     c.deref-2.result.now c.deref_mut-2.result.now new (omega (
       arith,
       ap length lent,
-      c.make_room.auto.stations,
+      c.list_post.auto.stations,
       c.deref_mut.ensures.len,
       c.self.inside.stations.ok.0,
       seats-count c.self.inside.seats.items c.self.inside.stations.items c.self.invariant,
@@ -80,11 +73,11 @@ invariant_of-self-2 c =
 pub returns-clause-on : goal.returns-clause-on
 returns-clause-on c =
     let f = c.args.self.now in
-    let mid = c.make_room.new.stations in
+    let mid = c.list_post.new.stations in
     let vec = with_items c.self.inside.stations mid in
     let new = c.take_news.new.stations in
     let is : vec.items ≡ mid =
-    with_items_is c.self.inside.stations mid (omega (arith, c.make_room.auto.stations, c.deref_mut.ensures.len)) in
+    with_items_is c.self.inside.stations mid (omega (arith, c.list_post.auto.stations, c.deref_mut.ensures.len)) in
     let before : c.deref-3.result.now ≡ f.failed =
     c.deref-3.ensures.value ∙ ap (λ (x : FleetState). x.failed) c.self.view_is in
     let groups : c.in_ok-failed.failed.items ≡ failed_after c.args.command.now f.failed =
@@ -96,7 +89,7 @@ returns-clause-on c =
       stations =
           take-roomed (news_for f.network f.failed (failed_after c.args.command.now f.failed)) c.args.stamp f.seats
           f.stations mid (with_items vec new).items
-          (c.make_room.ensures.same ∙ ap (map but_room) (c.deref_mut.ensures.value
+          (c.list_post.ensures.same ∙ ap (map but_room) (c.deref_mut.ensures.value
           ∙ ap (λ (x : FleetState). x.stations) c.self.view_is))
           (take-same (news_for c.self.inside.network c.deref-3.result.now c.deref-4.result.now)
           (news_for f.network f.failed (failed_after c.args.command.now f.failed)) c.args.stamp c.deref-2.result.now
@@ -108,46 +101,56 @@ returns-clause-on c =
           c.take_news.ensures);
       seats = ap (λ (x : FleetState). x.seats) c.self.view_is;
       posts =
-          c.in_ok-push.ensures.items ∙ (λ i. (ap (λ (x : FleetState). x.posts) c.self.view_is i)
-          ++ c.in_ok-line.ensures i ∷ []);
+          c.in_ok-list_post.ensures.posts
+          ∙ ap (λ (x : FleetState). x.posts ++ post_of c.args.stamp c.args.command.now ∷ []) c.self.view_is;
       network = network;
       failed = groups;
     }
 
-pub returns-in_err-make_room-clause-shown : goal.returns-in_err-make_room-clause-shown
-returns-in_err-make_room-clause-shown c =
-    let mid = c.make_room.new.stations in
+pub returns-in_err-list_post-clause-shown : goal.returns-in_err-list_post-clause-shown
+returns-in_err-list_post-clause-shown c =
+    let mid = c.list_post.new.stations in
     ap shown_by (with_items_is c.self.inside.stations mid (omega
-    (arith, c.make_room.auto.stations, c.deref_mut.ensures.len)))
-    ∙ room-shown c.deref_mut.result.now mid c.make_room.ensures.same ∙ ap shown_by c.deref_mut.ensures.value
-    ∙ ap (λ (x : FleetState). shown_by x.stations) c.self.view_is
-
-pub returns-in_err-push-clause-shown : goal.returns-in_err-push-clause-shown
-returns-in_err-push-clause-shown c =
-    let mid = c.make_room.new.stations in
-    ap shown_by (with_items_is c.self.inside.stations mid (omega
-    (arith, c.make_room.auto.stations, c.deref_mut.ensures.len)))
-    ∙ room-shown c.deref_mut.result.now mid c.make_room.ensures.same ∙ ap shown_by c.deref_mut.ensures.value
+    (arith, c.list_post.auto.stations, c.deref_mut.ensures.len)))
+    ∙ room-shown c.deref_mut.result.now mid c.list_post.ensures.same ∙ ap shown_by c.deref_mut.ensures.value
     ∙ ap (λ (x : FleetState). shown_by x.stations) c.self.view_is
 
 pub returns-clause-shown : goal.returns-clause-shown
 returns-clause-shown c =
-    let mid = c.make_room.new.stations in
+    let mid = c.list_post.new.stations in
     let vec = with_items c.self.inside.stations mid in
     let new = c.take_news.new.stations in
     let is : vec.items ≡ mid =
-    with_items_is c.self.inside.stations mid (omega (arith, c.make_room.auto.stations, c.deref_mut.ensures.len)) in
+    with_items_is c.self.inside.stations mid (omega (arith, c.list_post.auto.stations, c.deref_mut.ensures.len)) in
     let lent : c.deref_mut-2.result.now ≡ mid = c.deref_mut-2.ensures.value ∙ is in
     ap shown_by (with_items_is vec new (omega (arith, c.take_news.auto.stations, c.deref_mut-2.ensures.len)))
     ∙ items-shown (news_for c.self.inside.network c.deref-3.result.now c.deref-4.result.now) c.args.stamp
     c.deref-2.result.now c.deref_mut-2.result.now new (omega (
       arith,
       ap length lent,
-      c.make_room.auto.stations,
+      c.list_post.auto.stations,
       c.deref_mut.ensures.len,
       c.self.inside.stations.ok.0,
       seats-count c.self.inside.seats.items c.self.inside.stations.items c.self.invariant,
       ap length c.deref-2.ensures.value,
     )) c.take_news.ensures
-    ∙ ap shown_by lent ∙ room-shown c.deref_mut.result.now mid c.make_room.ensures.same
+    ∙ ap shown_by lent ∙ room-shown c.deref_mut.result.now mid c.list_post.ensures.same
     ∙ ap shown_by c.deref_mut.ensures.value ∙ ap (λ (x : FleetState). shown_by x.stations) c.self.view_is
+
+pub returns-in_err-list_post-clause-err : goal.returns-in_err-list_post-clause-err
+returns-in_err-list_post-clause-err c =
+    let mid = c.list_post.new.stations in
+    on-any-err c.from_residual-in_err-list_post.result _ (record {
+      stations =
+          ap (map but_room) (with_items_is c.self.inside.stations mid (omega
+          (arith, c.list_post.auto.stations, c.deref_mut.ensures.len)))
+          ∙ c.list_post.ensures.same ∙ ap (map but_room) (c.deref_mut.ensures.value
+          ∙ ap (λ (x : FleetState). x.stations) c.self.view_is);
+      seats = ap (λ (x : FleetState). x.seats) c.self.view_is;
+      rest = record {
+        posts =
+            c.in_err-list_post.ensures.err ∙ ap (λ (x : FleetState). x.posts) c.self.view_is;
+        network = ap (λ (x : FleetState). x.network) c.self.view_is;
+        failed = ap (λ (x : FleetState). x.failed) c.self.view_is;
+      };
+    })

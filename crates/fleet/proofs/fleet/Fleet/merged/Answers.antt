@@ -10,4 +10,4 @@ returns c t lines r s =
     sym (append-nil lines_of_all) ∙ ap (λ ls. lines_of_all ++ ls) (sym c.in-None.ensures.steps.0)
     ∙ c.loop-line.invariant in
     let gives = c.into_iter-line-iterator.ensures.into_iter_gives in
-    subst (IsMerged t r) (sym (same ∙ ap lines_left gives)) (c.in_ok-line-items.ensures.merges t lines r s)
+    subst (IsMerged t r) (sym (same ∙ ap lines_left gives)) (c.in_ok-lines.ensures.merges t lines r s)

@@ -7,11 +7,11 @@ use Rattle.ason_base.specs.declared.commands.Command.{Command}
 use Rattle.ason_base.specs.declared.commands.DeskItem.TheVariants.{Order}
 use Rattle.station_doings.specs.States.{StationState}
 use Rattle.fleet.specs.Commands.{but_room, is_seat}
-use Rattle.fleet.specs.Posting.{HaveRoom, TakesOrder, order_for}
+use Rattle.fleet.specs.Posting.{HaveRoom, TakesOrder, order_for, post_of}
 use Rattle.fleet.specs.Standing.{FleetState}
 use Rattle.fleet.specs.Views.{shown_by}
 use Rattle.fleet.proofs.Finding.{IsFirst, first-at, seat-lost}
-use Rattle.fleet.proofs.KeptSeats.{order-links, seats-back, seats-count, seats-roomed}
+use Rattle.fleet.proofs.KeptSeats.{on-any-err, order-links, seats-back, seats-count, seats-roomed}
 use Rattle.fleet.proofs.Posted.{groups-left}
 use Rattle.fleet.proofs.Taking.{order-takes, room-clocks, stamp-above, take-roomed, within-at}
 use Rattle.fleet.proofs.Unwatched.{order-shown, room-shown}
@@ -19,55 +19,48 @@ use Rattle.fleet.proofs.fleet.Fleet.order.Goals as goal
 
 pub invariant_of-self : goal.invariant_of-self
 invariant_of-self c =
-    seats-roomed c.self.inside.seats.items c.self.inside.stations.items c.deref_mut.result.now c.make_room.new.stations
-    (with_items c.self.inside.stations c.make_room.new.stations).items c.self.invariant c.deref_mut.ensures.value
-    c.make_room.ensures.same (with_items_is c.self.inside.stations c.make_room.new.stations
-    (omega (arith, c.make_room.auto.stations, c.deref_mut.ensures.len)))
-
-pub invariant_of-self-in_err-push-in-Some : goal.invariant_of-self-in_err-push-in-Some
-invariant_of-self-in_err-push-in-Some c =
-    seats-roomed c.self.inside.seats.items c.self.inside.stations.items c.deref_mut.result.now c.make_room.new.stations
-    (with_items c.self.inside.stations c.make_room.new.stations).items c.self.invariant c.deref_mut.ensures.value
-    c.make_room.ensures.same (with_items_is c.self.inside.stations c.make_room.new.stations
-    (omega (arith, c.make_room.auto.stations, c.deref_mut.ensures.len)))
+    seats-roomed c.self.inside.seats.items c.self.inside.stations.items c.deref_mut.result.now c.list_post.new.stations
+    (with_items c.self.inside.stations c.list_post.new.stations).items c.self.invariant c.deref_mut.ensures.value
+    c.list_post.ensures.same (with_items_is c.self.inside.stations c.list_post.new.stations
+    (omega (arith, c.list_post.auto.stations, c.deref_mut.ensures.len)))
 
 pub take_order-requires : goal.take_order-requires
 take_order-requires c =
-    let mid = c.make_room.new.stations in
+    let mid = c.list_post.new.stations in
     let is : c.deref_mut-in-Some.result.now ≡ mid =
     c.deref_mut-in-Some.ensures.value
-    ∙ with_items_is c.self.inside.stations mid (omega (arith, c.make_room.auto.stations, c.deref_mut.ensures.len)) in
+    ∙ with_items_is c.self.inside.stations mid (omega (arith, c.list_post.auto.stations, c.deref_mut.ensures.len)) in
     let first : IsFirst (is_seat c.args.ingress) c.deref.result.now c.in-Some.place =
     first-at (is_seat c.args.ingress) c.deref.result.now c.in-Some.place (sym c.in-Some.ensures) in
     record {
       within = omega (
         arith,
         ap length is,
-        c.make_room.auto.stations,
+        c.list_post.auto.stations,
         c.deref_mut.ensures.len,
         c.self.inside.stations.ok.0,
         seats-count c.self.inside.seats.items c.self.inside.stations.items c.self.invariant,
         ap length c.deref.ensures.value,
         within-at c.deref.result.now c.in-Some.place first.item first.there,
       );
-      room = subst (HaveRoom 1) (sym is) c.in_ok-make_room-in-Some.ensures.room;
+      room = subst (HaveRoom 1) (sym is) c.in_ok-list_post-in-Some.ensures.room;
       clocks =
           subst (AllByRecursion (λ (s : StationState). s.clock ≤ c.args.stamp)) (sym is)
-          (room-clocks c.args.stamp c.deref_mut.result.now mid c.make_room.ensures.same
+          (room-clocks c.args.stamp c.deref_mut.result.now mid c.list_post.ensures.same
           (stamp-above c.args.stamp c.deref_mut.result.now c.args.self.now.stations
           (c.deref_mut.ensures.value ∙ ap (λ (f : FleetState). f.stations) c.self.view_is) c.requires.stamp));
     }
 
 pub invariant_of-self-in-Some : goal.invariant_of-self-in-Some
 invariant_of-self-in-Some c =
-    let mid = c.make_room.new.stations in
+    let mid = c.list_post.new.stations in
     let vec = with_items c.self.inside.stations mid in
     let new = c.take_order.new.stations in
     let is : vec.items ≡ mid =
-    with_items_is c.self.inside.stations mid (omega (arith, c.make_room.auto.stations, c.deref_mut.ensures.len)) in
+    with_items_is c.self.inside.stations mid (omega (arith, c.list_post.auto.stations, c.deref_mut.ensures.len)) in
     seats-back c.self.inside.seats.items vec.items c.deref_mut-in-Some.result.now new (with_items vec new).items
     (seats-roomed c.self.inside.seats.items c.self.inside.stations.items c.deref_mut.result.now mid vec.items
-    c.self.invariant c.deref_mut.ensures.value c.make_room.ensures.same is)
+    c.self.invariant c.deref_mut.ensures.value c.list_post.ensures.same is)
     c.deref_mut-in-Some.ensures.value
     (order-links c.in-Some.place (Order c.in_ok-copy-in-Some.field-0) c.args.stamp c.deref_mut-in-Some.result.now new
     c.take_order.ensures)
@@ -79,18 +72,18 @@ returns-in-None-clause-on c t valid are known =
     (ap (position (is_seat c.args.ingress)) (sym (ap (λ (f : FleetState). f.seats) c.self.view_is)
     ∙ sym c.deref.ensures.value) ∙ sym c.in-None.ensures) known)
 
-pub returns-in_ok-push-in-Some-clause-on : goal.returns-in_ok-push-in-Some-clause-on
-returns-in_ok-push-in-Some-clause-on c t valid are known =
+pub returns-in_ok-list_post-in-Some-clause-on : goal.returns-in_ok-list_post-in-Some-clause-on
+returns-in_ok-list_post-in-Some-clause-on c t valid are known =
     let f = c.args.self.now in
     let n = c.args.ingress in
     let command = c.args.command.now in
     let place = c.in-Some.place in
-    let mid = c.make_room.new.stations in
+    let mid = c.list_post.new.stations in
     let vec = with_items c.self.inside.stations mid in
     let new = c.take_order.new.stations in
     let is : c.deref_mut-in-Some.result.now ≡ mid =
     c.deref_mut-in-Some.ensures.value
-    ∙ with_items_is c.self.inside.stations mid (omega (arith, c.make_room.auto.stations, c.deref_mut.ensures.len)) in
+    ∙ with_items_is c.self.inside.stations mid (omega (arith, c.list_post.auto.stations, c.deref_mut.ensures.len)) in
     let last : (with_items vec new).items ≡ new =
     with_items_is vec new (omega (arith, c.take_order.auto.stations, c.deref_mut-in-Some.ensures.len)) in
     let seats : c.deref.result.now ≡ f.seats =
@@ -103,45 +96,55 @@ returns-in_ok-push-in-Some-clause-on c t valid are known =
     record {
       stations =
           take-roomed (order_for n command) c.args.stamp f.seats f.stations mid (with_items vec new).items
-          (c.make_room.ensures.same ∙ ap (map but_room) (c.deref_mut.ensures.value
+          (c.list_post.ensures.same ∙ ap (map but_room) (c.deref_mut.ensures.value
           ∙ ap (λ (x : FleetState). x.stations) c.self.view_is))
           (order-takes t valid f.seats are n command c.args.stamp place first.item first.there first.passes mid take.put
           (with_items vec new).items take.is_put (last ∙ take.clocks));
       seats = ap (λ (x : FleetState). x.seats) c.self.view_is;
       posts =
-          c.in_ok-push-in-Some.ensures.items ∙ (λ i. (ap (λ (x : FleetState). x.posts) c.self.view_is i)
-          ++ c.in_ok-line-in-Some.ensures i ∷ []);
+          c.in_ok-list_post-in-Some.ensures.posts
+          ∙ ap (λ (x : FleetState). x.posts ++ post_of c.args.stamp command ∷ []) c.self.view_is;
       network = ap (λ (x : FleetState). x.network) c.self.view_is;
       failed = ap (λ (x : FleetState). x.failed) c.self.view_is ∙ sym (groups-left command n f.failed c.requires.call);
     }
 
-pub returns-in_err-make_room-in-Some-clause-shown : goal.returns-in_err-make_room-in-Some-clause-shown
-returns-in_err-make_room-in-Some-clause-shown c =
-    let mid = c.make_room.new.stations in
+pub returns-in_err-list_post-in-Some-clause-shown : goal.returns-in_err-list_post-in-Some-clause-shown
+returns-in_err-list_post-in-Some-clause-shown c =
+    let mid = c.list_post.new.stations in
     ap shown_by (with_items_is c.self.inside.stations mid (omega
-    (arith, c.make_room.auto.stations, c.deref_mut.ensures.len)))
-    ∙ room-shown c.deref_mut.result.now mid c.make_room.ensures.same ∙ ap shown_by c.deref_mut.ensures.value
+    (arith, c.list_post.auto.stations, c.deref_mut.ensures.len)))
+    ∙ room-shown c.deref_mut.result.now mid c.list_post.ensures.same ∙ ap shown_by c.deref_mut.ensures.value
     ∙ ap (λ (x : FleetState). shown_by x.stations) c.self.view_is
 
-pub returns-in_err-push-in-Some-clause-shown : goal.returns-in_err-push-in-Some-clause-shown
-returns-in_err-push-in-Some-clause-shown c =
-    let mid = c.make_room.new.stations in
-    ap shown_by (with_items_is c.self.inside.stations mid (omega
-    (arith, c.make_room.auto.stations, c.deref_mut.ensures.len)))
-    ∙ room-shown c.deref_mut.result.now mid c.make_room.ensures.same ∙ ap shown_by c.deref_mut.ensures.value
-    ∙ ap (λ (x : FleetState). shown_by x.stations) c.self.view_is
-
-pub returns-in_ok-push-in-Some-clause-shown : goal.returns-in_ok-push-in-Some-clause-shown
-returns-in_ok-push-in-Some-clause-shown c =
-    let mid = c.make_room.new.stations in
+pub returns-in_ok-list_post-in-Some-clause-shown : goal.returns-in_ok-list_post-in-Some-clause-shown
+returns-in_ok-list_post-in-Some-clause-shown c =
+    let mid = c.list_post.new.stations in
     let vec = with_items c.self.inside.stations mid in
     let new = c.take_order.new.stations in
     let is : vec.items ≡ mid =
-    with_items_is c.self.inside.stations mid (omega (arith, c.make_room.auto.stations, c.deref_mut.ensures.len)) in
+    with_items_is c.self.inside.stations mid (omega (arith, c.list_post.auto.stations, c.deref_mut.ensures.len)) in
     ap shown_by (with_items_is vec new (omega
     (arith, c.take_order.auto.stations, c.deref_mut-in-Some.ensures.len)))
     ∙ order-shown c.in-Some.place (Order c.in_ok-copy-in-Some.field-0) c.args.stamp c.deref_mut-in-Some.result.now
     new c.take_order.ensures
     ∙ ap shown_by (c.deref_mut-in-Some.ensures.value ∙ is)
-    ∙ room-shown c.deref_mut.result.now mid c.make_room.ensures.same
+    ∙ room-shown c.deref_mut.result.now mid c.list_post.ensures.same
     ∙ ap shown_by c.deref_mut.ensures.value ∙ ap (λ (x : FleetState). shown_by x.stations) c.self.view_is
+
+pub returns-in_err-list_post-in-Some-clause-err : goal.returns-in_err-list_post-in-Some-clause-err
+returns-in_err-list_post-in-Some-clause-err c =
+    let mid = c.list_post.new.stations in
+    on-any-err c.from_residual-in_err-list_post-in-Some.result _ (record {
+      stations =
+          ap (map but_room) (with_items_is c.self.inside.stations mid (omega
+          (arith, c.list_post.auto.stations, c.deref_mut.ensures.len)))
+          ∙ c.list_post.ensures.same ∙ ap (map but_room) (c.deref_mut.ensures.value
+          ∙ ap (λ (x : FleetState). x.stations) c.self.view_is);
+      seats = ap (λ (x : FleetState). x.seats) c.self.view_is;
+      rest = record {
+        posts =
+            c.in_err-list_post-in-Some.ensures.err ∙ ap (λ (x : FleetState). x.posts) c.self.view_is;
+        network = ap (λ (x : FleetState). x.network) c.self.view_is;
+        failed = ap (λ (x : FleetState). x.failed) c.self.view_is;
+      };
+    })
