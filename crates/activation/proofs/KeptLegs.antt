@@ -34,11 +34,11 @@ use Rattle.leg_table.specs.LegClaims.{OverOwnFibres}
 use Rattle.leg_table.proofs.OwnFibres.{over-own}
 use Rattle.leg_table.specs.States.{legs_state, local_of}
 use Rattle.leg_table.specs.Tables.{LegTable}
-use Rattle.leg_labels.proofs.Activated.{confirmed-calm, contended-calm, path_again-calm}
-use Rattle.leg_labels.proofs.CallLegs.{Calm}
-use Rattle.leg_labels.proofs.MayPut.{found-itself}
-use Rattle.leg_labels.proofs.OwnLegs.{calm-handled, legs-after, next_state}
-use Rattle.activation.specs.Answers.{activate_answer, busy_answer, connect_answer, connected_here, contended_here, path_here, path_taken, take_back_answer}
+use Rattle.leg_carrying.proofs.Activated.{confirmed-calm, contended-calm, path_again-calm}
+use Rattle.leg_carrying.proofs.CallLegs.{Calm}
+use Rattle.leg_carrying.proofs.MayPut.{found-itself}
+use Rattle.leg_carrying.proofs.OwnLegs.{calm-handled, legs-after, next_state}
+use Rattle.activation_changes.specs.Answers.{activate_answer, busy_answer, connect_answer, connected_here, contended_here, path_here, path_taken, take_back_answer}
 
 none : (t : LegTable) → OwnLegsFit t → MayBeHandledKept t nothing
 none t fits = calm-handled t nothing fits (tt, tt)

@@ -1,2 +1,1 @@
 pub mod KeptLegs
-pub mod PathsHere

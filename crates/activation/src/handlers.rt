@@ -2,14 +2,11 @@
 
 ghost use Rattle.leg_table.specs.Fits.{TablesFitOwner};
 ghost use Rattle.leg_table.specs.Handled.{IsHandledKept};
-ghost use Rattle.activation.specs.Answers.{activate_answer, busy_answer, connect_answer, take_back_answer};
+ghost use Rattle.activation_changes.specs.Answers.{activate_answer, busy_answer, connect_answer, take_back_answer};
 
-use crate::path_errs::busy_change;
-use crate::paths::activate_change;
-use crate::resvs::connect_change;
-use crate::taken_back::take_back_change;
+use activation_changes::{activate_change, busy_change, connect_change, take_back_change};
 use ason_base::{Msg, NodeId, OutOfMemory, Outs};
-use leg_labels::handle_kept;
+use leg_handling::handle_kept;
 use leg_table::NodeTables;
 use link_owner::Owner;
 use std::alloc::Global;

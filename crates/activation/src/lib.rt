@@ -1,16 +1,8 @@
 //! How a backup is activated along its route: a Path that activates, a Resv at a leg that is Armed,
 //! and a PathErr without Path_State_Removed (RFC 4872, section 8); and how its activation is taken
-//! back: a Path that doesn't activate (reversion: RFC 4427).
+//! back: a Path that doesn't activate (reversion: RFC 4427). Each is carried out at a node.
 #![tactic(auto)]
 
 mod handlers;
-mod path_errs;
-mod paths;
-mod resvs;
-mod taken_back;
 
 pub use handlers::{activate, busy, connect, take_back};
-pub use path_errs::{busy_change, contends};
-pub use paths::{activate_change, is_active};
-pub use resvs::{carries, connect_change};
-pub use taken_back::take_back_change;

@@ -34,7 +34,7 @@ use Rattle.leg_table.specs.Fits.{legs_after}
 use Rattle.leg_table.specs.States.{legs_state, local_of, state_of}
 use Rattle.leg_table.specs.Tables.{CallTable, LegTable, begins_here}
 use Rattle.call_control.specs.Handlers.{WasCarriedOut, leg_answer, takes_err, takes_notify, takes_resv}
-use Rattle.call_control.specs.Rules.{refused_for, refused_here}
+use Rattle.call_rules.specs.Rules.{refused_for, refused_here}
 
 -- The rules
 

@@ -33,7 +33,7 @@ use Rattle.mesh_nodes.proofs.CallList.{called-names}
 use Rattle.mesh_nodes.proofs.Links.{found-one}
 use Rattle.call_control.specs.Handlers.{refused_by_name}
 use Rattle.call_control.specs.Ingress.{AllNameByRole, NamesByRole}
-use Rattle.call_control.specs.Rules.{refused_as}
+use Rattle.call_rules.specs.Rules.{refused_as}
 use Rattle.call_control.proofs.Roles.{role-is}
 
 -- A decision

@@ -18,11 +18,11 @@ use Rattle.mesh_nodes.proofs.Items.{items-fit}
 use Rattle.leg_table.specs.Handled.{CallsFollow, Handed, MayBeCarriedOut}
 use Rattle.leg_table.specs.States.{local_of, state_of}
 use Rattle.leg_table.specs.Tables.{CallTable, LegTable}
-use Rattle.leg_labels.proofs.CallLegs.{Fine}
-use Rattle.leg_labels.proofs.RuleChanges.{item-may}
+use Rattle.leg_carrying.proofs.CallLegs.{Fine}
+use Rattle.leg_carrying.proofs.RuleChanges.{item-may}
 use Rattle.call_control.specs.Handlers.{command_answer, setup_answer}
 use Rattle.call_control.specs.Ingress.{AllNameByRole, IngressFits, IsArmedAsBackup}
-use Rattle.call_control.specs.Searches.{RowsAreKnown}
+use Rattle.call_rules.specs.Searches.{RowsAreKnown}
 use Rattle.call_control.proofs.Decides.{retry-stays}
 use Rattle.call_control.proofs.Named.{Stays, nothing-stays, protect-stays, release-stays, setup-stays}
 

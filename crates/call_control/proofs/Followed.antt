@@ -30,11 +30,11 @@ use Rattle.mesh_nodes.proofs.LegList.{all-filter}
 use Rattle.mesh_nodes.proofs.Messages.{messages-fit}
 use Rattle.leg_table.specs.States.{local_of, state_of}
 use Rattle.leg_table.specs.Tables.{CallTable, LegTable}
-use Rattle.leg_labels.proofs.CallLegs.{Fine}
-use Rattle.leg_labels.proofs.RuleChanges.{message-may}
+use Rattle.leg_carrying.proofs.CallLegs.{Fine}
+use Rattle.leg_carrying.proofs.RuleChanges.{message-may}
 use Rattle.call_control.specs.Handlers.{AreSentFor, IsKeptAfter, WereBefore, answer_here, busy_here, gone_here, named_role, refused_by_name, whole_answer}
 use Rattle.call_control.specs.Ingress.{IngressFits, IsArmedAsBackup}
-use Rattle.call_control.specs.Rules.{refused_as, refused_for, refused_here, told_here}
+use Rattle.call_rules.specs.Rules.{refused_as, refused_for, refused_here, told_here}
 use Rattle.call_control.proofs.AfterLeg.{Contends, Refuses, Tells, contends, refuses, removes-then, resv-taken, tells}
 use Rattle.call_control.proofs.CallAfterLeg.{contended-same, refused-same}
 use Rattle.call_control.proofs.FitIngresses.{Keeps, nothing-keeps}

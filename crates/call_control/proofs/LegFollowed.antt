@@ -29,14 +29,14 @@ use Rattle.mesh_nodes.proofs.Messages.{messages-fit}
 use Rattle.leg_table.specs.States.{local_of, state_of}
 use Rattle.leg_table.specs.Tables.{CallTable, LegTable}
 use Rattle.leg_table.specs.LegClaims.{StaysAs, TakesNoMore}
-use Rattle.leg_labels.proofs.CallLegs.{Fine}
-use Rattle.leg_labels.proofs.MayPut.{stays-less}
+use Rattle.leg_carrying.proofs.CallLegs.{Fine}
+use Rattle.leg_carrying.proofs.MayPut.{stays-less}
 use Rattle.leg_labels.proofs.UsableAfter.{later-made, usable-same}
 use Rattle.leg_labels.proofs.OwnContention.{contended-with}
-use Rattle.leg_labels.proofs.RuleChanges.{message-may}
+use Rattle.leg_carrying.proofs.RuleChanges.{message-may}
 use Rattle.call_control.specs.Handlers.{answer_here, whole_answer}
 use Rattle.call_control.specs.Ingress.{AllNameByRole, IngressFits, IsArmedAsBackup, NamesByRole, role_at}
-use Rattle.call_control.specs.Searches.{RowsAreKnown}
+use Rattle.call_rules.specs.Searches.{RowsAreKnown}
 use Rattle.call_control.proofs.AfterLeg.{Becomes, puts-then}
 use Rattle.call_control.proofs.FitIngresses.{Keeps}
 use Rattle.call_control.proofs.Named.{Stays}

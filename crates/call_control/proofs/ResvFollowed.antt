@@ -27,7 +27,7 @@ use Rattle.leg_table.specs.States.{local_of, state_of}
 use Rattle.leg_table.specs.Tables.{CallTable, LegTable}
 use Rattle.call_control.specs.Handlers.{resv_here}
 use Rattle.call_control.specs.Ingress.{IngressFits}
-use Rattle.call_control.specs.Rules.{answered_here, turned_here}
+use Rattle.call_rules.specs.Rules.{answered_here, turned_here}
 use Rattle.call_control.proofs.AfterLeg.{Becomes, TakesResv, reserved-inactive}
 use Rattle.call_control.proofs.CallAfterLeg.{answered-same, turned-same}
 use Rattle.call_control.proofs.AfterLeg.TakesResv.{confirms, connects}

@@ -31,22 +31,10 @@ use Rattle.leg_table.specs.States.{legs_state, local_of, state_of}
 use Rattle.leg_table.specs.Tables.{CallTable, LegTable, begins_here}
 use Rattle.call_control.specs.GoingBack.{going_back, reported_by, turned_by}
 use Rattle.call_control.specs.Ingress.{IngressFits}
-use Rattle.call_control.specs.Rules.{answered_here, contended_here, protect_here, refused_as, release_here, reported_here, retry_here, setup_here, turned_here}
-use Rattle.call_control.specs.Searches.{IsRouteFor, sought_by_protect, sought_by_resv}
+use Rattle.call_rules.specs.Rules.{answered_here, contended_here, protect_here, refused_as, release_here, reported_here, request_of, retry_here, setup_here, turned_here}
+use Rattle.call_rules.specs.Searches.{IsRouteFor, sought_by_protect, sought_by_resv}
 
 -- Setups
-
--- what a setup asks for
-abbrev pub request_of : Command → Option SetupRequest
-request_of (Setup n from to protected both via backup) =
-    Some
-    (record { call = n; from = from; egress = to; protected = protected; both = both; via = via; backup = backup })
-request_of (Release n from) = None
-request_of (Protect n from) = None
-request_of (Retry n from) = None
-request_of (Revert n from) = None
-request_of (Fail g) = None
-request_of (Repair g) = None
 
 abbrev pub set_up_here : LegTable → CallTable → Option SetupRequest → Answer
 set_up_here t c None = nothing

@@ -13,7 +13,7 @@ use Rattle.mesh_nodes.specs.FitNodes.{NodeFits}
 use Rattle.mesh_nodes.specs.LocalNodes.{LocalNodeFits}
 use Rattle.leg_table.specs.States.{local_of, state_of}
 use Rattle.leg_table.specs.Tables.{CallTable, LegTable}
-use Rattle.call_control.specs.Searches.{RowsAreKnown}
+use Rattle.call_rules.specs.Searches.{RowsAreKnown}
 
 -- The LSPs of a call
 

@@ -11,10 +11,9 @@ ghost use Rattle.mesh_rules.specs.Turns.{has_any};
 ghost use Rattle.call_control.specs.GoingBack.{going_back, is_going_back, once_told, once_turned};
 ghost use Rattle.call_control.specs.Handlers.{confirmed_by, goes_back, takes_activation, takes_notify};
 
-use crate::call_states::{is_turned, is_turning};
-use crate::reports::{fibre_of, reported};
-use crate::turns::has_any;
 use ason_base::{CallNo, CallRec, ErrCode, Fibre, Fibres, Label, Leg, Lsp, Msg, NodeId};
+use call_rules::call_states::{is_turned, is_turning};
+use call_turns::{fibre_of, has_any, reported};
 use leg_table::one_leg::{begins_here, following, is_armed, is_closing, is_node, is_over};
 use leg_table::{Calls, NodeTables};
 use mesh_rules::Arrival;

@@ -1,27 +1,7 @@
-pub mod Activated
-pub mod CallLegs
-pub mod CallOrders
-mod ClaimLists
-mod ClaimedLabels
-mod Contention
-mod GivenLegs
-mod GivenUp
-mod HeldLabels
+pub mod ClaimLists
+pub mod ClaimedLabels
+pub mod Contention
 pub mod InFibres
-mod KeptLegs
-mod LeftChanges
-mod LeftSteps
-mod MarkChanges
-mod MarkedLegs
-pub mod MayMark
-pub mod MayPut
-pub mod MessageChanges
-mod NewLabels
 pub mod OwnContention
-pub mod OwnLegs
-mod ReservedLabels
-mod Restored
-mod Rests
-pub mod RuleChanges
 pub mod UsableAfter
-mod UsableLabels
+pub mod UsableLabels

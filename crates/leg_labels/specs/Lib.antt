@@ -1,2 +1,1 @@
-pub mod LegHolds
 pub mod LegMarks

@@ -5,7 +5,7 @@ ghost use Rattle.mesh_rules.specs.Legs.{is_contended, label_through, usable};
 ghost use Rattle.leg_table.specs.LegClaims.{AreOfOneNode, ClaimsFit, is_fibre_in};
 ghost use Rattle.leg_table.specs.States.{local_of};
 
-use crate::marking::is_lit_over;
+use crate::marks::is_lit_over;
 use ason_base::{Fibre, Label, LabelSet, Leg, RiskSet, Role};
 use leg_table::NodeTables;
 use link_owner::Owner;

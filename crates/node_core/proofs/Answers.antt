@@ -13,8 +13,8 @@ use Rattle.leg_table.specs.LegClaims.{AreOfOneNode}
 use Rattle.leg_table.specs.States.{local_of, no_call, state_of}
 use Rattle.leg_table.specs.Tables.{CallTable, LegTable, new_table}
 use Rattle.leg_table.proofs.AtStart.{at_start-fits, at_start-is}
-use Rattle.leg_labels.proofs.CallLegs.{Fine}
-use Rattle.leg_labels.proofs.RuleChanges.{item-may, message-may, tick-may}
+use Rattle.leg_carrying.proofs.CallLegs.{Fine}
+use Rattle.leg_carrying.proofs.RuleChanges.{item-may, message-may, tick-may}
 use Rattle.mesh_rules.specs.Changes.{Answer, changed, learns, nothing}
 use Rattle.mesh_rules.specs.KnownRows.{has_row, known_rows}
 use Rattle.mesh_rules.specs.State.{new_node}

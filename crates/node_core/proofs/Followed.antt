@@ -26,9 +26,9 @@ use Rattle.mesh_nodes.proofs.Followed.{later-none}
 use Rattle.mesh_nodes.proofs.LegList.{found-lsp}
 use Rattle.leg_table.specs.States.{legs_state, local_of, state_of}
 use Rattle.leg_table.specs.Tables.{CallTable, LegTable}
-use Rattle.activation.specs.Answers.{carries_leg, connected_here}
-use Rattle.resv_state.specs.Answers.{connects_leg, err_taken, refuses_leg, resv_taken}
-use Rattle.call_control.specs.Rules as call
+use Rattle.activation_changes.specs.Answers.{carries_leg, connected_here}
+use Rattle.resv_changes.specs.Answers.{connects_leg, err_taken, refuses_leg, resv_taken}
+use Rattle.call_rules.specs.Rules as call
 use Rattle.node_core.specs.Followed.{followed_if, removal_followed, resv_at, resv_followed}
 
 -- an Armed leg isn't Asked

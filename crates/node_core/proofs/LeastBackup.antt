@@ -10,7 +10,7 @@ use Rattle.route_least.specs.declared.answers.Found.{Found}
 use Rattle.route_pair.specs.Pairs.{HasNoBackup, IsBackupFound}
 use Rattle.mesh_nodes.specs.Routes.{AreSearchable}
 use Rattle.mesh_nodes.proofs.routes.Backups.{least_backup-least, no_backup-none}
-use Rattle.call_control.specs.Searches.{route_beside, steps_of}
+use Rattle.call_rules.specs.Searches.{route_beside, steps_of}
 
 module _ (rows : List TeRow) (primary : List Step) (from to : NodeId) where
   pub found-backup : (found : Found) → AreSearchable rows → IsBackupFound rows primary from to found →

@@ -15,7 +15,7 @@ use Rattle.route_least.proofs.Bans.{same_none, same_walks}
 use Rattle.mesh_rules.specs.LeastRoutes.{least_trip}
 use Rattle.mesh_nodes.specs.Routes.{AreSearchable}
 use Rattle.mesh_nodes.proofs.routes.Found.{least_trip-least, no_trip-none}
-use Rattle.call_control.specs.Searches.{steps_of}
+use Rattle.call_rules.specs.Searches.{steps_of}
 
 none_marked : (n k : ℕ) → is_marked (replicate n false) k ≡ false
 none_marked zero k = refl

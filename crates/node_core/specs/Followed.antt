@@ -11,11 +11,11 @@ use Rattle.mesh_rules.specs.Changes.{Answer, followed_by, nothing}
 use Rattle.mesh_rules.specs.Legs.{connected, find_leg, is_armed, with_phase}
 use Rattle.mesh_rules.specs.Paths.{is_active}
 use Rattle.leg_table.specs.Tables.{CallTable, LegTable}
-use Rattle.activation.specs.Answers.{activate_answer, busy_answer, carries, connect_answer, contends, take_back_answer}
+use Rattle.activation_changes.specs.Answers.{activate_answer, busy_answer, carries, connect_answer, contends, take_back_answer}
 use Rattle.notify.specs.Answers.{pass_answer, reports}
-use Rattle.path_state.specs.Answers.{path_answer}
-use Rattle.resv_state.specs.Answers.{connects, path_err_answer, refuses, resv_answer}
-use Rattle.call_control.specs.Rules.{answered_here, contended_here, refused_here, reported_here, turned_here}
+use Rattle.path_changes.specs.Answers.{path_answer}
+use Rattle.resv_changes.specs.Answers.{connects, path_err_answer, refuses, resv_answer}
+use Rattle.call_rules.specs.Rules.{answered_here, contended_here, refused_here, reported_here, turned_here}
 
 abbrev pub followed_if : Bool → Answer → Answer → Answer
 followed_if b a after = if b then followed_by a after else a

@@ -12,7 +12,7 @@ use Rattle.mesh_rules.specs.Orders.{on_item, on_order}
 use Rattle.mesh_nodes.specs.Routes.{AreSearchable}
 use Rattle.leg_table.specs.States.{local_of, state_of}
 use Rattle.leg_table.specs.Tables.{CallTable, LegTable}
-use Rattle.call_control.specs.Searches.{RowsAreKnown}
+use Rattle.call_rules.specs.Searches.{RowsAreKnown}
 
 -- the rows of the tables are those that the node knows, and routes can be asked of them
 pub record CanSearch (t : LegTable) : Type 0 where

@@ -16,7 +16,7 @@ ghost use Rattle.node_rules.specs.Nodes.{IsAnswerOf, IsNode, IsWritableInput, Ma
 use crate::rows::{call_rows, leg_rows};
 use crate::rules::{NodeParts, on_input};
 use ason_base::{Copied, LinkId, NodeId, OutOfMemory, Outs, TableRows, Topology};
-use leg_labels::carry_out;
+use leg_carrying::carry_out;
 use leg_table::{Calls, Change, NodeTables};
 use link_owner::Owner;
 use node_rules::Input;

@@ -4,10 +4,10 @@ ghost use Rattle.std.specs.Prelude.{◌≡◌, false, IfOk, length, replicate};
 ghost use Rattle.std.specs.Option.{option_copied};
 ghost use Rattle.mesh_nodes.specs.Routes.{AreSearchable};
 ghost use Rattle.mesh_rules.specs.LeastRoutes.{least_trip};
-ghost use Rattle.call_control.specs.Searches.{IsBackupFor, route_beside, steps_of};
+ghost use Rattle.call_rules.specs.Searches.{IsBackupFor, route_beside, steps_of};
 
 use ason_base::{Leg, NodeId, OutOfMemory, Steps, TeRow};
-use call_control::route_from;
+use call_setups::route_from;
 use leg_table::NodeTables;
 use route_least::{RouteFault, RouteNetwork};
 use route_pair::{BackupFault, backup_for};

@@ -2,7 +2,7 @@
 
 ghost use Rattle.std.specs.Prelude.{◌≡◌, IfOk};
 ghost use Rattle.leg_table.specs.Fits.{TablesFit};
-ghost use Rattle.call_control.specs.Rules.{protect_here, setup_here};
+ghost use Rattle.call_rules.specs.Rules.{protect_here, setup_here};
 ghost use Rattle.node_rules.specs.Nodes.{answer_to};
 ghost use Rattle.node_core.specs.Nodes.{node_of};
 ghost use Rattle.node_core.specs.Rules.{CanSearch, item_here, order_here, row_here};
@@ -10,14 +10,13 @@ ghost use Rattle.node_core.specs.Rules.{CanSearch, item_here, order_here, row_he
 use crate::messages::on_message;
 use crate::routes::{backup_beside, least_route};
 use ason_base::{CallNo, Command, Copied, DeskItem, NodeId, OutOfMemory, TeRow};
-use call_control::{
-    IngressParts, SetupRequest, protect, release, retry, seeks_route, set_up, sought_by_protect,
-};
+use call_rules::IngressParts;
+use call_setups::{SetupRequest, protect, seeks_route, set_up, sought_by_protect};
+use call_turns::{release, retry, revert_change, tick_change};
 use leg_table::{Calls, Change, NodeTables};
 use link_owner::Owner;
 use node_rules::Input;
 use notify::{alarm_change, clear_change};
-use reversion::{revert_change, tick_change};
 use share_check::Shares;
 use std::alloc::Global;
 

@@ -10,12 +10,12 @@ use Rattle.mesh_rules.specs.LocalNodes.{own_link}
 use Rattle.mesh_rules.specs.Messages.{arrival}
 use Rattle.mesh_rules.specs.Paths.{PathRequest, path_with}
 use Rattle.mesh_nodes.specs.LocalNodes.{LocalNodeFits}
-use Rattle.leg_labels.proofs.OwnLegs.{message-handled, next_state, nothing-handled}
+use Rattle.leg_carrying.proofs.OwnLegs.{message-handled, next_state, nothing-handled}
 use Rattle.leg_table.specs.Fits.{OwnLegsFit}
 use Rattle.leg_table.specs.Handled.{MayBeHandled}
 use Rattle.leg_table.specs.States.{legs_state, local_of}
 use Rattle.leg_table.specs.Tables.{LegTable}
-use Rattle.path_state.specs.Answers.{first_here, path_answer, path_unless, tear_answer}
+use Rattle.path_changes.specs.Answers.{first_here, path_answer, path_unless, tear_answer}
 use Rattle.path_state.proofs.ByLegs.{first-by_legs}
 
 pub path-handled : (t : LegTable) (u : NodeId) (m : Msg) → LocalNodeFits (local_of t) → OwnLegsFit t →

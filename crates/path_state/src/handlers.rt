@@ -2,14 +2,13 @@
 
 ghost use Rattle.leg_table.specs.Fits.{TablesFit};
 ghost use Rattle.leg_table.specs.Handled.{IsHandled};
-ghost use Rattle.path_state.specs.Answers.{path_answer, tear_answer};
+ghost use Rattle.path_changes.specs.Answers.{path_answer, tear_answer};
 
-use crate::paths::path_change;
-use crate::tears::tear_change;
 use ason_base::{Msg, NodeId, OutOfMemory, Outs};
-use leg_labels::handle;
+use leg_handling::handle;
 use leg_table::NodeTables;
 use link_owner::Owner;
+use path_changes::{path_change, tear_change};
 use share_check::Shares;
 use std::alloc::Global;
 

@@ -12,10 +12,10 @@ use Rattle.mesh_rules.specs.PathErrs.{PathFailure, err_passed, on_path_err, path
 use Rattle.mesh_rules.specs.Resvs.{answered, is_expected, on_resv, resv_with}
 use Rattle.mesh_rules.specs.State.{new_node}
 use Rattle.mesh_nodes.proofs.Cases.{both_left, both_right}
-use Rattle.leg_labels.proofs.OwnLegs.{next_state}
+use Rattle.leg_carrying.proofs.OwnLegs.{next_state}
 use Rattle.leg_table.specs.States.{legs_state, local_of}
 use Rattle.leg_table.specs.Tables.{LegTable}
-use Rattle.resv_state.specs.Answers.{answered_here, removed_here}
+use Rattle.resv_changes.specs.Answers.{answered_here, removed_here}
 
 -- Resv
 

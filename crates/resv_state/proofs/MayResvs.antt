@@ -13,12 +13,12 @@ use Rattle.mesh_rules.specs.PathErrs.{PathFailure}
 use Rattle.mesh_rules.specs.Resvs.{is_expected}
 use Rattle.mesh_nodes.specs.LocalNodes.{LocalNodeFits}
 use Rattle.mesh_nodes.proofs.Cases.{if_cases}
-use Rattle.leg_labels.proofs.OwnLegs.{message-handled, nothing-handled}
+use Rattle.leg_carrying.proofs.OwnLegs.{message-handled, nothing-handled}
 use Rattle.leg_table.specs.Fits.{OwnLegsFit}
 use Rattle.leg_table.specs.Handled.{MayBeHandled}
 use Rattle.leg_table.specs.States.{local_of}
 use Rattle.leg_table.specs.Tables.{LegTable}
-use Rattle.resv_state.specs.Answers.{answered_here, err_taken, path_err_answer, removed_here, resv_answer, resv_taken}
+use Rattle.resv_changes.specs.Answers.{answered_here, err_taken, path_err_answer, removed_here, resv_answer, resv_taken}
 use Rattle.resv_state.proofs.ByLegs.{on_path_err-is, on_resv-is}
 
 pub resv-handled : (t : LegTable) (u : NodeId) (m : Msg) → LocalNodeFits (local_of t) → OwnLegsFit t →

@@ -2,14 +2,13 @@
 
 ghost use Rattle.leg_table.specs.Fits.{TablesFit};
 ghost use Rattle.leg_table.specs.Handled.{IsHandled};
-ghost use Rattle.resv_state.specs.Answers.{path_err_answer, resv_answer};
+ghost use Rattle.resv_changes.specs.Answers.{path_err_answer, resv_answer};
 
-use crate::path_errs::path_err_change;
-use crate::resvs::resv_change;
 use ason_base::{Msg, NodeId, OutOfMemory, Outs};
-use leg_labels::handle;
+use leg_handling::handle;
 use leg_table::NodeTables;
 use link_owner::Owner;
+use resv_changes::{path_err_change, resv_change};
 use share_check::Shares;
 use std::alloc::Global;
 

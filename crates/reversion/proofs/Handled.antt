@@ -37,18 +37,19 @@ use Rattle.leg_table.specs.Handled.{MayBeCarriedOutKept}
 use Rattle.leg_table.specs.States.{local_of, state_of}
 use Rattle.leg_table.specs.Tables.{CallTable, LegTable}
 use Rattle.leg_table.proofs.OwnFibres.{over-own}
-use Rattle.leg_labels.proofs.Activated.{confirmed-calm}
-use Rattle.leg_labels.proofs.CallLegs.{Calm, calm-fine}
-use Rattle.leg_labels.proofs.CallOrders.{reported-calm, revert-calm, tick-calm}
-use Rattle.leg_labels.proofs.MayPut.{found-itself}
-use Rattle.leg_labels.proofs.OwnLegs.{calm-handled}
+use Rattle.leg_carrying.proofs.Activated.{confirmed-calm}
+use Rattle.leg_carrying.proofs.CallLegs.{Calm, calm-fine}
+use Rattle.leg_carrying.proofs.CallOrders.{reported-calm, revert-calm, tick-calm}
+use Rattle.leg_carrying.proofs.MayPut.{found-itself}
+use Rattle.leg_carrying.proofs.OwnLegs.{calm-handled}
 use Rattle.call_control.specs.GoingBack.{going_back, once_told, once_turned}
 use Rattle.call_control.specs.Handlers.{goes_back}
 use Rattle.call_control.specs.Ingress.{IngressFits, IsArmedAsBackup, NamesByRole, role_at}
 use Rattle.call_control.proofs.FitIngresses.{Keeps}
 use Rattle.call_control.proofs.Decides.{reported-names}
 use Rattle.call_control.proofs.Roles.{named-as}
-use Rattle.reversion.specs.Answers.{go_back_answer, revert_here, tick_answer}
+use Rattle.call_rules.specs.Reverts.{revert_here, tick_answer}
+use Rattle.reversion.specs.Answers.{go_back_answer}
 use Rattle.reversion.proofs.Standing.{BackHere, Leaves, at-start, back-here, backed-leaves, decide-leaves, leg-leaves, nothing-leaves, then-leaves, ticks-leave}
 use Rattle.reversion.proofs.Whole.{back-turned, goes-live, is-told, told-back}
 

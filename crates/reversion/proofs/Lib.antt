@@ -1,4 +1,3 @@
 pub mod Handled
 pub mod Standing
-mod Ticked
 mod Whole

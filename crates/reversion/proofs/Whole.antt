@@ -29,7 +29,7 @@ use Rattle.leg_table.specs.States.{local_of, state_of}
 use Rattle.leg_table.specs.Tables.{CallTable, LegTable, begins_here}
 use Rattle.call_control.specs.GoingBack.{going_back, is_going_back, once_told, reported_by, told_by, turned_by}
 use Rattle.call_control.specs.Handlers.{confirmed_by, goes_back, takes_notify}
-use Rattle.call_control.specs.Rules.{reported_here, told_here}
+use Rattle.call_rules.specs.Rules.{reported_here, told_here}
 use Rattle.call_control.proofs.AfterLeg.{Tells, begins-is, resv-confirms, tells}
 use Rattle.reversion.specs.Answers.{back_once_live, go_back_answer}
 

@@ -1,41 +1,25 @@
--- How calls go back at an ingress of these tables (ITU-T G.8080, call control): by an order, by a tick, and by a Resv
--- or a Notify.
-use Rattle.std.specs.Prelude.{ℕ, ◌==◌, ◌&&◌, Bool, [], not, is_some, if◌then◌else◌}
+-- How calls go back at an ingress of these tables (ITU-T G.8080, call control): by an order of the node itself, and by
+-- a Resv or a Notify.
+use Rattle.std.specs.Prelude.{[], is_some, if◌then◌else◌}
 use Rattle.ason_base.specs.declared.calls.Phase.TheVariants.{Live}
 use Rattle.ason_base.specs.declared.ids.CallNo.{CallNo}
 use Rattle.ason_base.specs.declared.ids.NodeId.{NodeId}
 use Rattle.ason_base.specs.declared.messages.Msg.{Msg}
-use Rattle.ason_base.specs.declared.tables.CallRec.{CallRec}
 use Rattle.ason_base.specs.declared.tables.Leg.{Leg}
-use Rattle.mesh_rules.specs.Calls.{is_turned}
 use Rattle.mesh_rules.specs.Changes.{Answer, followed_by, nothing, puts}
 use Rattle.mesh_rules.specs.Legs.{with_phase}
 use Rattle.mesh_rules.specs.Messages.{on_message}
-use Rattle.mesh_rules.specs.Reverts.{on_revert}
-use Rattle.mesh_rules.specs.Turns.{has_any}
-use Rattle.mesh_rules.specs.Waits.{on_tick}
 use Rattle.leg_table.specs.States.{local_of, state_of}
 use Rattle.leg_table.specs.Tables.{CallTable, LegTable}
 use Rattle.call_control.specs.Handlers.{goes_back}
-use Rattle.call_control.specs.Rules.{turned_here}
+use Rattle.call_rules.specs.Reverts.{revert_here}
+use Rattle.call_rules.specs.Rules.{turned_here}
 
 -- An order
-
-abbrev pub revert_here : LegTable → CallTable → CallNo → NodeId → Answer
-revert_here t c n from = on_revert (local_of t) (state_of t c) n from
 
 -- the order of this node
 abbrev pub revert_answer : LegTable → CallTable → CallNo → Answer
 revert_answer t c n = revert_here t c n t.node.id
-
--- A tick
-
--- a turned call whose working LSP isn't hit waits, where the network restores calls after so many ticks
-abbrev pub is_waiting : ℕ → CallRec → Bool
-is_waiting wait c = not (wait == 0) && (is_turned c.state && not (has_any c.work_reports))
-
-abbrev pub tick_answer : LegTable → CallTable → Answer
-tick_answer t c = on_tick (local_of t) (state_of t c)
 
 -- A Resv and a Notify
 

@@ -4,14 +4,14 @@
 ghost use Rattle.leg_table.specs.Fits.{TablesFitOwner};
 ghost use Rattle.leg_table.specs.Handled.{IsCarriedOutKept};
 ghost use Rattle.call_control.specs.Ingress.{IngressFits};
-ghost use Rattle.reversion.specs.Answers.{go_back_answer, revert_answer, tick_answer};
+ghost use Rattle.call_rules.specs.Reverts.{tick_answer};
+ghost use Rattle.reversion.specs.Answers.{go_back_answer, revert_answer};
 
 use crate::messages::go_back_change;
-use crate::reverts::revert_change;
-use crate::waits::tick_change;
 use ason_base::{CallNo, Msg, NodeId, OutOfMemory, Outs};
-use call_control::{IngressParts, id_of};
-use leg_labels::handle_kept_calls;
+use call_rules::{IngressParts, id_of};
+use call_turns::{revert_change, tick_change};
+use leg_handling::handle_kept_calls;
 use leg_table::{Calls, NodeTables};
 use link_owner::Owner;
 use std::alloc::Global;

@@ -8,7 +8,9 @@ ghost use Rattle.call_control.specs.Handlers.{goes_back};
 ghost use Rattle.reversion.specs.Answers.{back_once_live, go_back_answer};
 
 use ason_base::{Copied, Leg, Msg, NodeId, OutOfMemory, Phase};
-use call_control::{IngressParts, answer_confirmed, answer_report, goes_back};
+use call_control::goes_back;
+use call_rules::IngressParts;
+use call_turns::{answer_confirmed, answer_report};
 use leg_table::Change;
 use leg_table::one_leg::with_phase;
 use std::alloc::Global;

@@ -1,7 +1,7 @@
 use Rattle.std.proofs.Common.{◌∙◌, ap, cond, sym}
 use Rattle.mesh_rules.specs.Changes.{followed_by}
 use Rattle.notify.specs.Answers.{pass_answer}
-use Rattle.call_control.specs.Rules.{reported_here}
+use Rattle.call_rules.specs.Rules.{reported_here}
 use Rattle.node_core.proofs.Followed.{after-nothing}
 use Rattle.node_core.proofs.messages.on_notify.Goals as goal
 

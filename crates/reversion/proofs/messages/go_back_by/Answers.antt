@@ -1,6 +1,6 @@
 use Rattle.std.proofs.Common.{◌∙◌, ap}
 use Rattle.mesh_rules.specs.Changes.{followed_by}
-use Rattle.call_control.specs.Rules.{reported_here}
+use Rattle.call_rules.specs.Rules.{reported_here}
 use Rattle.reversion.specs.Answers.{back_once_live}
 use Rattle.reversion.proofs.Whole.{notify-by, resv-by}
 use Rattle.reversion.proofs.messages.go_back_by.Goals as goal

@@ -1,0 +1,4 @@
+mod Asked
+mod Links
+mod Searched
+mod WayBack

@@ -1,0 +1,4 @@
+pub mod Again
+mod Decided
+mod Ticked
+mod Told

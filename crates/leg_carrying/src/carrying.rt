@@ -1,0 +1,209 @@
+//! Carrying out what a rule changes: the legs with the labels that they take and their marks, the row that is learnt, the
+//! calls and the numbers.
+
+ghost use Rattle.std.specs.Prelude.{◌≡◌, ◌≤◌, ◌<◌, ◌+◌, IfSome, None, OnErr, OnOk, Some, length, vec_capacity, vec_len};
+ghost use Rattle.std.specs.Option.{option_to_list};
+ghost use Rattle.link_owner.specs.Marks.{has_fibre};
+ghost use Rattle.mesh_rules.specs.Changes.{learnt_after};
+ghost use Rattle.mesh_rules.specs.declared.changes.LegChange.TheVariants.{Goes, Put};
+ghost use Rattle.mesh_rules.specs.Legs.{find_leg, leg_changed, legs_changed, with_leg, without_leg};
+ghost use Rattle.node_legs.specs.Edits.{leg_put};
+ghost use Rattle.leg_table.specs.Handled.{IsCarriedOut, MayBeCarriedOut};
+ghost use Rattle.leg_table.specs.LegClaims.{AreOfOneNode, LabelsFit, MarksFit, MayAllMark, MayBeMade, MayMark, MayMarkSo, SameFibres, is_own_fibre};
+ghost use Rattle.leg_table.specs.States.{local_of};
+ghost use Rattle.leg_table.specs.Tables.{LegsRise};
+ghost use Rattle.leg_carrying.specs.LegHolds.{AreLeft, GivesUp, MayGiveUpAll, is_lost, lsp_changed};
+
+use crate::marking::{remark, unmark_lsp};
+use crate::releasing::give_up_lost;
+use crate::reserving::reserve_new;
+use ason_base::{Lsp, OutOfMemory, Outs, TeRow};
+use leg_table::boxes::{BoxedChange, BoxedLeg, LegEdit};
+use leg_table::legs::{set_leg, take_leg};
+use leg_table::{Calls, Change, NodeTables};
+use link_owner::Owner;
+use share_check::Shares;
+use std::alloc::Global;
+
+// Legs
+
+// Takes a leg off. Its labels are given up.
+fn remove_leg(legs: &mut Vec<BoxedLeg>, owner: &mut Owner, shares: &mut Shares, lsp: Lsp)
+    requires rising { LegsRise legs.old.items }
+    requires may { MayGiveUpAll (find_leg lsp legs.old.items) owner.old shares.old }
+    requires fit { MarksFit legs.old.items owner.old }
+    ensures items { legs.new.items ≡ without_leg lsp legs.old.items }
+    ensures rising { LegsRise legs.new.items }
+    ensures len { vec_len legs.new ≤ vec_len legs.old }
+    ensures capacity { vec_capacity legs.new ≡ vec_capacity legs.old }
+    ensures labels { GivesUp lsp (is_lost (find_leg lsp legs.old.items) None)
+        owner.old.claims owner.new.claims shares.old shares.new }
+    ensures fit { MarksFit legs.new.items owner.new }
+    ensures fibres { SameFibres owner.old owner.new }
+{
+    give_up_lost(legs, owner, shares, lsp, None);
+    unmark_lsp(legs, owner, lsp);
+    let _leg = take_leg(legs, lsp);
+}
+
+// Puts a leg. The labels that its LSP's leg took and it doesn't are given up; those that it takes are claimed. There is
+// room for it.
+fn put_leg(legs: &mut Vec<BoxedLeg>, owner: &mut Owner, shares: &mut Shares, leg: BoxedLeg)
+    requires rising { LegsRise legs.old.items }
+    requires room { vec_len legs.old < vec_capacity legs.old }
+    requires may { MayGiveUpAll (find_leg leg.lsp legs.old.items) owner.old shares.old }
+    requires fit { MarksFit legs.old.items owner.old }
+    requires marks { MayMark (has_fibre owner.old.marks) legs.old.items leg }
+    ensures items { legs.new.items ≡ with_leg leg legs.old.items }
+    ensures rising { LegsRise legs.new.items }
+    ensures len { vec_len legs.new ≤ vec_len legs.old + 1 }
+    ensures capacity { vec_capacity legs.new ≡ vec_capacity legs.old }
+    ensures labels { GivesUp leg.lsp (is_lost (find_leg leg.lsp legs.old.items) (Some leg))
+        owner.old.claims owner.new.claims shares.old shares.new }
+    ensures fit { MarksFit legs.new.items owner.new }
+    ensures fibres { SameFibres owner.old owner.new }
+{
+    give_up_lost(legs, owner, shares, leg.leg().lsp, Some(leg.leg()));
+    remark(legs, owner, leg.leg());
+    set_leg(legs, leg);
+}
+
+// Makes a change. The labels that its LSP's leg took and a leg that is put doesn't take are given up; those that this
+// one takes are claimed. There is room for it.
+fn change_leg(legs: &mut Vec<BoxedLeg>, owner: &mut Owner, shares: &mut Shares, change: LegEdit)
+    requires rising { LegsRise legs.old.items }
+    requires room { vec_len legs.old < vec_capacity legs.old }
+    requires may { MayGiveUpAll (find_leg (lsp_changed change) legs.old.items)
+        owner.old shares.old }
+    requires fit { MarksFit legs.old.items owner.old }
+    requires marks { MayMarkSo (has_fibre owner.old.marks) legs.old.items change }
+    ensures items { legs.new.items ≡ leg_changed change legs.old.items }
+    ensures rising { LegsRise legs.new.items }
+    ensures len { vec_len legs.new ≤ vec_len legs.old + 1 }
+    ensures capacity { vec_capacity legs.new ≡ vec_capacity legs.old }
+    ensures labels { GivesUp (lsp_changed change)
+        (is_lost (find_leg (lsp_changed change) legs.old.items) (leg_put change))
+        owner.old.claims owner.new.claims shares.old shares.new }
+    ensures fit { MarksFit legs.new.items owner.new }
+    ensures fibres { SameFibres owner.old owner.new }
+{
+    match change.into_change() {
+        BoxedChange::Goes(lsp) => remove_leg(legs, owner, shares, lsp),
+        BoxedChange::Put(leg) => put_leg(legs, owner, shares, leg),
+    }
+}
+
+// Makes the changes, one after the other. The label that the last of them takes newly is claimed, and there is room for
+// them.
+fn change_legs(
+    legs: &mut Vec<BoxedLeg>,
+    owner: &mut Owner,
+    shares: &mut Shares,
+    changes: Vec<LegEdit>,
+)
+    requires rising { LegsRise legs.old.items }
+    requires room { vec_len legs.old + vec_len changes ≤ vec_capacity legs.old }
+    requires left { AreLeft legs.old.items legs.old.items changes.items owner.old shares.old }
+    requires fit { MarksFit legs.old.items owner.old }
+    requires marks { MayAllMark (has_fibre owner.old.marks) legs.old.items changes.items }
+    ensures items { legs.new.items ≡ legs_changed changes.items legs.old.items }
+    ensures rising { LegsRise legs.new.items }
+    ensures fit { LabelsFit legs.new.items owner.new shares.new }
+    ensures fibres { SameFibres owner.old owner.new }
+{
+    for change in changes {
+        change_leg(legs, owner, shares, change);
+    }
+}
+
+// Rows
+
+// Makes room for the row, if there is one.
+fn make_room(rows: &mut Vec<TeRow>, row: &Option<TeRow>) -> Result<(), OutOfMemory>
+    ensures same { rows.new.items ≡ rows.old.items }
+    ensures room { OnOk result (IfSome row.now (λ _. vec_len rows.new < vec_capacity rows.new)) }
+{
+    if row.is_some() {
+        rows.reserve(1)?;
+    }
+    Ok(())
+}
+
+// Puts the row after those that are known. There is room for it.
+fn put_row(rows: &mut Vec<TeRow>, row: Option<TeRow>)
+    requires { IfSome row (λ _. vec_len rows.old < vec_capacity rows.old) }
+    ensures { rows.new.items ≡ learnt_after (option_to_list row) rows.old.items }
+{
+    if let Some(row) = row {
+        match rows.push(row) {
+            Ok(()) => (),
+            Err(_) => unreachable!(),
+        }
+    }
+}
+
+// Answers
+
+/// Carries out changes of legs, one after the other, and puts the row, if there is one, after those that are known. The
+/// owner's claims and marks and the guards of the shares follow the legs. After want of memory nothing has changed.
+pub fn carry_out_tables(
+    alloc: Global,
+    tables: &mut NodeTables,
+    owner: &mut Owner,
+    shares: &mut Shares,
+    changes: Vec<LegEdit>,
+    row: Option<TeRow>,
+) -> Result<(), OutOfMemory>
+    requires node { AreOfOneNode tables.old owner.old shares.old }
+    requires may { MayBeMade (local_of tables.old) tables.old.legs changes.items }
+    requires marks { MayAllMark (is_own_fibre (local_of tables.old))
+        tables.old.legs changes.items }
+    requires few { length (legs_changed changes.items tables.old.legs) ≤ 4096 }
+    ensures ok { OnOk result
+        (tables.new ≡ record tables.old {
+          legs = legs_changed changes.items tables.old.legs;
+          rows = learnt_after (option_to_list row) tables.old.rows;
+        }) }
+    ensures err { OnErr result (tables.new ≡ tables.old) }
+    ensures err_owner { OnErr result (owner.new ≡ owner.old) }
+    ensures err_shares { OnErr result (shares.new ≡ shares.old) }
+    ensures node { AreOfOneNode tables.new owner.new shares.new }
+{
+    make_room(&mut tables.rows, &row)?;
+    tables.legs.reserve(changes.len())?;
+    reserve_new(&tables.legs, owner, shares, alloc, &changes)?;
+    change_legs(&mut tables.legs, owner, shares, changes);
+    put_row(&mut tables.rows, row);
+    Ok(())
+}
+
+/// Carries out what a rule changes, and hands back what is to be sent, in order. The owner's claims and marks and the
+/// guards of the shares follow the legs. After want of memory nothing has changed.
+pub fn carry_out(
+    change: Change,
+    tables: &mut NodeTables,
+    owner: &mut Owner,
+    shares: &mut Shares,
+    calls: &mut Calls,
+) -> Result<Outs, OutOfMemory>
+    requires node { AreOfOneNode tables.old owner.old shares.old }
+    requires may { MayBeCarriedOut tables.old change }
+    ensures { IsCarriedOut result tables.old owner.old shares.old calls.old
+        tables.new owner.new shares.new calls.new change }
+{
+    let Change {
+        legs,
+        calls: changes,
+        numbers,
+        down,
+        row,
+        sent,
+        ..
+    } = change;
+    calls.list.reserve(changes.len())?;
+    carry_out_tables(calls.alloc, tables, owner, shares, legs, row)?;
+    tables.know_down(down);
+    calls.list.change(changes);
+    calls.give_out(numbers);
+    Ok(sent)
+}

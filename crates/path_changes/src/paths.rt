@@ -1,0 +1,494 @@
+//! A Path where no leg of its LSP stands (RFC 2205, section 3.1.3; RFC 3473, section 2).
+
+ghost use Rattle.std.specs.Prelude.{◌≡◌, ◌≤◌, false, IfErr, IfOk, IsTrue, OnOk};
+ghost use Rattle.std.specs.Option.{option_copied};
+ghost use Rattle.mesh_rules.specs.Paths.{is_active, leads_on, link_on, recorded, role_of, set_on};
+ghost use Rattle.mesh_nodes.specs.LocalNodes.{LocalNodeFits};
+ghost use Rattle.leg_table.specs.Fits.{TablesFit};
+ghost use Rattle.leg_table.specs.States.{local_of};
+ghost use Rattle.path_changes.specs.Answers.{IsUnknownFor, admitted_here, asked_here, back_here, back_over, comes_back, comes_over, ended_here, first_here, is_down_here, is_unknown_here, judged_here, known_here, labelled_here, lacks_way_back, offered_here, passed_here, path_answer, path_here, path_on, recorded_here, refused_here};
+
+use ason_base::codes::{DOWN, FULL, LABEL, PRIMARY, ROUTE, SET};
+use ason_base::routes::other_end;
+use ason_base::{
+    Copied, ErrCode, Label, LabelSet, Leg, LinkSpec, Lsp, Msg, NodeId, OutOfMemory, PathRole,
+    Phase, RiskFault, RiskSet, Role, Step, Steps,
+};
+use leg_labels::{label_through, usable};
+use leg_table::one_leg::reserved;
+use leg_table::{Change, NodeTables};
+use link_owner::Owner;
+use mesh_rules::Arrival;
+use mesh_rules::limits::MOST_LEGS;
+use mesh_rules::links::{fibre_in, fibre_out, leads, reverse};
+use share_check::Shares;
+use std::alloc::Global;
+use std::marker::Model;
+
+/// What a Path asks for: of which LSP and from where it came, over which steps from here, with
+/// which labels, with which label for the way back of a two-way LSP, and for what.
+#[derive(Drop)]
+struct PathRequest<'a> {
+    arrival: Arrival,
+    route: &'a Steps,
+    set: &'a LabelSet,
+    upstream: Option<Label>,
+    role: &'a PathRole,
+}
+
+impl<'a> Model for PathRequest<'a> {
+    ghost use Rattle.mesh_rules.specs.Paths as paths;
+
+    ghost Value = { paths.PathRequest };
+
+    ghost view = { λ m. record {
+      arrival = m.arrival;
+      route = m.route.now;
+      set = m.set.now;
+      upstream = m.upstream;
+      role = m.role.now;
+    } };
+}
+
+// Refusals
+
+fn leads_on(tables: &NodeTables, arrival: Arrival, route: &Steps) -> bool
+    ensures { result ≡ leads_on (local_of tables.now) arrival route.now }
+{
+    let here = tables.node().id;
+    match route.items().first() {
+        None => here == arrival.egress,
+        Some(&hop) => {
+            here != arrival.egress
+                && hop.node == here
+                && hop.link != arrival.link
+                && tables.own(hop.link).is_some()
+        }
+    }
+}
+
+// The risks of the primary of a backup, as the node knows them; a working LSP has no primary.
+fn recorded(alloc: Global, tables: &NodeTables, role: &PathRole) -> Result<RiskSet, RiskFault>
+    requires { tables.now.rows ≡ known_here tables.now }
+    ensures ok { IfOk result (λ r. r ≡ recorded (known_here tables.now) role.now) }
+    ensures known { OnOk result (is_unknown_here tables.now role.now ≡ false) }
+    ensures unknown { IfErr result (IsUnknownFor tables.now role.now) }
+{
+    match role {
+        PathRole::Work { .. } => Ok(RiskSet::new(alloc)),
+        PathRole::Back { primary, .. } => RiskSet::of(alloc, tables.rows(), primary),
+    }
+}
+
+fn role_of(role: &PathRole) -> Role
+    ensures { result ≡ role_of role.now }
+{
+    match role {
+        PathRole::Work { .. } => Role::Work,
+        PathRole::Back { .. } => Role::Back,
+    }
+}
+
+// The owner and the shares tell which labels are usable for such a leg.
+fn offered_labels(
+    tables: &NodeTables,
+    owner: &Owner,
+    shares: &Shares,
+    request: &PathRequest<'_>,
+    link: &LinkSpec,
+    risks: &RiskSet,
+) -> LabelSet
+    requires fits { TablesFit tables.now owner.now shares.now }
+    requires link { IsTrue (comes_over tables.now link.now) }
+    requires risks { risks.now ≡ recorded_here tables.now request.now }
+    ensures { result ≡ offered_here tables.now request.now link.now }
+{
+    let fibre = fibre_in(link, tables.node().id);
+    let role = role_of(request.role);
+    let labels = usable(tables, owner, shares, role, risks, fibre);
+    request.set.meet(&labels)
+}
+
+// The label for the way back over this link, by which the Path goes on.
+fn back_over(
+    tables: &NodeTables,
+    owner: &Owner,
+    shares: &Shares,
+    request: &PathRequest<'_>,
+    out: &LinkSpec,
+    risks: &RiskSet,
+) -> Option<Label>
+    requires fits { TablesFit tables.now owner.now shares.now }
+    requires link { IsTrue (comes_back tables.now out.now) }
+    requires risks { risks.now ≡ recorded_here tables.now request.now }
+    ensures { result ≡ back_over tables.now request.now out.now }
+{
+    let label = request.upstream?;
+    let fibre = reverse(fibre_out(out, tables.node().id));
+    let labels = usable(tables, owner, shares, role_of(request.role), risks, fibre);
+    label_through(tables, &labels, label)
+}
+
+// The link of the route's first step.
+fn link_on<'a>(tables: &'a NodeTables, route: &Steps) -> Option<&'a LinkSpec>
+    ensures { option_copied result ≡ link_on (local_of tables.now) route.now }
+{
+    match route.items().first() {
+        None => None,
+        Some(&hop) => tables.own(hop.link),
+    }
+}
+
+// The label for the way back, as far as the Path goes on from here and asks for one.
+fn back_label(
+    tables: &NodeTables,
+    owner: &Owner,
+    shares: &Shares,
+    request: &PathRequest<'_>,
+    risks: &RiskSet,
+) -> Option<Label>
+    requires fits { TablesFit tables.now owner.now shares.now }
+    requires risks { risks.now ≡ recorded_here tables.now request.now }
+    ensures { result ≡ back_here tables.now request.now }
+{
+    match link_on(tables, request.route) {
+        None => None,
+        Some(out) => back_over(tables, owner, shares, request, out, risks),
+    }
+}
+
+// Whether the fibre of this link that comes in is known to be down.
+fn is_down(tables: &NodeTables, link: &LinkSpec) -> bool
+    ensures { result ≡ is_down_here tables.now link.now }
+{
+    tables.is_down(fibre_in(link, tables.node().id))
+}
+
+fn refuse(
+    alloc: Global,
+    tables: &NodeTables,
+    arrival: Arrival,
+    code: ErrCode,
+) -> Result<Change, OutOfMemory>
+    ensures { IfOk result (λ c. c ≡ refused_here tables.now arrival code) }
+{
+    let msg = Msg::PathErr {
+        lsp: arrival.lsp,
+        egress: arrival.egress,
+        at: tables.node().id,
+        removed: true,
+        code,
+    };
+    Change::sends(alloc, arrival.from, msg)
+}
+
+// Legs
+
+// What a leg that a Path makes may have: the labels of the fibre in from which one is taken, the
+// label for the way back, and the risks that it records.
+#[derive(Drop)]
+struct Offer {
+    risks: RiskSet,
+    labels: LabelSet,
+    back: Option<Label>,
+}
+
+// The leg that a Path makes, as far as it is the same at each node.
+fn asked_leg(
+    alloc: Global,
+    tables: &NodeTables,
+    request: &PathRequest<'_>,
+    link: &LinkSpec,
+    risks: RiskSet,
+    labels: LabelSet,
+) -> Result<Leg, OutOfMemory>
+    ensures { IfOk result (λ g. g ≡ asked_here tables.now request.now link.now risks labels) }
+{
+    let path_role = request.role.copy(alloc)?;
+    Ok(Leg {
+        lsp: request.arrival.lsp,
+        egress: request.arrival.egress,
+        role: role_of(request.role),
+        prev: Some(request.arrival.from),
+        next: None,
+        in_fibre: Some(fibre_in(link, tables.node().id)),
+        out_fibre: None,
+        offered: labels,
+        sent: LabelSet::empty(),
+        route: Steps::new(alloc),
+        path_role,
+        risks,
+        phase: Phase::Asked,
+        in_label: None,
+        out_label: None,
+        back_in: None,
+        back_out: request.upstream,
+    })
+}
+
+// At the egress the leg has its label at once.
+fn end_here(
+    alloc: Global,
+    tables: &NodeTables,
+    request: &PathRequest<'_>,
+    link: &LinkSpec,
+    offer: Offer,
+) -> Result<Change, OutOfMemory>
+    ensures { IfOk result
+        (λ c. c ≡ ended_here tables.now request.now link.now offer.risks offer.labels) }
+{
+    let Offer { risks, labels, .. } = offer;
+    let Some(label) = labels.least() else {
+        return Ok(Change::nothing(alloc));
+    };
+    let mut leg = asked_leg(alloc, tables, request, link, risks, labels)?;
+    leg.phase = reserved(leg.role);
+    leg.in_label = Some(label);
+    let msg = Msg::Resv {
+        lsp: request.arrival.lsp,
+        egress: request.arrival.egress,
+        link: link.id,
+        label,
+    };
+    Change::puts(alloc, leg, request.arrival.from, msg)
+}
+
+fn set_on(tables: &NodeTables, out: &LinkSpec, offered: &LabelSet) -> LabelSet
+    requires { out.now.labels ≤ 80 }
+    ensures { result ≡ set_on (local_of tables.now) out.now offered.now }
+{
+    if tables.node().convert {
+        LabelSet::upto(out.labels)
+    } else {
+        offered.copy()
+    }
+}
+
+// The Path that goes on over this link from the leg.
+fn path_on(
+    alloc: Global,
+    request: &PathRequest<'_>,
+    out: &LinkSpec,
+    leg: &Leg,
+) -> Result<Msg, OutOfMemory>
+    ensures { IfOk result (λ m. m ≡ path_on request.now out.now leg.now) }
+{
+    Ok(Msg::Path {
+        lsp: request.arrival.lsp,
+        egress: request.arrival.egress,
+        link: out.id,
+        route: leg.route.copy(alloc)?,
+        set: leg.sent.copy(),
+        upstream: leg.back_in,
+        role: request.role.copy(alloc)?,
+    })
+}
+
+// The Path goes on over this step.
+fn pass_on(
+    alloc: Global,
+    tables: &NodeTables,
+    request: &PathRequest<'_>,
+    link: &LinkSpec,
+    hop: Step,
+    offer: Offer,
+) -> Result<Change, OutOfMemory>
+    requires { LocalNodeFits (local_of tables.now) }
+    ensures { IfOk result (λ c. c ≡
+        passed_here tables.now request.now link.now offer.risks offer.labels offer.back hop.link) }
+{
+    let here = tables.node().id;
+    let Some(out) = tables.own(hop.link) else {
+        return Ok(Change::nothing(alloc));
+    };
+    let Offer {
+        risks,
+        labels,
+        back,
+    } = offer;
+    let sent = set_on(tables, out, &labels);
+    let mut leg = asked_leg(alloc, tables, request, link, risks, labels)?;
+    leg.next = Some(other_end(out, here));
+    leg.out_fibre = Some(fibre_out(out, here));
+    leg.back_in = back;
+    leg.sent = sent;
+    leg.route = request.route.copy_from(alloc, 1)?;
+    let msg = path_on(alloc, request, out, &leg)?;
+    Change::puts(alloc, leg, other_end(out, here), msg)
+}
+
+fn admit(
+    alloc: Global,
+    tables: &NodeTables,
+    request: &PathRequest<'_>,
+    link: &LinkSpec,
+    offer: Offer,
+) -> Result<Change, OutOfMemory>
+    requires { LocalNodeFits (local_of tables.now) }
+    ensures { IfOk result (λ c. c ≡
+        admitted_here tables.now request.now link.now offer.risks offer.labels offer.back) }
+{
+    match request.route.items().first() {
+        None => end_here(alloc, tables, request, link, offer),
+        Some(&hop) => pass_on(alloc, tables, request, link, hop, offer),
+    }
+}
+
+// Whether the Path goes on from here and asks for a way back, and there is no label for it.
+fn lacks_back(tables: &NodeTables, request: &PathRequest<'_>, back: Option<Label>) -> bool
+    ensures { result ≡ lacks_way_back tables.now request.now back }
+{
+    match link_on(tables, request.route) {
+        None => false,
+        Some(_) => request.upstream.is_some() && back.is_none(),
+    }
+}
+
+// Where no label is left, there or for the way back, the Path is refused.
+fn admit_labelled(
+    alloc: Global,
+    tables: &NodeTables,
+    request: &PathRequest<'_>,
+    link: &LinkSpec,
+    offer: Offer,
+) -> Result<Change, OutOfMemory>
+    requires { LocalNodeFits (local_of tables.now) }
+    ensures { IfOk result (λ c. c ≡
+        labelled_here tables.now request.now link.now offer.risks offer.labels offer.back) }
+{
+    if offer.labels.least().is_none() {
+        refuse(alloc, tables, request.arrival, SET)
+    } else if lacks_back(tables, request, offer.back) {
+        refuse(alloc, tables, request.arrival, LABEL)
+    } else {
+        admit(alloc, tables, request, link, offer)
+    }
+}
+
+// The first check that fails refuses the Path.
+fn judge(
+    alloc: Global,
+    tables: &NodeTables,
+    owner: &Owner,
+    shares: &Shares,
+    request: &PathRequest<'_>,
+    link: &LinkSpec,
+) -> Result<Change, OutOfMemory>
+    requires fits { TablesFit tables.now owner.now shares.now }
+    requires link { IsTrue (comes_over tables.now link.now) }
+    ensures { IfOk result (λ c. c ≡ judged_here tables.now request.now link.now) }
+{
+    if tables.count() >= MOST_LEGS {
+        return refuse(alloc, tables, request.arrival, FULL);
+    }
+    if !leads_on(tables, request.arrival, request.route) {
+        return refuse(alloc, tables, request.arrival, ROUTE);
+    }
+    match recorded(alloc, tables, request.role) {
+        Ok(_) if is_down(tables, link) => refuse(alloc, tables, request.arrival, DOWN),
+        Ok(risks) => {
+            let labels = offered_labels(tables, owner, shares, request, link, &risks);
+            let back = back_label(tables, owner, shares, request, &risks);
+            let offer = Offer {
+                risks,
+                labels,
+                back,
+            };
+            admit_labelled(alloc, tables, request, link, offer)
+        }
+        Err(RiskFault::Unknown(_)) => refuse(alloc, tables, request.arrival, PRIMARY),
+        Err(RiskFault::OutOfMemory) => Err(OutOfMemory),
+    }
+}
+
+fn is_active(role: &PathRole) -> bool
+    ensures { result ≡ is_active role.now }
+{
+    match role {
+        PathRole::Work { .. } => false,
+        PathRole::Back { active, .. } => *active,
+    }
+}
+
+fn first_path(
+    alloc: Global,
+    tables: &NodeTables,
+    owner: &Owner,
+    shares: &Shares,
+    request: &PathRequest<'_>,
+) -> Result<Change, OutOfMemory>
+    requires { TablesFit tables.now owner.now shares.now }
+    ensures { IfOk result (λ c. c ≡ first_here tables.now request.now) }
+{
+    let arrival = request.arrival;
+    let here = tables.node().id;
+    let Some(link) = tables.own(arrival.link) else {
+        return Ok(Change::nothing(alloc));
+    };
+    if !is_active(request.role) && leads(link, arrival.from, here) && arrival.lsp.ingress != here {
+        judge(alloc, tables, owner, shares, request, link)
+    } else {
+        Ok(Change::nothing(alloc))
+    }
+}
+
+fn on_path(
+    alloc: Global,
+    tables: &NodeTables,
+    owner: &Owner,
+    shares: &Shares,
+    request: &PathRequest<'_>,
+) -> Result<Change, OutOfMemory>
+    requires { TablesFit tables.now owner.now shares.now }
+    ensures { IfOk result (λ c. c ≡ path_here tables.now request.now) }
+{
+    match tables.get(&request.arrival.lsp) {
+        None => first_path(alloc, tables, owner, shares, request),
+        Some(_) => Ok(Change::nothing(alloc)),
+    }
+}
+
+/// What a Path of an LSP that has no leg here would change and send: it makes a leg and goes on,
+/// ends here and is answered, or is refused. A Path of an LSP that has one, and a message of
+/// another kind, do nothing.
+pub fn path_change(
+    alloc: Global,
+    tables: &NodeTables,
+    owner: &Owner,
+    shares: &Shares,
+    from: NodeId,
+    msg: &Msg,
+) -> Result<Change, OutOfMemory>
+    requires { TablesFit tables.now owner.now shares.now }
+    ensures { IfOk result (λ c. c ≡ path_answer tables.now from msg.now) }
+{
+    match msg {
+        Msg::Path {
+            lsp,
+            egress,
+            link,
+            route,
+            set,
+            upstream,
+            role,
+        } => {
+            let arrival = Arrival {
+                lsp: *lsp,
+                egress: *egress,
+                from,
+                link: *link,
+            };
+            let request = PathRequest {
+                arrival,
+                route,
+                set,
+                upstream: *upstream,
+                role,
+            };
+            on_path(alloc, tables, owner, shares, &request)
+        }
+        Msg::Resv { .. } | Msg::PathTear { .. } | Msg::PathErr { .. } | Msg::Notify { .. } => {
+            Ok(Change::nothing(alloc))
+        }
+    }
+}

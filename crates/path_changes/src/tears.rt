@@ -1,0 +1,78 @@
+//! A PathTear (RFC 2205, section 3.1.5), which the node confirms.
+
+ghost use Rattle.std.specs.Prelude.{◌≡◌, IfOk};
+ghost use Rattle.mesh_rules.specs.Changes.{to_node};
+ghost use Rattle.mesh_rules.specs.Legs.{following};
+ghost use Rattle.mesh_rules.specs.Tears.{on_tear, torn};
+ghost use Rattle.leg_table.specs.States.{legs_state, local_of};
+ghost use Rattle.path_changes.specs.Answers.{tear_answer};
+
+use ason_base::codes::TORN;
+use ason_base::{Leg, Msg, NodeId, OutOfMemory};
+use leg_table::one_leg::{closed, following, is_closing, is_over, previous};
+use leg_table::{Change, NodeTables};
+use mesh_rules::Arrival;
+use std::alloc::Global;
+
+fn tear_on(alloc: Global, leg: &Leg, to: NodeId, reply: Msg) -> Result<Change, OutOfMemory>
+    ensures { IfOk result (λ c. c ≡ torn leg.now (to_node to reply) (following leg.now)) }
+{
+    match following(leg) {
+        None => Change::removes(alloc, leg.lsp, to, reply),
+        Some(next) => {
+            let tear = Msg::PathTear {
+                lsp: leg.lsp,
+                egress: leg.egress,
+                link: next.fibre.link,
+            };
+            let mut change = Change::puts(alloc, closed(alloc, leg)?, to, reply)?;
+            change.send(next.node, tear)?;
+            Ok(change)
+        }
+    }
+}
+
+fn on_tear(alloc: Global, tables: &NodeTables, arrival: Arrival) -> Result<Change, OutOfMemory>
+    ensures { IfOk result (λ c. c ≡ on_tear (local_of tables.now) (legs_state tables.now) arrival) }
+{
+    let Some(leg) = tables.get(&arrival.lsp) else {
+        return Ok(Change::nothing(alloc));
+    };
+    if is_closing(leg.phase) || !is_over(previous(leg), arrival.from, arrival.link) {
+        return Ok(Change::nothing(alloc));
+    }
+    let reply = Msg::PathErr {
+        lsp: leg.lsp,
+        egress: leg.egress,
+        at: tables.node().id,
+        removed: true,
+        code: TORN,
+    };
+    tear_on(alloc, leg, arrival.from, reply)
+}
+
+/// What a PathTear would change and send: it is answered and goes on, and the leg waits for the
+/// next node's answer. A message of another kind does nothing.
+pub fn tear_change(
+    alloc: Global,
+    tables: &NodeTables,
+    from: NodeId,
+    msg: &Msg,
+) -> Result<Change, OutOfMemory>
+    ensures { IfOk result (λ c. c ≡ tear_answer tables.now from msg.now) }
+{
+    match msg {
+        Msg::PathTear { lsp, egress, link } => {
+            let arrival = Arrival {
+                lsp: *lsp,
+                egress: *egress,
+                from,
+                link: *link,
+            };
+            on_tear(alloc, tables, arrival)
+        }
+        Msg::Path { .. } | Msg::Resv { .. } | Msg::PathErr { .. } | Msg::Notify { .. } => {
+            Ok(Change::nothing(alloc))
+        }
+    }
+}
