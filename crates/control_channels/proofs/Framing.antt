@@ -3,9 +3,9 @@ use Rattle.std.proofs.Common.{◌≡◌, Bool, true, false, cond, List, [], ◌�
 use Rattle.std.specs.List.{AllByRecursion, flat_map}
 use Rattle.ason_base.specs.declared.ids.NodeId.{NodeId}
 use Rattle.flood.specs.declared.due.Due.{Due}
-use Rattle.flood.specs.declared.frames.Content.TheVariants.{Flood}
+use Rattle.channel_frames.specs.declared.frames.Content.TheVariants.{Flood}
 use Rattle.flood.specs.declared.messages.FloodMsg.{FloodMsg}
-use Rattle.flood.specs.Frames.{IsFrame}
+use Rattle.channel_frames.specs.Frames.{IsFrame}
 use Rattle.flood.specs.Messages.{CanBeWritten}
 use Rattle.flood.specs.State.{NeighbourState, due_to, goes_at, older, sending, sent_to}
 use Rattle.hop_reliable.proofs.Members.{each-append}

@@ -2,7 +2,7 @@
 use Rattle.std.proofs.Common.{◌≡◌, ℕ, Bool, cond, nat_eq, List, [], ◌∷◌, ◌++◌, ◌+◌, sym, ap, ◌∙◌, subst, append_assoc}
 use Rattle.ason_base.specs.declared.ids.NodeId.{NodeId}
 use Rattle.ason_base.specs.declared.tables.Out.{Out}
-use Rattle.flood.specs.declared.frames.Content.TheVariants.{Message}
+use Rattle.channel_frames.specs.declared.frames.Content.TheVariants.{Message}
 use Rattle.hop_reliable.specs.Hop.{HopState, numbered, sent_message}
 use Rattle.control_channels.specs.Frames.{frames_to, sent_frame}
 use Rattle.control_channels.specs.declared.frames.Frame.{Frame}

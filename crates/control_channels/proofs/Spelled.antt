@@ -8,9 +8,9 @@ use Rattle.ason_base.specs.declared.tables.Out.{Out}
 use Rattle.hop_reliable.proofs.Members.{each-append}
 use Rattle.hop_reliable.specs.Hop.{HopState, numbered}
 use Rattle.node_rules.specs.Nodes.{NodeView}
-use Rattle.flood.specs.declared.frames.Content.{Content}
-use Rattle.flood.specs.declared.frames.Content.TheVariants.{Message}
-use Rattle.flood.specs.Frames.{IsFrame, frame_bytes}
+use Rattle.channel_frames.specs.declared.frames.Content.{Content}
+use Rattle.channel_frames.specs.declared.frames.Content.TheVariants.{Message}
+use Rattle.channel_frames.specs.Frames.{IsFrame, frame_bytes}
 use Rattle.control_channels.specs.declared.adjacencies.Adjacency.{Adjacency}
 use Rattle.control_channels.specs.declared.frames.Frame.{Frame}
 use Rattle.control_channels.specs.Adjacencies.{hop_at, next_at, packets_on, rested, sendings_to, sent_one}

@@ -10,8 +10,8 @@ use Rattle.ason_base.specs.declared.messages.PathRole.{PathRole}
 use Rattle.ason_base.specs.declared.messages.PathRole.TheVariants.{Work, Back}
 use Rattle.ason_base.specs.declared.steps.Step.{Step}
 use Rattle.ason_base.specs.Writable.{IsWritableMsg, IsWritableRole}
-use Rattle.flood.specs.declared.frames.Content.TheVariants.{Message}
-use Rattle.flood.specs.Frames.{CanBeWritten, IsFrame}
+use Rattle.channel_frames.specs.declared.frames.Content.TheVariants.{Message}
+use Rattle.channel_frames.specs.Frames.{CanBeWritten, IsFrame}
 use Rattle.hop_reliable.specs.declared.unacked.Unacked.{Unacked}
 use Rattle.hop_reliable.specs.Ages.{is_due, older_age}
 use Rattle.hop_reliable.specs.Hop.{HopState, again, numbered, older, resent}

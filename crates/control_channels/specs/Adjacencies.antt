@@ -8,7 +8,7 @@ use Rattle.ason_base.specs.declared.tables.Out.{Out}
 use Rattle.ason_base.specs.InOrder.{in_order}
 use Rattle.ason_base.specs.Network.{other_end}
 use Rattle.ason_base.specs.Writable.{IsWritableMsg}
-use Rattle.flood.specs.declared.frames.Content.TheVariants.{Message}
+use Rattle.channel_frames.specs.declared.frames.Content.TheVariants.{Message}
 use Rattle.hop_reliable.specs.declared.heard.Heard.{Heard}
 use Rattle.hop_reliable.specs.Hop.{HopState, PreparedHop, all_sent, fresh, numbered, resent, resting, sent_message, taken, ticked}
 use Rattle.mesh_rules.specs.LocalNodes.{LocalNode}

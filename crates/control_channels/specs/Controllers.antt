@@ -8,10 +8,10 @@ use Rattle.ason_base.specs.declared.ids.NodeId.{NodeId}
 use Rattle.ason_base.specs.declared.messages.Msg.{Msg}
 use Rattle.ason_base.specs.declared.messages.Packet.{Packet}
 use Rattle.ason_base.specs.declared.network.TeRow.{TeRow}
-use Rattle.flood.specs.declared.frames.Content.{Content}
-use Rattle.flood.specs.declared.frames.Content.TheVariants.{Message, Flood}
+use Rattle.channel_frames.specs.declared.frames.Content.{Content}
+use Rattle.channel_frames.specs.declared.frames.Content.TheVariants.{Message, Flood}
 use Rattle.flood.specs.declared.messages.FloodMsg.{FloodMsg}
-use Rattle.flood.specs.Frames.{IsFrame, SpellsNothing}
+use Rattle.channel_frames.specs.Frames.{IsFrame, SpellsNothing}
 use Rattle.flood.specs.State as flood
 use Rattle.flood.specs.State.{FloodState, learnt_of, sends_after, sent_at_tick}
 use Rattle.hop_reliable.specs.declared.heard.Heard.{Heard}

@@ -3,9 +3,9 @@ use Rattle.std.specs.Prelude.{List, map, Option, None}
 use Rattle.std.specs.List.{AllByRecursion}
 use Rattle.ason_base.specs.declared.ids.NodeId.{NodeId}
 use Rattle.ason_base.specs.declared.messages.Msg.{Msg}
-use Rattle.flood.specs.declared.frames.Content.{Content}
-use Rattle.flood.specs.declared.frames.Content.TheVariants.{Message, Flood}
-use Rattle.flood.specs.Frames.{IsFrame, frame_bytes}
+use Rattle.channel_frames.specs.declared.frames.Content.{Content}
+use Rattle.channel_frames.specs.declared.frames.Content.TheVariants.{Message, Flood}
+use Rattle.channel_frames.specs.Frames.{IsFrame, frame_bytes}
 use Rattle.control_channels.specs.declared.frames.Frame.{Frame}
 
 -- what goes to a neighbour: a packet, or a flood message

@@ -4,8 +4,8 @@ ghost use Rattle.std.specs.Prelude.{◌≡◌, ◌+◌, ◌-◌, ◌<◌, ◌≤
 ghost use Rattle.std.specs.Option.{option_copied};
 ghost use Rattle.std.specs.List.{AllByRecursion, flat_map};
 ghost use Rattle.ason_base.specs.Writable.{IsWritableMsg};
-ghost use Rattle.flood.specs.declared.frames.Content.{Content};
-ghost use Rattle.flood.specs.Frames.{IsFrame, frame_bytes};
+ghost use Rattle.channel_frames.specs.declared.frames.Content.{Content};
+ghost use Rattle.channel_frames.specs.Frames.{IsFrame, frame_bytes};
 ghost use Rattle.hop_reliable.specs.Hop.{heard_as, last_number, numbered, with_next};
 ghost use Rattle.rsvp_messages.specs.Writable.{IsWritable};
 ghost use Rattle.control_channels.specs.declared.adjacencies.Adjacency.{Adjacency};
@@ -15,7 +15,7 @@ ghost use Rattle.control_channels.specs.ReadyControllers.{unacknowledged};
 
 use crate::frames::{Frame, FrameMaker};
 use ason_base::{Msg, MsgId, NodeId, Out, OutOfMemory, Packet};
-use flood::Content;
+use channel_frames::Content;
 use hop_reliable::{Heard, Hop};
 use std::alloc::Global;
 

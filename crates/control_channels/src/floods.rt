@@ -16,8 +16,9 @@ ghost use Rattle.control_channels.specs.ReadyControllers.{CanGo, FloodFits};
 use crate::frames::{Frame, FrameMaker};
 use crate::peers::{other_ends, touches};
 use ason_base::{LinkSpec, NodeId, OutOfMemory, TeRow, Topology};
+use channel_frames::Content;
 use flood::laws::every_start;
-use flood::{Content, Flood, FloodSends};
+use flood::{Flood, FloodSends};
 use std::alloc::Global;
 
 // Declares the rows of those of these links that the node is an end of, in order of link.

@@ -1,11 +1,11 @@
 //! The frames that a controller sends.
 
 ghost use Rattle.std.specs.Prelude.{◌≡◌, IfOk};
-ghost use Rattle.flood.specs.Frames.{CanBeWritten, IsFrame};
+ghost use Rattle.channel_frames.specs.Frames.{CanBeWritten, IsFrame};
 ghost use Rattle.control_channels.specs.Frames.{sent_frame};
 
 use ason_base::{Bytes, Items, NodeId, OutOfMemory};
-use flood::{Content, write_frame};
+use channel_frames::{Content, write_frame};
 use std::alloc::Global;
 
 /// Bytes on their way to a neighbour.

@@ -3,10 +3,10 @@ use Rattle.std.proofs.Common.{◌≡◌, ℕ, List, map, refl, sym, subst}
 use Rattle.std.specs.Prelude.{Result, Ok, Err, IfOk, OnOk}
 use Rattle.ason_base.specs.declared.ids.NodeId.{NodeId}
 use Rattle.wire_buf.specs.Codecs.{HasOneMeaning}
-use Rattle.flood.specs.declared.frames.Content.{Content}
-use Rattle.flood.specs.declared.frames.Content.TheVariants.{Flood}
+use Rattle.channel_frames.specs.declared.frames.Content.{Content}
+use Rattle.channel_frames.specs.declared.frames.Content.TheVariants.{Flood}
 use Rattle.flood.specs.declared.messages.FloodMsg.{FloodMsg}
-use Rattle.flood.specs.Frames.{IsFrame, SpellsNothing}
+use Rattle.channel_frames.specs.Frames.{IsFrame, SpellsNothing}
 use Rattle.flood.specs.State.{FloodState, learnt_of, received, sends_after}
 use Rattle.node_rules.specs.Nodes.{NodeView}
 use Rattle.control_channels.specs.declared.adjacencies.Adjacency.{Adjacency}

@@ -11,8 +11,8 @@ ghost use Rattle.node_rules.specs.Nodes.{IsWritableInput, MayTake, answer_to, st
 ghost use Rattle.node_rules.specs.declared.inputs.Input.TheVariants as inputs;
 ghost use Rattle.control_channels.specs.Adjacencies.{AllCanGo, ArePrepared, next_at, packets_on, reaches, rested, sent_on};
 ghost use Rattle.control_channels.specs.Answers.{BodyCanBePassedOn, body_answer};
-ghost use Rattle.flood.specs.declared.frames.Content.{Content};
-ghost use Rattle.flood.specs.Frames.{IsFrame, SpellsNothing};
+ghost use Rattle.channel_frames.specs.declared.frames.Content.{Content};
+ghost use Rattle.channel_frames.specs.Frames.{IsFrame, SpellsNothing};
 ghost use Rattle.flood.specs.Messages.{SpellsFlood};
 ghost use Rattle.flood.specs.State.{ticked};
 ghost use Rattle.control_channels.specs.Controllers.{AddsAnswer, AnswerIsSpelled, AreMade, Becomes, IsMade, IsReaction, IsUnambiguous, flood_after, frame_step, handed_body, idle_step, item_step, packet_step, parts, tick_step};
@@ -21,11 +21,12 @@ ghost use Rattle.control_channels.specs.ReadyControllers.{AllToNeighbours, Flood
 
 use crate::floods::take_flood;
 use ason_base::{Copied, DecodeError, DeskItem, Msg, NodeId, Out, OutOfMemory, Packet, copy_all};
+use channel_frames::{Content, read_frame};
 use control_channels::adjacencies::{
     age_all, commit_all, discard_all, frame_due, hears, prepare_all, take,
 };
 use control_channels::{Adjacency, CoreInput, Frame, FrameMaker, acknowledge, frame_floods_due};
-use flood::{Content, Flood, read_frame};
+use flood::Flood;
 use hop_reliable::Heard;
 use node_core::{Change, Input, Node};
 

@@ -1,7 +1,7 @@
 //! Lines that name a frame, bytes that spell nothing, and full logs.
 
 ghost use Rattle.std.specs.Prelude.{◌≡◌, ◌==◌, ◌≤◌, ◌<◌, ◌*◌, ◌^◌, IfSome, OnErr, OnOk, false, length, true};
-ghost use Rattle.flood.specs.Frames.{SpellsNothing};
+ghost use Rattle.channel_frames.specs.Frames.{SpellsNothing};
 ghost use Rattle.world_rules.specs.WorldRuns.{is_channel};
 ghost use Rattle.fleet.specs.Commands.{Disturbs, Noises, is_full};
 ghost use Rattle.fleet.specs.Noises.{HasLine, Hears, sent_on};

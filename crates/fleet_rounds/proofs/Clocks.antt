@@ -9,7 +9,7 @@ use Rattle.ason_base.specs.declared.ids.NodeId.{NodeId}
 use Rattle.ason_base.specs.declared.commands.Disturb.{Disturb}
 use Rattle.ason_base.specs.Network.{Network, is_node_id}
 use Rattle.ason_base.proofs.Ordered.{any-there, contains-cases, contains-head, contains-none, contains-tail, there-any}
-use Rattle.flood.specs.declared.frames.Content.{Content}
+use Rattle.channel_frames.specs.declared.frames.Content.{Content}
 use Rattle.flood.proofs.Members.{there_from_flat_map, there_from_map, there_map}
 use Rattle.hop_reliable.proofs.Members.{get_within}
 use Rattle.world_rules.specs.WorldRuns.{is_channel, neighbours}

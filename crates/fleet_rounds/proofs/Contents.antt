@@ -8,7 +8,7 @@ use Rattle.ason_base.specs.declared.commands.Disturb.{Disturb}
 use Rattle.ason_base.specs.declared.commands.DisturbKind.{DisturbKind}
 use Rattle.ason_base.specs.declared.commands.DisturbKind.TheVariants.{Hold, Lose, Repeat}
 use Rattle.ason_base.specs.declared.ids.NodeId.{NodeId}
-use Rattle.flood.specs.declared.frames.Content.{Content}
+use Rattle.channel_frames.specs.declared.frames.Content.{Content}
 use Rattle.world_merge.specs.Deeds.{Deed, Handled, Heard, Posted, Ticked, Took}
 use Rattle.round_rules.specs.Doings.{DeskItem, Did, Doing, DueFrame, Freed, Got, Left, RingFrame, Waiting, deeds_in}
 use Rattle.round_rules.specs.Functions.{Popped, clock_of, delivered, freed, got, handled}

@@ -4,7 +4,7 @@ use Rattle.std.specs.Prelude.{◌&&◌, Option, Some}
 use Rattle.std.specs.List.{AllByRecursion, AllZip, flat_map}
 use Rattle.ason_base.specs.declared.ids.NodeId.{NodeId}
 use Rattle.ason_base.specs.Network.{Network}
-use Rattle.flood.specs.declared.frames.Content.{Content}
+use Rattle.channel_frames.specs.declared.frames.Content.{Content}
 use Rattle.hop_reliable.proofs.Members.{get-append_left}
 use Rattle.world_rules.specs.WorldRuns.{is_channel, may_act}
 use Rattle.world_rules.specs.Worlds.{World, numbered_at, start}

@@ -8,7 +8,7 @@ use Rattle.std.proofs.lemmas.List.Folds.{list_any-append}
 use Rattle.ason_base.specs.Network.{Network}
 use Rattle.ason_base.specs.declared.commands.Disturb.{Disturb}
 use Rattle.ason_base.specs.declared.ids.NodeId.{NodeId}
-use Rattle.flood.specs.declared.frames.Content.{Content}
+use Rattle.channel_frames.specs.declared.frames.Content.{Content}
 use Rattle.world_merge.specs.Deeds.{Took}
 use Rattle.round_rules.specs.Doings.{Did, Doing, Left, Waiting}
 use Rattle.round_rules.specs.Halts.{IsCutTurnOf, MayLack, MayTick}

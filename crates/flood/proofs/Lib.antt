@@ -18,7 +18,5 @@ pub mod TopologyRows
 pub mod Example
 pub mod DueOrder
 pub mod LinkNumbers
-pub mod FrameBodies
 pub mod ReadAgain
 pub mod FewEnds
-pub mod CutFrames

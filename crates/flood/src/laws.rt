@@ -2,7 +2,6 @@
 
 ghost use Rattle.std.specs.Prelude.{◌≡◌};
 ghost use Rattle.flood.specs.declared.messages.FloodMsg.{FloodMsg};
-ghost use Rattle.flood.specs.Cuts.{PrefixesSpellNothing};
 ghost use Rattle.flood.specs.Calls.{AcknowledgedIsOff, DueUntilAcknowledged, GoesToTheOthers, KnownStays, KnownWasBrought, NoneAfterwards};
 ghost use Rattle.flood.specs.Ends.{EndsAreListed, EndsStandOnce};
 ghost use Rattle.flood.specs.Messages.{CanBeWritten, FitsEnvelope, ReadIsWritable, SpellsFlood, flood_bytes};
@@ -17,12 +16,6 @@ pub fn floods_come_back()
 /// What bytes spell can be written again, by whichever node.
 pub fn floods_go_on()
     ensures { ReadIsWritable }
-{}
-
-/// A frame that spells something spells nothing any more once its last bytes are cut off, as many as there are: a
-/// message tells its length in its header (RFC 2205, section 3.1.1), and a flood's row in its TLV.
-pub fn every_cut()
-    ensures { PrefixesSpellNothing }
 {}
 
 /// After every list of calls at a node: what was known stays known, each known row is one that was declared or received, and

@@ -9,7 +9,7 @@ use Rattle.ason_base.specs.declared.ids.NodeId.{NodeId}
 use Rattle.ason_base.specs.declared.commands.DisturbKind.{DisturbKind}
 use Rattle.ason_base.specs.Numerals.{is_numeral}
 use Rattle.ason_base.specs.declared.numerals.NumeralFault.TheVariants.{NoNumber, OutOfRange}
-use Rattle.flood.specs.Frames.{SpellsNothing}
+use Rattle.channel_frames.specs.Frames.{SpellsNothing}
 use Rattle.plan_reader.specs.declared.lines.Line.{Line}
 use Rattle.plan_reader.specs.declared.lines.Line.TheVariants.{Noise}
 use Rattle.plan_reader.specs.declared.limits.TheConstants.{MOST_FRAMES}

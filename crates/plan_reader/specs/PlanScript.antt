@@ -4,8 +4,8 @@ use Rattle.toml.specs.Data.{Data}
 use Rattle.ason_base.specs.Network.{Network}
 use Rattle.ason_base.specs.declared.commands.Command.{Command}
 use Rattle.ason_base.specs.declared.commands.DisturbKind.{DisturbKind}
-use Rattle.flood.specs.Frames.{IsFrame, SpellsNothing}
-use Rattle.flood.specs.declared.frames.Content.{Content}
+use Rattle.channel_frames.specs.Frames.{IsFrame, SpellsNothing}
+use Rattle.channel_frames.specs.declared.frames.Content.{Content}
 use Rattle.plan_reader.specs.declared.faults.PlanKind.{PlanKind}
 use Rattle.plan_reader.specs.declared.faults.PlanKind.TheVariants as kinds
 use Rattle.plan_reader.specs.declared.forms.CommandForm.{CommandForm}

@@ -9,7 +9,7 @@ use Rattle.ason_base.specs.declared.ids.CallNo.{CallNo}
 use Rattle.ason_base.specs.declared.commands.Command.{Command}
 use Rattle.ason_base.specs.declared.commands.Command.TheVariants.{Setup, Release, Protect, Retry, Revert, Fail, Repair}
 use Rattle.ason_base.specs.declared.commands.Disturb.{Disturb}
-use Rattle.flood.specs.Frames.{SpellsNothing}
+use Rattle.channel_frames.specs.Frames.{SpellsNothing}
 use Rattle.mesh_rules.specs.Commands.{is_valid, is_again}
 use Rattle.plan_reader.specs.declared.faults.PlanEntry.{PlanEntry}
 use Rattle.plan_reader.specs.declared.faults.PlanEntry.TheVariants.{Toml, Top, Node, Link}

@@ -1,8 +1,8 @@
 //! The lines of a script that name a frame or bring noise.
 
 ghost use Rattle.std.specs.Prelude.{◌≡◌, IfOk, Ok};
-ghost use Rattle.flood.specs.Frames.{IsFrame, SpellsNothing};
-ghost use Rattle.flood.specs.declared.frames.Content.{Content};
+ghost use Rattle.channel_frames.specs.Frames.{IsFrame, SpellsNothing};
+ghost use Rattle.channel_frames.specs.declared.frames.Content.{Content};
 ghost use Rattle.plan_reader.specs.Entries.{FailsBy, FailsWith};
 ghost use Rattle.plan_reader.specs.PlanFrames.{channel_of, disturb_of, noise_bytes, noise_of};
 ghost use Rattle.plan_reader.specs.declared.faults.PlanKind.{PlanKind};
@@ -15,7 +15,7 @@ use crate::names::Names;
 use crate::setups::node_at;
 use crate::words::{positive_at, word};
 use ason_base::{Bytes, DecodeError, Disturb, DisturbKind, NodeId, OutOfMemory, Topology};
-use flood::read_frame;
+use channel_frames::read_frame;
 use std::alloc::Global;
 use wire_buf::read_hex;
 

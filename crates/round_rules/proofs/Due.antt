@@ -6,7 +6,7 @@ use Rattle.std.specs.List.{AllByRecursion}
 use Rattle.ason_base.specs.declared.ids.NodeId.{NodeId}
 use Rattle.ason_base.specs.declared.commands.DisturbKind.{DisturbKind}
 use Rattle.ason_base.specs.declared.commands.DisturbKind.TheVariants.{Lose, Repeat, Hold}
-use Rattle.flood.specs.declared.frames.Content.{Content}
+use Rattle.channel_frames.specs.declared.frames.Content.{Content}
 use Rattle.hop_reliable.proofs.Members.{each-append}
 use Rattle.world_merge.specs.Deeds.{Deed, Handled, Heard, Posted, Ticked, Took}
 use Rattle.round_rules.specs.Doings.{Did, Doing, Freed, Got, Left, Lost}

@@ -7,7 +7,7 @@ use Rattle.ason_base.specs.declared.commands.Disturb.{Disturb}
 use Rattle.ason_base.specs.declared.commands.DisturbKind.{DisturbKind}
 use Rattle.ason_base.specs.declared.commands.DisturbKind.TheVariants.{Lose, Repeat, Hold}
 use Rattle.ason_base.specs.Network.{Network}
-use Rattle.flood.specs.declared.frames.Content.{Content}
+use Rattle.channel_frames.specs.declared.frames.Content.{Content}
 use Rattle.world_merge.specs.Deeds.{Deed, Handled, Ticked, Took, stamp_of}
 use Rattle.round_rules.specs.Doings.{Did, Doing, Freed, Got, deeds_in}
 use Rattle.round_rules.specs.Held.{HeldFrame}

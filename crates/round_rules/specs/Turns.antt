@@ -3,7 +3,7 @@ use Rattle.std.specs.Prelude.{◌≡◌, ℕ, Bool, true, false, List, [], ◌�
 use Rattle.ason_base.specs.declared.ids.NodeId.{NodeId}
 use Rattle.ason_base.specs.declared.commands.Disturb.{Disturb}
 use Rattle.ason_base.specs.Network.{Network}
-use Rattle.flood.specs.declared.frames.Content.{Content}
+use Rattle.channel_frames.specs.declared.frames.Content.{Content}
 use Rattle.world_merge.specs.Deeds.{Handled, Ticked, Took, alone}
 use Rattle.round_rules.specs.Doings.{Did, Doing, Freed, deeds_in}
 use Rattle.round_rules.specs.Held.{HeldFrame, due_in}

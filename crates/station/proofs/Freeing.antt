@@ -7,7 +7,7 @@ use Rattle.std.specs.List.{AllByRecursion, remove}
 use Rattle.ason_base.specs.declared.commands.Event.{Event}
 use Rattle.ason_base.specs.declared.commands.Event.TheVariants.{Deliver}
 use Rattle.wire_buf.specs.Codecs.{HasOneMeaning}
-use Rattle.flood.specs.Frames.{IsFrame}
+use Rattle.channel_frames.specs.Frames.{IsFrame}
 use Rattle.control_channels.specs.declared.inputs.CoreInput.{CoreInput}
 use Rattle.control_channels.specs.declared.inputs.CoreInput.TheVariants as input
 use Rattle.round_rules.specs.Doings.{Freed, Lost}

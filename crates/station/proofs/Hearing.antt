@@ -9,7 +9,7 @@ use Rattle.std.proofs.lemmas.List.Quantifiers.{position-Some}
 use Rattle.ason_base.specs.declared.commands.Event.TheVariants.{Noise}
 use Rattle.ason_base.specs.declared.ids.NodeId.{NodeId}
 use Rattle.ason_base.proofs.Bridges.{same_node}
-use Rattle.flood.specs.Frames.{SpellsNothing}
+use Rattle.channel_frames.specs.Frames.{SpellsNothing}
 use Rattle.mesh_nodes.specs.LocalNodes.{is_neighbour}
 use Rattle.mesh_rules.specs.LocalNodes.{LocalNode}
 use Rattle.control_channels.specs.declared.frames.Frame.{Frame}

@@ -3,7 +3,7 @@ use Rattle.std.specs.Prelude.{◌≡◌, ◌≤◌, ◌⊎◌, ℕ, suc, true, f
 use Rattle.std.specs.List.{AllZip}
 use Rattle.ason_base.specs.declared.ids.NodeId.{NodeId}
 use Rattle.ason_base.specs.Network.{Network}
-use Rattle.flood.specs.Frames.{SpellsNothing}
+use Rattle.channel_frames.specs.Frames.{SpellsNothing}
 use Rattle.control_channels.specs.declared.inputs.CoreInput.{CoreInput}
 use Rattle.control_channels.specs.declared.inputs.CoreInput.TheVariants as input
 use Rattle.round_rules.specs.Doings.{Doing}

@@ -3,7 +3,7 @@
 ghost use Rattle.std.specs.Prelude.{◌≡◌, ◌<◌, ◌+◌, ◌^◌, [], IfOk, IsSome, IsTrue, OnErr, OnOk, length, position};
 ghost use Rattle.control_channels.specs.Controllers.{IsStep};
 ghost use Rattle.control_channels.specs.declared.inputs.CoreInput.{CoreInput};
-ghost use Rattle.flood.specs.Frames.{SpellsNothing};
+ghost use Rattle.channel_frames.specs.Frames.{SpellsNothing};
 ghost use Rattle.mesh_nodes.specs.LocalNodes.{is_neighbour};
 ghost use Rattle.station.specs.Fits.{PartsFit, state_of};
 ghost use Rattle.station.specs.Noise.{HasHeard};

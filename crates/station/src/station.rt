@@ -14,7 +14,7 @@ ghost use Rattle.station_doings.specs.Turned.{HasMadeTurn, HaveMadeTurns};
 ghost use Rattle.station.specs.Noise.{HasHeard};
 ghost use Rattle.station.specs.Sending.{is_to};
 ghost use Rattle.station.specs.Watched.{IsUnpublished, TellsUpTo, Watches, publishing, shown_of, tables_by};
-ghost use Rattle.flood.specs.Frames.{SpellsNothing};
+ghost use Rattle.channel_frames.specs.Frames.{SpellsNothing};
 
 use crate::desks::Desk;
 use crate::links::{attach, place_of};

@@ -11,7 +11,7 @@ use Rattle.ason_base.specs.declared.commands.Event.TheVariants.{Deliver, Desk, N
 use Rattle.ason_base.specs.Network.{Network}
 use Rattle.wire_buf.specs.Codecs.{HasOneMeaning}
 use Rattle.flood.proofs.Members.{there_map}
-use Rattle.flood.specs.Frames.{IsFrame, SpellsNothing}
+use Rattle.channel_frames.specs.Frames.{IsFrame, SpellsNothing}
 use Rattle.world_merge.specs.Deeds.{Heard}
 use Rattle.mesh_rules.specs.LocalNodes.{LocalNode}
 use Rattle.control_channels.specs.declared.inputs.CoreInput.{CoreInput}

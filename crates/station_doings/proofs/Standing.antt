@@ -7,7 +7,7 @@ use Rattle.ason_base.specs.declared.ids.NodeId.{NodeId}
 use Rattle.ason_base.specs.declared.commands.DisturbKind.TheVariants.{Hold}
 use Rattle.ason_base.specs.declared.commands.Event.TheVariants.{Deliver}
 use Rattle.ason_base.specs.Network.{Network}
-use Rattle.flood.specs.Frames.{IsFrame}
+use Rattle.channel_frames.specs.Frames.{IsFrame}
 use Rattle.control_channels.specs.declared.inputs.CoreInput.TheVariants as input
 use Rattle.world_merge.specs.Deeds.{Handled, Heard, Posted, Ticked, Took}
 use Rattle.station_sound.specs.Links.{LinkView}

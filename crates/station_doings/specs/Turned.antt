@@ -6,10 +6,10 @@ use Rattle.ason_base.specs.declared.ids.NodeId.{NodeId}
 use Rattle.ason_base.specs.Network.{Network}
 use Rattle.ason_base.specs.declared.commands.Disturb.{Disturb}
 use Rattle.ason_base.specs.declared.commands.DisturbKind.TheVariants.{Repeat}
-use Rattle.flood.specs.Frames.{IsFrame}
+use Rattle.channel_frames.specs.Frames.{IsFrame}
 use Rattle.station_sound.specs.declared.parcels.Parcel.{Parcel}
 use Rattle.station_rings.specs.LinkStates.{LinkState}
-use Rattle.flood.specs.declared.frames.Content.{Content}
+use Rattle.channel_frames.specs.declared.frames.Content.{Content}
 use Rattle.round_rules.specs.Doings.{Did, Doing, Freed, Got, Lost}
 use Rattle.round_rules.specs.Functions.{Popped}
 use Rattle.round_rules.specs.Halts.{IsCutTurnOf}

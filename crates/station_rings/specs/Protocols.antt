@@ -1,8 +1,8 @@
 -- What a ring promises of its parcels.
 use Rattle.std.specs.Prelude.{◌<◌, ◌≤◌, List, [], ◌∷◌, ◌++◌}
 use Rattle.std.specs.List.{AllByRecursion}
-use Rattle.flood.specs.declared.frames.Content.{Content}
-use Rattle.flood.specs.Frames.{IsFrame}
+use Rattle.channel_frames.specs.declared.frames.Content.{Content}
+use Rattle.channel_frames.specs.Frames.{IsFrame}
 use Rattle.station_sound.specs.declared.parcels.Parcel.{Parcel}
 
 -- the parcel x has a greater number than y, and no lower stamp

@@ -5,7 +5,7 @@ use Rattle.std.specs.List.{AllByRecursion}
 use Rattle.ason_base.specs.declared.ids.NodeId.{NodeId}
 use Rattle.ason_base.specs.declared.commands.DeskItem.{DeskItem}
 use Rattle.ason_base.specs.Network.{Network}
-use Rattle.flood.specs.Frames.{IsFrame, frame_bytes}
+use Rattle.channel_frames.specs.Frames.{IsFrame, frame_bytes}
 use Rattle.flood.specs.State.{FloodState}
 use Rattle.hop_reliable.proofs.Members.{each-append, each-more}
 use Rattle.mesh_rules.specs.LocalNodes.{LocalNode}

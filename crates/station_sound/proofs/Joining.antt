@@ -6,7 +6,7 @@ use Rattle.std.proofs.lemmas.List.Elements.{All-contains, All-from_recursion, Co
 use Rattle.ason_base.specs.declared.ids.NodeId.{NodeId}
 use Rattle.ason_base.specs.declared.commands.Command.{Command}
 use Rattle.ason_base.specs.Network.{Network, is_node_id}
-use Rattle.flood.specs.declared.frames.Content.{Content}
+use Rattle.channel_frames.specs.declared.frames.Content.{Content}
 use Rattle.world_rules.specs.Worlds.{numbered_at, start}
 use Rattle.world_merge.specs.Deeds.{AreDoable, Deed, Handled, Heard, Posted, Ticked, Took, sent_by, upto}
 use Rattle.world_merge.specs.Histories.{AreGenuine, Histories, IsGenuine, at}

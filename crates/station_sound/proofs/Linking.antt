@@ -7,8 +7,8 @@ use Rattle.std.specs.List.{AllByRecursion, Contains}
 use Rattle.std.proofs.lemmas.List.{length-append}
 use Rattle.ason_base.specs.declared.ids.NodeId.{NodeId}
 use Rattle.ason_base.specs.Network.{Network}
-use Rattle.flood.specs.declared.frames.Content.{Content}
-use Rattle.flood.specs.Frames.{IsFrame, frame_bytes}
+use Rattle.channel_frames.specs.declared.frames.Content.{Content}
+use Rattle.channel_frames.specs.Frames.{IsFrame, frame_bytes}
 use Rattle.flood.specs.State.{FloodState}
 use Rattle.flood.proofs.Members.{there_map}
 use Rattle.hop_reliable.proofs.Members.{each-append, each-more, get_within}

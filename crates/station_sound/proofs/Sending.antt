@@ -6,8 +6,8 @@ use Rattle.std.specs.Prelude.{slice_get, Some}
 use Rattle.std.specs.List.{AllByRecursion}
 use Rattle.std.proofs.lemmas.List.{length-append}
 use Rattle.ason_base.specs.declared.ids.NodeId.{NodeId}
-use Rattle.flood.specs.declared.frames.Content.{Content}
-use Rattle.flood.specs.Frames.{IsFrame, frame_bytes}
+use Rattle.channel_frames.specs.declared.frames.Content.{Content}
+use Rattle.channel_frames.specs.Frames.{IsFrame, frame_bytes}
 use Rattle.hop_reliable.proofs.Members.{each-append}
 use Rattle.control_channels.specs.Frames.{Sending, frames_to}
 use Rattle.world_rules.specs.Standing.{contents_to}

@@ -4,8 +4,8 @@ use Rattle.std.specs.List.{Contains}
 use Rattle.ason_base.specs.declared.ids.NodeId.{NodeId}
 use Rattle.ason_base.specs.Network.{Network}
 use Rattle.wire_buf.specs.Codecs.{HasOneMeaning}
-use Rattle.flood.specs.declared.frames.Content.{Content}
-use Rattle.flood.specs.Frames.{IsFrame}
+use Rattle.channel_frames.specs.declared.frames.Content.{Content}
+use Rattle.channel_frames.specs.Frames.{IsFrame}
 use Rattle.world_rules.specs.Worlds.{numbered_at}
 use Rattle.world_merge.specs.Deeds.{Deed, Handled, Heard, Posted, Ticked, Took, sent_by, stamp_of, upto}
 use Rattle.world_merge.specs.Stamps.{sent_stamp}

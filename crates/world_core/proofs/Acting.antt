@@ -9,7 +9,7 @@ use Rattle.ason_base.specs.Network.{Network, is_distinct, is_node_id}
 use Rattle.mesh_nodes.specs.LocalNodes.{is_neighbour}
 use Rattle.mesh_rules.specs.Events.{has_first}
 use Rattle.mesh_rules.specs.LocalNodes.{LocalNode, local_node}
-use Rattle.flood.specs.Frames.{SpellsNothing}
+use Rattle.channel_frames.specs.Frames.{SpellsNothing}
 use Rattle.world_core.specs.declared.acts.Act.{Act}
 use Rattle.world_core.specs.declared.acts.Act.TheVariants as act
 use Rattle.world_core.specs.Replays.{HasActed, HasStepped, IsDisabled, IsUnable, StandsFor, WorldState}

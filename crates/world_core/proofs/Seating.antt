@@ -7,9 +7,9 @@ use Rattle.ason_base.specs.declared.commands.DeskItem.{DeskItem}
 use Rattle.ason_base.specs.declared.commands.Event.TheVariants as world
 use Rattle.ason_base.specs.declared.messages.Msg.{Msg}
 use Rattle.ason_base.specs.Network.{Network}
-use Rattle.flood.specs.declared.frames.Content.{Content}
-use Rattle.flood.specs.declared.frames.Content.TheVariants.{Message, Flood}
-use Rattle.flood.specs.Frames.{IsFrame, SpellsNothing}
+use Rattle.channel_frames.specs.declared.frames.Content.{Content}
+use Rattle.channel_frames.specs.declared.frames.Content.TheVariants.{Message, Flood}
+use Rattle.channel_frames.specs.Frames.{IsFrame, SpellsNothing}
 use Rattle.flood.specs.State as flood
 use Rattle.flood.specs.State.{FloodState}
 use Rattle.hop_reliable.specs.Schedules.{HopEnd}

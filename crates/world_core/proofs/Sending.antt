@@ -9,8 +9,8 @@ use Rattle.std.proofs.lemmas.Option.{get_or_from_slice_get, slice_get-map}
 use Rattle.ason_base.specs.declared.ids.NodeId.{NodeId}
 use Rattle.ason_base.specs.declared.network.NodeSpec.{NodeSpec}
 use Rattle.ason_base.specs.Network.{Network, are_ends, is_node_id}
-use Rattle.flood.specs.declared.frames.Content.{Content}
-use Rattle.flood.specs.Frames.{IsFrame, frame_bytes}
+use Rattle.channel_frames.specs.declared.frames.Content.{Content}
+use Rattle.channel_frames.specs.Frames.{IsFrame, frame_bytes}
 use Rattle.control_channels.specs.declared.frames.Frame.{Frame}
 use Rattle.control_channels.specs.Frames.{AllSpelled, Sending, frames_to}
 use Rattle.world_core.specs.Channels.{AreSent, ChannelState, HasFrames, IsChangedAt, after_frame, after_frames, channel_to, frame_numbered, leads_to, new_channel, receivers, with_frame}

@@ -5,7 +5,7 @@ use Rattle.ason_base.specs.declared.ids.NodeId.{NodeId}
 use Rattle.ason_base.specs.declared.network.LinkSpec.{LinkSpec}
 use Rattle.ason_base.specs.declared.commands.Entry.{Entry}
 use Rattle.ason_base.specs.Network.{Network, row_of}
-use Rattle.flood.specs.declared.frames.Content.TheVariants.{Flood}
+use Rattle.channel_frames.specs.declared.frames.Content.TheVariants.{Flood}
 use Rattle.flood.specs.declared.messages.FloodMsg.TheVariants.{Row}
 use Rattle.world_rules.specs.WorldRuns.{after}
 use Rattle.world_rules.specs.Worlds.{start}

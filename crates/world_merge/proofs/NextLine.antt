@@ -7,7 +7,7 @@ use Rattle.ason_base.specs.declared.commands.Command.{Command}
 use Rattle.ason_base.specs.declared.commands.Entry.{Entry}
 use Rattle.ason_base.specs.declared.commands.Event.TheVariants.{Post}
 use Rattle.ason_base.specs.Network.{Network}
-use Rattle.flood.specs.declared.frames.Content.{Content}
+use Rattle.channel_frames.specs.declared.frames.Content.{Content}
 use Rattle.mesh_rules.specs.Commands.{is_again, is_valid}
 use Rattle.mesh_rules.specs.Events.{has_first}
 use Rattle.world_rules.specs.Worlds.{World, delivered, frame_at, start, with_event}

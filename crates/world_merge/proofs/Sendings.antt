@@ -3,7 +3,7 @@ use Rattle.std.proofs.Common.{◌≡◌, ℕ, zero, suc, List, ◌++◌, sym, ap
 use Rattle.std.specs.Prelude.{Some}
 use Rattle.ason_base.specs.declared.commands.Entry.{Entry}
 use Rattle.ason_base.specs.Network.{Network}
-use Rattle.flood.specs.declared.frames.Content.{Content}
+use Rattle.channel_frames.specs.declared.frames.Content.{Content}
 use Rattle.hop_reliable.proofs.Members.{get-append_left}
 use Rattle.world_rules.specs.Worlds.{World, numbered_at, start}
 use Rattle.world_merge.specs.Deeds.{Deed, Took, alone, alone_from, sent_by, upto}

@@ -4,7 +4,7 @@ use Rattle.std.proofs.Common.{ap, ◌∙◌, arith}
 use Rattle.std.proofs.lemmas.List.{length-append}
 use Rattle.ason_base.specs.declared.ids.NodeId.{NodeId}
 use Rattle.ason_base.specs.Network.{Network}
-use Rattle.flood.specs.declared.frames.Content.{Content}
+use Rattle.channel_frames.specs.declared.frames.Content.{Content}
 use Rattle.world_rules.specs.Worlds.{World, start}
 use Rattle.world_merge.specs.Deeds.{Deed, alone_from, done, stamp_of}
 use Rattle.world_merge.specs.Stamps.{SentNow, SentStays, sent_stamp_from}

@@ -4,8 +4,8 @@ use Rattle.ason_base.specs.declared.ids.NodeId.{NodeId}
 use Rattle.ason_base.specs.declared.commands.Command.{Command}
 use Rattle.ason_base.specs.declared.commands.Event.TheVariants.{Noise, Tick, Desk, Post}
 use Rattle.ason_base.specs.Network.{Network}
-use Rattle.flood.specs.declared.frames.Content.{Content}
-use Rattle.flood.specs.Frames.{SpellsNothing}
+use Rattle.channel_frames.specs.declared.frames.Content.{Content}
+use Rattle.channel_frames.specs.Frames.{SpellsNothing}
 use Rattle.mesh_rules.specs.Commands.{is_valid, is_again}
 use Rattle.mesh_rules.specs.Events.{has_first}
 use Rattle.world_rules.specs.Worlds.{World, delivered, start, with_event}

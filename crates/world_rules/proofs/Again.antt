@@ -9,7 +9,7 @@ use Rattle.ason_base.specs.declared.messages.Packet.{Packet}
 use Rattle.ason_base.specs.Network.{other_end}
 use Rattle.ason_base.proofs.Ordered.{Rises, in_order-rises}
 use Rattle.ason_base.proofs.RisingNumbers.{nat_order}
-use Rattle.flood.specs.declared.frames.Content.TheVariants.{Message}
+use Rattle.channel_frames.specs.declared.frames.Content.TheVariants.{Message}
 use Rattle.hop_reliable.specs.Hop.{resent}
 use Rattle.mesh_rules.specs.LocalNodes.{LocalNode}
 use Rattle.control_channels.specs.declared.adjacencies.Adjacency.{Adjacency}

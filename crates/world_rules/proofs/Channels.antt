@@ -4,8 +4,8 @@ use Rattle.std.specs.Prelude.{Some}
 use Rattle.std.specs.List.{slice_get}
 use Rattle.ason_base.specs.declared.messages.Msg.{Msg}
 use Rattle.ason_base.specs.declared.messages.Packet.{Packet}
-use Rattle.flood.specs.declared.frames.Content.{Content}
-use Rattle.flood.specs.declared.frames.Content.TheVariants.{Message, Flood}
+use Rattle.channel_frames.specs.declared.frames.Content.{Content}
+use Rattle.channel_frames.specs.declared.frames.Content.TheVariants.{Message, Flood}
 use Rattle.flood.specs.declared.messages.FloodMsg.{FloodMsg}
 use Rattle.hop_reliable.specs.Hop.{answers_to, heard_as, numbered, resent}
 use Rattle.hop_reliable.specs.Schedules.{HopEnd, sends, takes, ticks}

@@ -10,8 +10,8 @@ use Rattle.ason_base.specs.declared.commands.Event.TheVariants.{Deliver, Noise, 
 use Rattle.ason_base.specs.declared.messages.Msg.{Msg}
 use Rattle.ason_base.specs.Network.{Network, is_node_id}
 use Rattle.mesh_rules.specs.Events.{has_first}
-use Rattle.flood.specs.declared.frames.Content.{Content}
-use Rattle.flood.specs.declared.frames.Content.TheVariants.{Message, Flood}
+use Rattle.channel_frames.specs.declared.frames.Content.{Content}
+use Rattle.channel_frames.specs.declared.frames.Content.TheVariants.{Message, Flood}
 use Rattle.world_rules.specs.Worlds.{World, delivered, frame_at, handed_up, handled, start, taken, with_event}
 use Rattle.world_rules.specs.WorldRuns.{IsEnabled, IsRun, after, events_of, is_channel, is_event_of, may_act, posted, step}
 use Rattle.world_rules.specs.WorldLaws.{EventsAreCounted}

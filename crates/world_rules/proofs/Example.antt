@@ -14,9 +14,9 @@ use Rattle.ason_base.specs.Labels.{numbers_from}
 use Rattle.ason_base.specs.Network.{Network}
 use Rattle.mesh_rules.specs.declared.events.MeshEvent.TheVariants.{Take, Desk, Post}
 use Rattle.rsvp_messages.specs.Packets.{Spells}
-use Rattle.flood.specs.declared.frames.Content.{Content}
-use Rattle.flood.specs.declared.frames.Content.TheVariants.{Message, Flood}
-use Rattle.flood.specs.Frames.{SpellsNothing}
+use Rattle.channel_frames.specs.declared.frames.Content.{Content}
+use Rattle.channel_frames.specs.declared.frames.Content.TheVariants.{Message, Flood}
+use Rattle.channel_frames.specs.Frames.{SpellsNothing}
 use Rattle.world_rules.specs.Frames.{packets_of}
 use Rattle.world_rules.specs.Worlds.{World, start}
 use Rattle.world_rules.specs.WorldRuns.{IsEnabled, IsRun, after, step}

@@ -5,7 +5,7 @@ use Rattle.ason_base.specs.declared.network.LinkSpec.{LinkSpec}
 use Rattle.ason_base.specs.declared.commands.Event.{Event}
 use Rattle.ason_base.specs.declared.commands.Event.TheVariants as world
 use Rattle.ason_base.specs.Network.{Network, row_of}
-use Rattle.flood.specs.declared.frames.Content.TheVariants.{Flood}
+use Rattle.channel_frames.specs.declared.frames.Content.TheVariants.{Flood}
 use Rattle.flood.specs.declared.messages.FloodMsg.TheVariants.{Row, Ack}
 use Rattle.flood.specs.State.{pending_count}
 use Rattle.mesh_rules.specs.declared.events.MeshEvent.TheVariants.{Learn, Tick}

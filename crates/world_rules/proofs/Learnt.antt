@@ -8,7 +8,7 @@ use Rattle.ason_base.specs.declared.network.LinkSpec.{LinkSpec}
 use Rattle.ason_base.specs.declared.network.TeRow.{TeRow}
 use Rattle.ason_base.specs.Network.{Network, are_ends, find_link, is_node_id, other_end, row_of, touches}
 use Rattle.ason_base.proofs.Ordered.{there-any}
-use Rattle.flood.specs.declared.frames.Content.TheVariants.{Flood}
+use Rattle.channel_frames.specs.declared.frames.Content.TheVariants.{Flood}
 use Rattle.flood.specs.declared.messages.FloodMsg.{FloodMsg}
 use Rattle.flood.specs.declared.messages.FloodMsg.TheVariants.{Row, Ack}
 use Rattle.flood.specs.NetworkLaws as laws

@@ -1,7 +1,7 @@
 -- What a controller sends is what the ends of a world send.
 use Rattle.std.proofs.Common.{◌≡◌, ℕ, ◌+◌, Bool, true, false, cond, nat_eq, List, [], ◌∷◌, map, refl, sym, ap, ◌∙◌, arith}
 use Rattle.ason_base.specs.declared.tables.Out.{Out}
-use Rattle.flood.specs.declared.frames.Content.TheVariants.{Message}
+use Rattle.channel_frames.specs.declared.frames.Content.TheVariants.{Message}
 use Rattle.hop_reliable.specs.Hop.{HopState, numbered, sent_message}
 use Rattle.hop_reliable.specs.Schedules.{HopEnd, sends}
 use Rattle.mesh_rules.specs.Machine.{sent_to}

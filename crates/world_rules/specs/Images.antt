@@ -6,8 +6,8 @@ use Rattle.ason_base.specs.declared.commands.Event.{Event}
 use Rattle.ason_base.specs.declared.commands.Event.TheVariants as world
 use Rattle.ason_base.specs.Network.{Network}
 use Rattle.ason_base.specs.declared.network.TeRow.{TeRow}
-use Rattle.flood.specs.declared.frames.Content.{Content}
-use Rattle.flood.specs.declared.frames.Content.TheVariants.{Message, Flood}
+use Rattle.channel_frames.specs.declared.frames.Content.{Content}
+use Rattle.channel_frames.specs.declared.frames.Content.TheVariants.{Message, Flood}
 use Rattle.flood.specs.State.{learnt_of, pending_count}
 use Rattle.hop_reliable.specs.Schedules.{under_way}
 use Rattle.mesh_rules.specs.declared.events.MeshEvent.{MeshEvent}

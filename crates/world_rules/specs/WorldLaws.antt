@@ -7,7 +7,7 @@ use Rattle.ason_base.specs.declared.commands.Event.TheVariants.{Deliver, Noise}
 use Rattle.ason_base.specs.declared.network.LinkSpec.{LinkSpec}
 use Rattle.ason_base.specs.declared.network.TeRow.{TeRow}
 use Rattle.ason_base.specs.Network.{IsTopology, Network, find_link, row_of}
-use Rattle.flood.specs.declared.frames.Content.TheVariants.{Message, Flood}
+use Rattle.channel_frames.specs.declared.frames.Content.TheVariants.{Message, Flood}
 use Rattle.flood.specs.declared.messages.FloodMsg.{FloodMsg}
 use Rattle.flood.specs.Networks as floods
 use Rattle.flood.specs.Networks.{FloodEvent, FloodNetwork, begun}

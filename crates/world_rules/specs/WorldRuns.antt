@@ -15,7 +15,7 @@ use Rattle.mesh_rules.specs.Commands.{is_valid, is_again}
 use Rattle.mesh_rules.specs.Events.{has_first, on_first_item}
 use Rattle.mesh_rules.specs.Failures.{all_news, with_group, without_group}
 use Rattle.mesh_rules.specs.LocalNodes.{local_node}
-use Rattle.flood.specs.Frames.{SpellsNothing}
+use Rattle.channel_frames.specs.Frames.{SpellsNothing}
 use Rattle.world_rules.specs.Worlds.{World, commit, delivered, frame_at, ticked, with_event}
 
 -- What is enabled

@@ -5,7 +5,7 @@ use Rattle.std.specs.Vec.Iter.{into_iter_items}
 use Rattle.rsvp_messages.specs.Writable.{IsWritable}
 use Rattle.control_channels.specs.Adjacencies.{sendings_to}
 use Rattle.control_channels.specs.Frames.{AllSpelled, frames_to, sent_frame}
-use Rattle.flood.specs.declared.frames.Content.TheVariants.{Message}
+use Rattle.channel_frames.specs.declared.frames.Content.TheVariants.{Message}
 use Rattle.control_channels.proofs.Spelled.{packet-spelled}
 use Rattle.control_channels.proofs.Writing.{framed-on}
 use Rattle.control_channels.proofs.adjacencies.frame_all.Goals as goal

@@ -1,6 +1,6 @@
 use Rattle.std.proofs.Common.{[], ◌∷◌, ◌++◌, ◌∙◌, ap, subst}
-use Rattle.flood.specs.declared.frames.Content.TheVariants.{Message}
-use Rattle.flood.specs.Frames.{IsFrame}
+use Rattle.channel_frames.specs.declared.frames.Content.TheVariants.{Message}
+use Rattle.channel_frames.specs.Frames.{IsFrame}
 use Rattle.control_channels.specs.declared.frames.Frame.{Frame}
 use Rattle.control_channels.proofs.adjacencies.frame_one.Goals as goal
 

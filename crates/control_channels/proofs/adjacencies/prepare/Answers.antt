@@ -3,8 +3,8 @@ use Rattle.std.specs.Prelude.{position, Some}
 use Rattle.hop_reliable.specs.Hop.{PreparedHop, last_number, numbered, with_next}
 use Rattle.control_channels.specs.Adjacencies.{is_to}
 use Rattle.control_channels.specs.Frames.{sent_frame}
-use Rattle.flood.specs.declared.frames.Content.TheVariants.{Message}
-use Rattle.flood.specs.Frames.{IsFrame}
+use Rattle.channel_frames.specs.declared.frames.Content.TheVariants.{Message}
+use Rattle.channel_frames.specs.Frames.{IsFrame}
 use Rattle.control_channels.proofs.Changing.{hop_there, item_there, next_changed, rest_changed}
 use Rattle.ason_base.proofs.Results.{if_ok, on_both, on_ok}
 use Rattle.control_channels.proofs.adjacencies.prepare.Goals as goal

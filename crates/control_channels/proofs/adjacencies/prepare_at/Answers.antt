@@ -1,8 +1,8 @@
 use Rattle.std.proofs.Common.{◌≡◌, ◌+◌, ◌∙◌, ℕ, List, Some, ap, get_or, set, slice_get, subst}
 use Rattle.std.proofs.lemmas.Option.{get_or_from_slice_get}
 use Rattle.ason_base.proofs.Results.{if_ok, on_err, on_ok}
-use Rattle.flood.specs.declared.frames.Content.TheVariants.{Message}
-use Rattle.flood.specs.Frames.{IsFrame}
+use Rattle.channel_frames.specs.declared.frames.Content.TheVariants.{Message}
+use Rattle.channel_frames.specs.Frames.{IsFrame}
 use Rattle.hop_reliable.specs.Hop.{PreparedHop, last_number, numbered, with_next}
 use Rattle.control_channels.specs.declared.adjacencies.Adjacency.{Adjacency}
 use Rattle.control_channels.specs.Adjacencies.{with_hop}

@@ -1,5 +1,5 @@
 use Rattle.std.proofs.Common.{◌≡◌, true, false, sym, ◌∙◌, ap, arith, subst}
-use Rattle.flood.specs.Frames.{SpellsNothing}
+use Rattle.channel_frames.specs.Frames.{SpellsNothing}
 use Rattle.world_core.specs.declared.acts.Act.TheVariants.{Take}
 use Rattle.world_core.specs.Replays.{HasActed, IsUnable, WorldState}
 use Rattle.world_core.specs.Seats.{is_channel_there}

@@ -4,8 +4,8 @@ use Rattle.ason_base.specs.declared.ids.NodeId.{NodeId}
 use Rattle.rsvp_messages.specs.Packets.{Spells}
 use Rattle.rsvp_messages.specs.Writable as packets
 use Rattle.rsvp_messages.specs.Written.{written}
-use Rattle.flood.specs.declared.frames.Content.{Content}
-use Rattle.flood.specs.declared.frames.Content.TheVariants.{Message, Flood}
+use Rattle.channel_frames.specs.declared.frames.Content.{Content}
+use Rattle.channel_frames.specs.declared.frames.Content.TheVariants.{Message, Flood}
 use Rattle.flood.specs.Messages as floods
 use Rattle.flood.specs.Messages.{SpellsFlood, flood_bytes}
 

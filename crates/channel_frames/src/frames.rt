@@ -4,13 +4,13 @@ ghost use Rattle.std.specs.Prelude.{◌≡◌, ◌∷◌, ◌++◌, OnOk};
 ghost use Rattle.wire_buf.specs.Codecs.{Decodes};
 ghost use Rattle.rsvp_messages.specs.Writable.{IsWritable};
 ghost use Rattle.rsvp_messages.specs.Written.{written};
-ghost use Rattle.flood.specs.Frames.{CanBeWritten, IsFrame, frame_bytes};
-ghost use Rattle.flood.specs.declared.frames.Content.{Content};
+ghost use Rattle.channel_frames.specs.Frames.{CanBeWritten, IsFrame, frame_bytes};
+ghost use Rattle.channel_frames.specs.declared.frames.Content.{Content};
 ghost use Rattle.flood.specs.Messages as floods;
 ghost use Rattle.flood.specs.Messages.{flood_bytes};
 
-use crate::messages::{FloodMsg, append_flood, decode_flood};
 use ason_base::{DecodeError, NodeId, OutOfMemory, Packet};
+use flood::{FloodMsg, append_flood, decode_flood};
 use rsvp_messages::{decode, encode_into, room_for};
 use std::alloc::Global;
 

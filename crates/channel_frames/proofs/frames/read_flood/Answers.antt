@@ -1,7 +1,7 @@
 use Rattle.wire_buf.proofs.Codecs.{decodes_some}
 use Rattle.flood.proofs.Envelopes.{same_error}
-use Rattle.flood.proofs.FrameBodies.{flood_is, flood_once, no_flood}
-use Rattle.flood.proofs.frames.read_flood.Goals as goal
+use Rattle.channel_frames.proofs.FrameBodies.{flood_is, flood_once, no_flood}
+use Rattle.channel_frames.proofs.frames.read_flood.Goals as goal
 
 pub returns-in-Err : goal.returns-in-Err
 returns-in-Err c = record {

@@ -2,10 +2,10 @@
 use Rattle.std.proofs.Common.{◌≡◌, ℕ, ◌==◌, false, List, [], ◌∷◌, ◌∙◌, refl, sym, ap, subst, arith}
 use Rattle.ason_base.specs.declared.messages.Packet.{Packet}
 use Rattle.rsvp_messages.specs.Packets.{Spells}
-use Rattle.flood.specs.declared.frames.Content.{Content}
-use Rattle.flood.specs.declared.frames.Content.TheVariants.{Message, Flood}
+use Rattle.channel_frames.specs.declared.frames.Content.{Content}
+use Rattle.channel_frames.specs.declared.frames.Content.TheVariants.{Message, Flood}
 use Rattle.flood.specs.declared.messages.FloodMsg.{FloodMsg}
-use Rattle.flood.specs.Frames.{IsFrame}
+use Rattle.channel_frames.specs.Frames.{IsFrame}
 use Rattle.flood.specs.Messages.{SpellsFlood}
 
 apart : ◌≡◌ {A = ℕ} 46 89 → ⊥

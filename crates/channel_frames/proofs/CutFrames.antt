@@ -6,13 +6,13 @@ use Rattle.wire_buf.specs.Objects.{number_at}
 use Rattle.rsvp_messages.specs.Headers.{HasHeader}
 use Rattle.rsvp_messages.specs.Packets.{type_of}
 use Rattle.te_tlv.specs.SubTlvs.{IsLinkTlv}
-use Rattle.flood.specs.declared.frames.Content.{Content}
-use Rattle.flood.specs.declared.frames.Content.TheVariants.{Message, Flood}
+use Rattle.channel_frames.specs.declared.frames.Content.{Content}
+use Rattle.channel_frames.specs.declared.frames.Content.TheVariants.{Message, Flood}
 use Rattle.flood.specs.declared.messages.FloodMsg.{FloodMsg}
 use Rattle.flood.specs.declared.messages.FloodMsg.TheVariants.{Row, Ack}
-use Rattle.flood.specs.Frames.{IsFrame}
+use Rattle.channel_frames.specs.Frames.{IsFrame}
 use Rattle.flood.specs.Messages.{SpellsFlood}
-use Rattle.flood.specs.Cuts.{PrefixesSpellNothing}
+use Rattle.channel_frames.specs.Cuts.{PrefixesSpellNothing}
 
 longer : (front back : List ℕ) → back ≢ [] → length front < length (front ++ back)
 longer [] [] some = absurd (some refl)

@@ -1,7 +1,7 @@
 -- Frames that are cut short.
 use Rattle.std.specs.Prelude.{◌≢◌, List, [], ◌++◌, ℕ}
-use Rattle.flood.specs.declared.frames.Content.{Content}
-use Rattle.flood.specs.Frames.{IsFrame, SpellsNothing}
+use Rattle.channel_frames.specs.declared.frames.Content.{Content}
+use Rattle.channel_frames.specs.Frames.{IsFrame, SpellsNothing}
 
 -- a frame that spells something, without its last bytes, spells nothing; so none can be lengthened either
 abbrev pub PrefixesSpellNothing : Type 0

@@ -1,0 +1,2 @@
+pub mod CutFrames
+pub mod FrameBodies

@@ -1,5 +1,0 @@
-use Rattle.flood.proofs.CutFrames.{prefixes_spell_nothing}
-use Rattle.flood.proofs.laws.every_cut.Goals as goal
-
-pub returns : goal.returns
-returns c = prefixes_spell_nothing
