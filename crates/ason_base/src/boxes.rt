@@ -8,7 +8,6 @@ use std::alloc::Global;
 use std::marker::Model;
 
 /// A value in a box, which takes a word where it stands, however large the value is. Contracts see it as the value.
-#[derive(Drop)]
 pub struct Boxed<T> {
     value: Box<T>,
 }
@@ -40,5 +39,11 @@ impl<T: Copied> Copied for Boxed<T> {
     {
         let value = self.value.copy(alloc)?;
         Boxed::new(alloc, value)
+    }
+}
+
+impl<T: Drop> Drop for Boxed<T> {
+    fn drop(self) {
+        let Boxed { value: _ } = self;
     }
 }

@@ -17,7 +17,6 @@ pub enum Group {
 }
 
 /// What an operator asks for.
-#[derive(Drop)]
 pub enum Command {
     /// A call, over the routes that are given, one-way or (`both`) two-way.
     Setup {
@@ -107,6 +106,28 @@ impl Copied for Command {
     }
 }
 
+impl Drop for Command {
+    fn drop(self) {
+        match self {
+            Command::Setup {
+                call: _,
+                from: _,
+                to: _,
+                protected: _,
+                both: _,
+                via: _,
+                backup: _,
+            }
+            | Command::Release { call: _, from: _ }
+            | Command::Protect { call: _, from: _ }
+            | Command::Retry { call: _, from: _ }
+            | Command::Revert { call: _, from: _ }
+            | Command::Fail { group: _ }
+            | Command::Repair { group: _ } => {}
+        }
+    }
+}
+
 /// What stands on a node's desk.
 #[derive(Drop)]
 pub enum DeskItem {
@@ -133,7 +154,6 @@ impl Copied for DeskItem {
 }
 
 /// What happens in a network of controllers.
-#[derive(Drop)]
 pub enum Event {
     /// The frame of this number on the channel from `from` reaches `to`.
     Deliver {
@@ -184,6 +204,26 @@ impl Copied for Event {
                 let command = command.copy(alloc)?;
                 Ok(Event::Post { command })
             }
+        }
+    }
+}
+
+impl Drop for Event {
+    fn drop(self) {
+        match self {
+            Event::Deliver {
+                to: _,
+                from: _,
+                number: _,
+            }
+            | Event::Noise {
+                to: _,
+                from: _,
+                bytes: _,
+            }
+            | Event::Tick { node: _ }
+            | Event::Desk { node: _ }
+            | Event::Post { command: _ } => {}
         }
     }
 }

@@ -8,7 +8,6 @@ use std::alloc::Global;
 use std::marker::Model;
 
 /// A list.
-#[derive(Drop)]
 pub struct Items<T> {
     items: Vec<T>,
 }
@@ -57,7 +56,8 @@ impl<T: Drop> Items<T> {
     pub fn into_vec(self) -> Vec<T>
         ensures { result.items ≡ self }
     {
-        self.items
+        let Items { items } = self;
+        items
     }
 }
 
@@ -78,5 +78,11 @@ impl<T: Copy + Drop> Copied for Items<T> {
     {
         let items = Vec::from_slice(alloc, &self.items)?;
         Ok(Items { items })
+    }
+}
+
+impl<T: Drop> Drop for Items<T> {
+    fn drop(self) {
+        let Items { items: _ } = self;
     }
 }

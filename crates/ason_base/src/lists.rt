@@ -17,7 +17,6 @@ pub type Bytes = Items<u8>;
 pub type Numbers = Items<u32>;
 
 /// A list of SRLG numbers, rising (RFC 4203, section 1.3).
-#[derive(Drop)]
 pub struct Srlgs {
     numbers: Vec<u32>,
 }
@@ -85,5 +84,11 @@ impl Copied for Srlgs {
     {
         let numbers = Vec::from_slice(alloc, &self.numbers)?;
         Ok(Srlgs { numbers })
+    }
+}
+
+impl Drop for Srlgs {
+    fn drop(self) {
+        let Srlgs { numbers: _ } = self;
     }
 }

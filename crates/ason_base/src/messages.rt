@@ -11,7 +11,6 @@ use crate::steps::Steps;
 use std::alloc::Global;
 
 /// What the LSP of a Path is for (PROTECTION, RFC 4872, section 14).
-#[derive(Drop)]
 pub enum PathRole {
     /// A working LSP; `guard` tells whether a backup is to stand beside it.
     Work {
@@ -47,8 +46,20 @@ impl Copied for PathRole {
     }
 }
 
+impl Drop for PathRole {
+    fn drop(self) {
+        match self {
+            PathRole::Work { guard: _ }
+            | PathRole::Back {
+                active: _,
+                work: _,
+                primary: _,
+            } => {}
+        }
+    }
+}
+
 /// A message of RSVP-TE.
-#[derive(Drop)]
 pub enum Msg {
     /// Asks for an LSP, with the labels that the sender's side allows (RFC 3473, section 2).
     Path {
@@ -163,6 +174,47 @@ impl Copied for Msg {
     }
 }
 
+impl Drop for Msg {
+    fn drop(self) {
+        match self {
+            Msg::Path {
+                lsp: _,
+                egress: _,
+                link: _,
+                route: _,
+                set: _,
+                upstream: _,
+                role: _,
+            }
+            | Msg::Resv {
+                lsp: _,
+                egress: _,
+                link: _,
+                label: _,
+            }
+            | Msg::PathTear {
+                lsp: _,
+                egress: _,
+                link: _,
+            }
+            | Msg::PathErr {
+                lsp: _,
+                egress: _,
+                at: _,
+                removed: _,
+                code: _,
+            }
+            | Msg::Notify {
+                lsp: _,
+                egress: _,
+                at: _,
+                link: _,
+                code: _,
+            } => {}
+        }
+    }
+}
+
 /// A message's number on a hop, in the sender's epoch (RFC 2961, section 4.2).
 #[derive(Clone, Copy, PartialEq, Eq, Drop)]
 pub struct MsgId {
@@ -174,11 +226,20 @@ pub struct MsgId {
 pub type Ids = Items<MsgId>;
 
 /// What one frame carries: a message with its number, or none, and acknowledgements (RFC 2961, section 4).
-#[derive(Drop)]
 pub struct Packet {
     pub id: Option<MsgId>,
     pub acks: Ids,
     pub body: Option<Msg>,
+}
+
+impl Packet {
+    /// The acknowledgements, and the message.
+    pub fn into_parts(self) -> (Ids, Option<Msg>)
+        ensures { result ≡ record { 0 = self.acks; 1 = self.body } }
+    {
+        let Packet { id: _, acks, body } = self;
+        (acks, body)
+    }
 }
 
 impl Copied for Packet {
@@ -195,6 +256,16 @@ impl Copied for Packet {
             acks,
             body,
         })
+    }
+}
+
+impl Drop for Packet {
+    fn drop(self) {
+        let Packet {
+            id: _,
+            acks: _,
+            body: _,
+        } = self;
     }
 }
 

@@ -28,7 +28,6 @@ pub struct NodeSpec {
 }
 
 /// A link between two nodes, of which `low` has the lesser number. Each of its two fibres has `labels` labels.
-#[derive(Drop)]
 pub struct LinkSpec {
     pub id: LinkId,
     pub low: NodeId,
@@ -54,8 +53,20 @@ impl Copied for LinkSpec {
     }
 }
 
+impl Drop for LinkSpec {
+    fn drop(self) {
+        let LinkSpec {
+            id: _,
+            low: _,
+            high: _,
+            labels: _,
+            metric: _,
+            srlgs: _,
+        } = self;
+    }
+}
+
 /// A link as routing knows it (RFC 3630, RFC 4203).
-#[derive(Drop)]
 pub struct TeRow {
     pub link: LinkId,
     pub low: NodeId,
@@ -107,6 +118,18 @@ impl Copied for TeRow {
     }
 }
 
+impl Drop for TeRow {
+    fn drop(self) {
+        let TeRow {
+            link: _,
+            low: _,
+            high: _,
+            metric: _,
+            srlgs: _,
+        } = self;
+    }
+}
+
 /// Why nodes and links make no topology. Places count from 0.
 #[derive(Clone, Copy, Debug, Drop)]
 pub enum TopologyFault {
@@ -121,7 +144,6 @@ pub enum TopologyFault {
 }
 
 /// The nodes and links of a network, each in order of number, and the ticks that a call waits before it is restored.
-#[derive(Drop)]
 pub struct Topology {
     wait: u32,
     nodes: Vec<NodeSpec>,
@@ -257,6 +279,16 @@ impl Copied for Topology {
             nodes,
             links,
         })
+    }
+}
+
+impl Drop for Topology {
+    fn drop(self) {
+        let Topology {
+            wait: _,
+            nodes: _,
+            links: _,
+        } = self;
     }
 }
 

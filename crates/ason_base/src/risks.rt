@@ -23,7 +23,6 @@ pub enum Risk {
 }
 
 /// A list of distinct risks, rising.
-#[derive(Drop)]
 pub struct RiskSet {
     risks: Vec<Risk>,
 }
@@ -118,6 +117,12 @@ impl Copied for RiskSet {
     {
         let risks = Vec::from_slice(alloc, &self.risks)?;
         Ok(RiskSet { risks })
+    }
+}
+
+impl Drop for RiskSet {
+    fn drop(self) {
+        let RiskSet { risks: _ } = self;
     }
 }
 

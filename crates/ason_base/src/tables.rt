@@ -21,7 +21,6 @@ fn is_other_fibre(f: Fibre, g: Fibre) -> bool
 }
 
 /// A list of distinct fibres.
-#[derive(Drop)]
 pub struct Fibres {
     fibres: Vec<Fibre>,
 }
@@ -85,8 +84,13 @@ impl Copied for Fibres {
     }
 }
 
+impl Drop for Fibres {
+    fn drop(self) {
+        let Fibres { fibres: _ } = self;
+    }
+}
+
 /// One LSP at one node.
-#[derive(Drop)]
 pub struct Leg {
     pub lsp: Lsp,
     pub egress: NodeId,
@@ -143,8 +147,31 @@ impl Copied for Leg {
     }
 }
 
+impl Drop for Leg {
+    fn drop(self) {
+        let Leg {
+            lsp: _,
+            egress: _,
+            role: _,
+            prev: _,
+            next: _,
+            in_fibre: _,
+            out_fibre: _,
+            offered: _,
+            sent: _,
+            route: _,
+            path_role: _,
+            risks: _,
+            phase: _,
+            in_label: _,
+            out_label: _,
+            back_in: _,
+            back_out: _,
+        } = self;
+    }
+}
+
 /// A call at its ingress (ITU-T G.8080, call controller).
-#[derive(Drop)]
 pub struct CallRec {
     pub call: CallNo,
     pub egress: NodeId,
@@ -186,11 +213,38 @@ impl Copied for CallRec {
     }
 }
 
+impl Drop for CallRec {
+    fn drop(self) {
+        let CallRec {
+            call: _,
+            egress: _,
+            protected: _,
+            backup: _,
+            state: _,
+            work: _,
+            back: _,
+            work_reports: _,
+            back_reports: _,
+            cause: _,
+            ticks: _,
+        } = self;
+    }
+}
+
 /// A message, and the neighbour that it goes to.
-#[derive(Drop)]
 pub struct Out {
     pub to: NodeId,
     pub msg: Msg,
+}
+
+impl Out {
+    /// The neighbour, and the message.
+    pub fn into_parts(self) -> (NodeId, Msg)
+        ensures { result ≡ record { 0 = self.to; 1 = self.msg } }
+    {
+        let Out { to, msg } = self;
+        (to, msg)
+    }
 }
 
 impl Copied for Out {
@@ -199,6 +253,12 @@ impl Copied for Out {
     {
         let msg = self.msg.copy(alloc)?;
         Ok(Out { to: self.to, msg })
+    }
+}
+
+impl Drop for Out {
+    fn drop(self) {
+        let Out { to: _, msg: _ } = self;
     }
 }
 

@@ -14,7 +14,6 @@ use std::alloc::Global;
 use std::marker::Model;
 
 /// The calls that fail, by number from 1, the calls so far and the faults so far.
-#[derive(Drop)]
 struct Failures {
     listed: Vec<u64>,
     calls: u64,
@@ -51,9 +50,18 @@ impl Failures {
     }
 }
 
+impl Drop for Failures {
+    fn drop(self) {
+        let Failures {
+            listed: _,
+            calls: _,
+            faults: _,
+        } = self;
+    }
+}
+
 /// A source that hands out the bytes it was made of. The listed calls fail, and every other hands out as many
 /// bytes as fit.
-#[derive(Drop)]
 pub struct MemSource {
     rest: SureSource,
     failures: Failures,
@@ -127,8 +135,16 @@ impl Source for MemSource {
     }
 }
 
+impl Drop for MemSource {
+    fn drop(self) {
+        let MemSource {
+            rest: _,
+            failures: _,
+        } = self;
+    }
+}
+
 /// A sink that keeps what it takes. The listed calls fail, and so does a call for whose bytes no room is left.
-#[derive(Drop)]
 pub struct MemSink {
     bytes: Vec<u8>,
     room: usize,
@@ -220,5 +236,16 @@ impl Sink for MemSink {
         self.bytes.extend_from_slice(&piece[..n]).unwrap();
         self.room -= n;
         Ok(n)
+    }
+}
+
+impl Drop for MemSink {
+    fn drop(self) {
+        let MemSink {
+            bytes: _,
+            room: _,
+            most: _,
+            failures: _,
+        } = self;
     }
 }

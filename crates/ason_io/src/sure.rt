@@ -11,7 +11,6 @@ use crate::source::{Failed, Source};
 use std::marker::Model;
 
 /// A source that hands out the bytes it was made of, as many as fit at each read, and never fails.
-#[derive(Drop)]
 pub struct SureSource {
     bytes: Vec<u8>,
     at: usize,
@@ -72,6 +71,12 @@ impl Source for SureSource {
         buf[..n].copy_from_slice(&left[..n]);
         self.at += n;
         Ok(n)
+    }
+}
+
+impl Drop for SureSource {
+    fn drop(self) {
+        let SureSource { bytes: _, at: _ } = self;
     }
 }
 

@@ -28,10 +28,15 @@ use std::thread::Threads;
 use table_text::{node_of_name, unknown_text, view_text};
 
 /// A node, and who reads its table.
-#[derive(Drop)]
 struct Watched {
     node: NodeId,
     viewer: Viewer,
+}
+
+impl Drop for Watched {
+    fn drop(self) {
+        let Watched { node: _, viewer: _ } = self;
+    }
 }
 
 // What the viewer reads of its node, of the last table that was published.

@@ -42,106 +42,76 @@ pub fn is_stuck(state: CallState) -> bool
     matches!(state, CallState::Stuck)
 }
 
+// The call in this state for this cause.
+fn in_state(mut call: CallRec, state: CallState, cause: Cause) -> CallRec
+    ensures { result ≡ record call { state = state; cause = cause; ticks = 0 } }
+{
+    call.state = state;
+    call.cause = cause;
+    call.ticks = 0;
+    call
+}
+
 /// The call, without its working LSP and with the cause of that.
-pub fn blocked(alloc: Global, call: CallRec, cause: Cause) -> CallRec
+pub fn blocked(alloc: Global, mut call: CallRec, cause: Cause) -> CallRec
     ensures { result ≡ blocked call cause }
 {
-    CallRec {
-        state: CallState::Blocked,
-        work: None,
-        work_reports: Fibres::new(alloc),
-        cause,
-        ticks: 0,
-        ..call
-    }
+    call.work = None;
+    call.work_reports = Fibres::new(alloc);
+    in_state(call, CallState::Blocked, cause)
 }
 
 /// The call, whose working LSP stands, without a backup.
 pub fn bare(call: CallRec) -> CallRec
     ensures { result ≡ bare call }
 {
-    CallRec {
-        state: CallState::Bare,
-        cause: Cause::Unset,
-        ticks: 0,
-        ..call
-    }
+    in_state(call, CallState::Bare, Cause::Unset)
 }
 
 /// The call, which got no backup for this cause.
-pub fn unbacked(alloc: Global, call: CallRec, cause: Cause) -> CallRec
+pub fn unbacked(alloc: Global, mut call: CallRec, cause: Cause) -> CallRec
     ensures { result ≡ unbacked call cause }
 {
-    CallRec {
-        state: CallState::Bare,
-        back: None,
-        back_reports: Fibres::new(alloc),
-        cause,
-        ticks: 0,
-        ..call
-    }
+    call.back = None;
+    call.back_reports = Fibres::new(alloc);
+    in_state(call, CallState::Bare, cause)
 }
 
 /// The call, whose backup is this LSP and is asked for.
-pub fn pairing(alloc: Global, call: CallRec, back: Lsp) -> CallRec
+pub fn pairing(alloc: Global, mut call: CallRec, back: Lsp) -> CallRec
     ensures { result ≡ pairing call back }
 {
-    CallRec {
-        state: CallState::Pairing,
-        back: Some(back),
-        back_reports: Fibres::new(alloc),
-        cause: Cause::Unset,
-        ticks: 0,
-        ..call
-    }
+    call.back = Some(back);
+    call.back_reports = Fibres::new(alloc);
+    in_state(call, CallState::Pairing, Cause::Unset)
 }
 
 /// The call, whose backup is reserved.
 pub fn guarded(call: CallRec) -> CallRec
     ensures { result ≡ guarded call }
 {
-    CallRec {
-        state: CallState::Guarded,
-        cause: Cause::Unset,
-        ticks: 0,
-        ..call
-    }
+    in_state(call, CallState::Guarded, Cause::Unset)
 }
 
 /// The call, whose backup is being activated.
 pub fn turning(call: CallRec) -> CallRec
     ensures { result ≡ turning call }
 {
-    CallRec {
-        state: CallState::Turning,
-        cause: Cause::Unset,
-        ticks: 0,
-        ..call
-    }
+    in_state(call, CallState::Turning, Cause::Unset)
 }
 
 /// The call, which its backup carries.
 pub fn turned(call: CallRec) -> CallRec
     ensures { result ≡ turned call }
 {
-    CallRec {
-        state: CallState::Turned,
-        cause: Cause::Unset,
-        ticks: 0,
-        ..call
-    }
+    in_state(call, CallState::Turned, Cause::Unset)
 }
 
 /// The call, whose backup can't be activated for this cause.
 pub fn stuck(call: CallRec, cause: Cause) -> CallRec
     ensures { result ≡ stuck call cause }
 {
-    CallRec {
-        state: CallState::Stuck,
-        cause,
-        ticks: 0,
-        ..call
-    }
+    in_state(call, CallState::Stuck, cause)
 }
 
 /// Whether the call was given no backup route.

@@ -78,10 +78,11 @@ const ACKNOWLEDGEMENTS: &[(&[u8], Option<u32>)] = &[
 ];
 
 fn is_read(alloc: Global, bytes: &[u8], acknowledged: Option<u32>) -> bool {
-    match decode_flood(alloc, bytes) {
-        Ok(FloodMsg::Ack { number }) => acknowledged == Some(number),
+    let read = decode_flood(alloc, bytes);
+    match &read {
+        Ok(FloodMsg::Ack { number }) => acknowledged == Some(*number),
         Ok(FloodMsg::Row { .. }) => false,
-        Err(error) => acknowledged.is_none() && error == DecodeError::NotMessage,
+        Err(error) => acknowledged.is_none() && *error == DecodeError::NotMessage,
     }
 }
 

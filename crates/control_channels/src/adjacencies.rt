@@ -20,10 +20,15 @@ use hop_reliable::{Heard, Hop};
 use std::alloc::Global;
 
 /// The hop to one neighbour.
-#[derive(Drop)]
 pub struct Adjacency {
     pub peer: NodeId,
     pub hop: Hop,
+}
+
+impl Drop for Adjacency {
+    fn drop(self) {
+        let Adjacency { peer: _, hop: _ } = self;
+    }
 }
 
 fn place_of(adjacencies: &[Adjacency], n: NodeId) -> Option<usize>
@@ -91,7 +96,7 @@ fn message_in(content: Content) -> Option<Msg>
 {
     match content {
         Content::Message(packet) => {
-            let Packet { body, .. } = packet;
+            let (_, body) = packet.into_parts();
             body
         }
         Content::Flood(_) => None,
@@ -145,7 +150,7 @@ fn prepare_at(
     ensures spelled { IfOk result (λ f. (a : Adjacency) → slice_get adjacencies.old place ≡ Some a →
         IsFrame f.bytes (Content.Message (numbered (last_number a.hop + 1) out.msg))) }
 {
-    let Out { to, msg } = out;
+    let (to, msg) = out.into_parts();
     let adjacency = &mut adjacencies[place];
     prepare_framed(maker, me, to, &mut adjacency.hop, msg)
 }

@@ -19,7 +19,6 @@ pub struct Frame {
 pub type Frames = Items<Frame>;
 
 /// What makes frames: each is written in one buffer that is used again, and its bytes are taken from there.
-#[derive(Drop)]
 pub struct FrameMaker {
     /// Where frames and lists of them get their memory.
     pub alloc: Global,
@@ -48,5 +47,14 @@ impl FrameMaker {
             to,
             bytes: Bytes::from_vec(bytes),
         })
+    }
+}
+
+impl Drop for FrameMaker {
+    fn drop(self) {
+        let FrameMaker {
+            alloc: _,
+            buffer: _,
+        } = self;
     }
 }

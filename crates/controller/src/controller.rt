@@ -23,7 +23,6 @@ use std::marker::Model;
 pub const MOST_STEPS: u64 = 50_000;
 
 /// The controller of one node: the node, a reliable hop to each neighbour, and the rows of links that it floods.
-#[derive(Drop)]
 pub struct Controller {
     maker: FrameMaker,
     node: Node,
@@ -122,5 +121,17 @@ impl Controller {
             hop: pending(&self.adjacencies),
             flood: self.flood.pending(),
         }
+    }
+}
+
+impl Drop for Controller {
+    fn drop(self) {
+        let Controller {
+            maker: _,
+            node: _,
+            adjacencies: _,
+            flood: _,
+            steps: _,
+        } = self;
     }
 }

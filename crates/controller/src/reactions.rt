@@ -204,7 +204,7 @@ fn take_packet(
 {
     let heard = hears(adjacencies, from, &packet);
     acknowledge(maker, node.id(), from, frames, heard, &packet)?;
-    let Packet { acks, body, .. } = packet;
+    let (acks, body) = packet.into_parts();
     let body = handed_up(heard, body);
     hand_up(maker, node, adjacencies, frames, from, body)?;
     take(adjacencies, from, heard, acks.items());

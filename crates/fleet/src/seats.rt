@@ -17,10 +17,15 @@ pub struct End {
 }
 
 /// A node, and the far end of each of its links.
-#[derive(Drop)]
 pub struct Seat {
     pub id: NodeId,
     pub ends: Vec<End>,
+}
+
+impl Drop for Seat {
+    fn drop(self) {
+        let Seat { id: _, ends: _ } = self;
+    }
 }
 
 // The seat of a node: a link from it ends where a link back to it begins.

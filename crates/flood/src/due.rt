@@ -10,7 +10,6 @@ use std::collections::VecDeque;
 
 /// A row that a neighbour hasn't acknowledged, with its number there. `age` counts ticks since its first sending, where 68
 /// counts as 8; before that it is none.
-#[derive(Drop)]
 pub struct Due {
     pub number: u32,
     pub age: Option<u8>,
@@ -29,6 +28,17 @@ impl Copied for Due {
             origin: self.origin,
             row,
         })
+    }
+}
+
+impl Drop for Due {
+    fn drop(self) {
+        let Due {
+            number: _,
+            age: _,
+            origin: _,
+            row: _,
+        } = self;
     }
 }
 

@@ -15,7 +15,6 @@ use std::alloc::Global;
 use std::marker::Model;
 
 /// The known rows of a node, and the rows that each neighbour hasn't acknowledged.
-#[derive(Drop)]
 pub struct Flood {
     me: NodeId,
     known: KnownRows,
@@ -262,6 +261,16 @@ impl Copied for Flood {
             known,
             neighbours,
         })
+    }
+}
+
+impl Drop for Flood {
+    fn drop(self) {
+        let Flood {
+            me: _,
+            known: _,
+            neighbours: _,
+        } = self;
     }
 }
 

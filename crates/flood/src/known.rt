@@ -12,7 +12,6 @@ use std::marker::Model;
 
 /// The known rows, in order of learning. Beside them stand the numbers of their links, rising, and their different ends, so
 /// that neither is looked for among all rows.
-#[derive(Drop)]
 pub struct KnownRows {
     rows: Vec<TeRow>,
     links: Vec<u32>,
@@ -87,6 +86,16 @@ impl Copied for KnownRows {
         let links = Vec::from_slice(alloc, &self.links)?;
         let ends = Vec::from_slice(alloc, &self.ends)?;
         Ok(KnownRows { rows, links, ends })
+    }
+}
+
+impl Drop for KnownRows {
+    fn drop(self) {
+        let KnownRows {
+            rows: _,
+            links: _,
+            ends: _,
+        } = self;
     }
 }
 

@@ -21,7 +21,6 @@ const ROW: u8 = 1;
 const ACK: u8 = 2;
 
 /// A flood message.
-#[derive(Drop)]
 pub enum FloodMsg {
     /// A row, numbered on its channel from 1, as its origin gives it.
     Row {
@@ -33,6 +32,19 @@ pub enum FloodMsg {
     Ack {
         number: u32,
     },
+}
+
+impl Drop for FloodMsg {
+    fn drop(self) {
+        match self {
+            FloodMsg::Row {
+                number: _,
+                origin: _,
+                row: _,
+            }
+            | FloodMsg::Ack { number: _ } => {}
+        }
+    }
 }
 
 /// The number in the four bytes from this place on.

@@ -14,7 +14,6 @@ use std::collections::VecDeque;
 use std::marker::Model;
 
 /// A neighbour, the last number that a row due to it got, and the rows that it hasn't acknowledged, in order of number.
-#[derive(Drop)]
 pub struct FloodNeighbour {
     id: NodeId,
     sent: u32,
@@ -173,6 +172,16 @@ impl Copied for FloodNeighbour {
             sent: self.sent,
             due,
         })
+    }
+}
+
+impl Drop for FloodNeighbour {
+    fn drop(self) {
+        let FloodNeighbour {
+            id: _,
+            sent: _,
+            due: _,
+        } = self;
     }
 }
 

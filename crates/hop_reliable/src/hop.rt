@@ -12,7 +12,6 @@ use std::marker::Model;
 /// One end of a hop to a neighbour: the last number sent, the last handed up, and the messages that the neighbour
 /// hasn't acknowledged, in order of number, with their ages in ticks. Messages can be prepared before they are sent, so that
 /// nothing is refused any more when they are.
-#[derive(Drop)]
 pub struct Hop {
     sent: u32,
     handed_up: u32,
@@ -227,5 +226,16 @@ impl Copied for Hop {
             unacked,
             prepared,
         })
+    }
+}
+
+impl Drop for Hop {
+    fn drop(self) {
+        let Hop {
+            sent: _,
+            handed_up: _,
+            unacked: _,
+            prepared: _,
+        } = self;
     }
 }

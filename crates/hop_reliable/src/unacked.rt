@@ -10,7 +10,6 @@ use ason_base::{Copied, Ids, Msg, MsgId, OutOfMemory, Packet};
 use std::alloc::Global;
 
 /// A message that was sent and not acknowledged. `age` counts ticks since its first sending, where 68 counts as 8.
-#[derive(Drop)]
 pub struct Unacked {
     pub number: u32,
     pub age: u8,
@@ -27,6 +26,16 @@ impl Copied for Unacked {
             age: self.age,
             msg,
         })
+    }
+}
+
+impl Drop for Unacked {
+    fn drop(self) {
+        let Unacked {
+            number: _,
+            age: _,
+            msg: _,
+        } = self;
     }
 }
 

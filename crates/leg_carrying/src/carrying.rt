@@ -20,7 +20,7 @@ use crate::reserving::reserve_new;
 use ason_base::{Lsp, OutOfMemory, Outs, TeRow};
 use leg_table::boxes::{BoxedChange, BoxedLeg, LegEdit};
 use leg_table::legs::{set_leg, take_leg};
-use leg_table::{Calls, Change, NodeTables};
+use leg_table::{Calls, Change, ChangeParts, NodeTables};
 use link_owner::Owner;
 use share_check::Shares;
 use std::alloc::Global;
@@ -191,15 +191,14 @@ pub fn carry_out(
     ensures { IsCarriedOut result tables.old owner.old shares.old calls.old
         tables.new owner.new shares.new calls.new change }
 {
-    let Change {
+    let ChangeParts {
         legs,
         calls: changes,
         numbers,
         down,
         row,
         sent,
-        ..
-    } = change;
+    } = change.into_parts();
     calls.list.reserve(changes.len())?;
     carry_out_tables(calls.alloc, tables, owner, shares, legs, row)?;
     tables.know_down(down);

@@ -8,7 +8,7 @@ use crate::kept::carry_out_kept;
 use ason_base::{OutOfMemory, Outs};
 use leg_carrying::carry_out_tables;
 use leg_table::boxes::LegEdit;
-use leg_table::{Calls, Change, NodeTables};
+use leg_table::{Calls, Change, ChangeParts, NodeTables};
 use link_owner::Owner;
 use mesh_rules::{CallChange, NextNumbers};
 use share_check::Shares;
@@ -19,7 +19,7 @@ fn legs_of(change: Change) -> (Vec<LegEdit>, Outs)
     ensures legs { result.0.items ≡ change.legs }
     ensures sent { result.1 ≡ change.sent }
 {
-    let Change { legs, sent, .. } = change;
+    let ChangeParts { legs, sent, .. } = change.into_parts();
     (legs, sent)
 }
 
@@ -38,13 +38,13 @@ fn legs_and_rest(change: Change) -> (Vec<LegEdit>, Rest)
     ensures numbers { result.1.numbers ≡ change.numbers }
     ensures sent { result.1.sent ≡ change.sent }
 {
-    let Change {
+    let ChangeParts {
         legs,
         calls,
         numbers,
         sent,
         ..
-    } = change;
+    } = change.into_parts();
     (
         legs,
         Rest {

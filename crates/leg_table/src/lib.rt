@@ -6,5 +6,7 @@ pub mod handling;
 pub mod laws;
 
 pub use node_calls::{Calls, call_list};
-pub use node_legs::{Change, NodeTables, PutFault, boxes, changes, labels, legs, one_leg};
+pub use node_legs::{
+    Change, ChangeParts, NodeTables, PutFault, boxes, changes, labels, legs, one_leg,
+};
 pub use table_lists::add_fibre;

@@ -10,7 +10,6 @@ use std::alloc::Global;
 use std::marker::Model;
 
 /// A fibre that comes in, and who has its labels.
-#[derive(Drop)]
 pub struct FibreOwner {
     fibre: Fibre,
     labels: u8,
@@ -154,6 +153,17 @@ impl Copied for FibreOwner {
             claims,
             free: self.free.copy(),
         })
+    }
+}
+
+impl Drop for FibreOwner {
+    fn drop(self) {
+        let FibreOwner {
+            fibre: _,
+            labels: _,
+            claims: _,
+            free: _,
+        } = self;
     }
 }
 

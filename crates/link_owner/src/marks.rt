@@ -13,7 +13,6 @@ use std::marker::Model;
 pub struct Busy(pub Lsp);
 
 /// A fibre that comes in or goes out, with a place for the mark of each label, so that a mark takes no memory.
-#[derive(Drop)]
 pub struct MarkedFibre {
     fibre: Fibre,
     marks: Vec<Option<Lsp>>,
@@ -92,6 +91,12 @@ impl Copied for MarkedFibre {
             fibre: self.fibre,
             marks,
         })
+    }
+}
+
+impl Drop for MarkedFibre {
+    fn drop(self) {
+        let MarkedFibre { fibre: _, marks: _ } = self;
     }
 }
 

@@ -19,7 +19,6 @@ use std::marker::Model;
 
 /// Who has which label of the fibres that come in at a node, and whose backup is activated on each label of its fibres.
 /// The node gives these labels out, and no other does; on those of fibres that go out it has marks alone.
-#[derive(Drop)]
 pub struct Owner {
     fibres: Vec<FibreOwner>,
     lit: Vec<MarkedFibre>,
@@ -180,6 +179,12 @@ impl Copied for Owner {
         let fibres = copy_all(alloc, &self.fibres)?;
         let lit = copy_all(alloc, &self.lit)?;
         Ok(Owner { fibres, lit })
+    }
+}
+
+impl Drop for Owner {
+    fn drop(self) {
+        let Owner { fibres: _, lit: _ } = self;
     }
 }
 

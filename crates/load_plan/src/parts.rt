@@ -21,7 +21,6 @@ const GROUP: Group = Group::Srlg(1);
 const WAITED: u32 = 5;
 
 /// A generated plan and what is done after it. A line is printed after each of the four parts.
-#[derive(Drop)]
 pub struct LoadParts {
     /// The network, the names, and the lines that set the calls up.
     pub plan: Plan,
@@ -31,6 +30,17 @@ pub struct LoadParts {
     pub repaired: Lines,
     /// The lines that wait until the calls are back.
     pub reverted: Lines,
+}
+
+impl Drop for LoadParts {
+    fn drop(self) {
+        let LoadParts {
+            plan: _,
+            failed: _,
+            repaired: _,
+            reverted: _,
+        } = self;
+    }
 }
 
 // The command and a settle, where some link has the group; else nothing.

@@ -27,7 +27,6 @@ fn ends_at(t: &Topology, node: NodeId, link: LinkId) -> bool
 }
 
 /// The network, and the nodes that have had an input.
-#[derive(Drop)]
 pub(crate) struct MeshNodes {
     network: Topology,
     nodes: Vec<Node>,
@@ -209,5 +208,14 @@ impl MeshNodes {
             (λ n. leg_rows n.id (state_at n.id.0 self.now.nodes)) self.now.network.nodes) }
     {
         self.rows_of(alloc, self.network.nodes())
+    }
+}
+
+impl Drop for MeshNodes {
+    fn drop(self) {
+        let MeshNodes {
+            network: _,
+            nodes: _,
+        } = self;
     }
 }

@@ -11,18 +11,32 @@ use mesh_rules::failures::news_of;
 use std::alloc::Global;
 
 /// An item on a node's desk.
-#[derive(Drop)]
 pub(crate) struct Waiting {
     pub(crate) node: NodeId,
     pub(crate) item: DeskItem,
 }
 
+impl Drop for Waiting {
+    fn drop(self) {
+        let Waiting { node: _, item: _ } = self;
+    }
+}
+
 /// A message under way.
-#[derive(Drop)]
 pub(crate) struct Sent {
     pub(crate) from: NodeId,
     pub(crate) to: NodeId,
     pub(crate) msg: Msg,
+}
+
+impl Drop for Sent {
+    fn drop(self) {
+        let Sent {
+            from: _,
+            to: _,
+            msg: _,
+        } = self;
+    }
 }
 
 /// Where the first item of the node's desk stands.
@@ -46,7 +60,7 @@ pub(crate) fn send(mail: &mut Vec<Sent>, from: NodeId, outs: Outs)
     ensures { mail.new.items ≡ mail.old.items ++ map (sent_by from) outs }
 {
     for out in outs.into_vec() {
-        let Out { to, msg } = out;
+        let (to, msg) = out.into_parts();
         match mail.push(Sent { from, to, msg }) {
             Ok(()) => {}
             Err(_) => unreachable!(),

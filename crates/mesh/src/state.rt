@@ -57,7 +57,6 @@ fn is_nothing<T>(items: &[T]) -> bool
 
 /// The mesh of a topology: its nodes, their desks, the messages under way, the calls that were set up, and the groups that have
 /// failed.
-#[derive(Drop)]
 pub struct MeshState {
     nodes: MeshNodes,
     desks: Vec<Waiting>,
@@ -320,5 +319,17 @@ impl MeshState {
             MeshEvent::Learn { node, link } => self.learn(alloc, *node, *link),
             MeshEvent::Post { command } => self.post(alloc, command),
         }
+    }
+}
+
+impl Drop for MeshState {
+    fn drop(self) {
+        let MeshState {
+            nodes: _,
+            desks: _,
+            mail: _,
+            posted: _,
+            failed: _,
+        } = self;
     }
 }

@@ -6,11 +6,20 @@ use ason_base::{CallNo, Fibre, Group, Items, Label};
 pub type CallNos = Items<CallNo>;
 
 /// The calls that the failure of a group would hit: those with a reserved backup, and the others.
-#[derive(Drop)]
 pub struct Hit {
     pub group: Group,
     pub guarded: CallNos,
     pub bare: CallNos,
+}
+
+impl Drop for Hit {
+    fn drop(self) {
+        let Hit {
+            group: _,
+            guarded: _,
+            bare: _,
+        } = self;
+    }
 }
 
 /// Two guarded calls that would contend for a label if both groups failed: the first group hits the

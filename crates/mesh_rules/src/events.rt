@@ -3,7 +3,6 @@
 use ason_base::{Command, LinkId, NodeId};
 
 /// One event of the mesh.
-#[derive(Drop)]
 pub enum MeshEvent {
     /// The first message on the way from `from` to `to` is taken.
     Take { to: NodeId, from: NodeId },
@@ -14,6 +13,18 @@ pub enum MeshEvent {
     Learn { node: NodeId, link: LinkId },
     /// A command is given.
     Post { command: Command },
+}
+
+impl Drop for MeshEvent {
+    fn drop(self) {
+        match self {
+            MeshEvent::Take { to: _, from: _ }
+            | MeshEvent::Desk { node: _ }
+            | MeshEvent::Tick { node: _ }
+            | MeshEvent::Learn { node: _, link: _ }
+            | MeshEvent::Post { command: _ } => {}
+        }
+    }
 }
 
 /// Why an event changed nothing.

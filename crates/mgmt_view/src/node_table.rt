@@ -6,7 +6,6 @@ use ason_base::{Copied, LegRows, OutOfMemory};
 use std::alloc::Global;
 
 /// The legs of a node as the table shows them, after the first so many entries of its log.
-#[derive(Drop)]
 pub struct NodeTable {
     pub entries: u64,
     pub legs: LegRows,
@@ -21,5 +20,14 @@ impl Copied for NodeTable {
             entries: self.entries,
             legs,
         })
+    }
+}
+
+impl Drop for NodeTable {
+    fn drop(self) {
+        let NodeTable {
+            entries: _,
+            legs: _,
+        } = self;
     }
 }

@@ -89,7 +89,6 @@ fn lesser(a: Option<CallNo>, b: Option<CallNo>) -> Option<CallNo>
 }
 
 /// The calls, their working LSPs and their backup LSPs.
-#[derive(Drop)]
 pub struct CallList {
     pub calls: Vec<CallRec>,
     works: Vec<LspOfCall>,
@@ -244,5 +243,15 @@ impl CallList {
             None => None,
             Some(number) => find_call(&self.calls, number),
         }
+    }
+}
+
+impl Drop for CallList {
+    fn drop(self) {
+        let CallList {
+            calls: _,
+            works: _,
+            backs: _,
+        } = self;
     }
 }

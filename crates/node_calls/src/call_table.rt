@@ -14,7 +14,6 @@ use std::alloc::Global;
 use std::marker::Model;
 
 /// The calls of an ingress, and the tunnel and LSP numbers that it gives out next.
-#[derive(Drop)]
 pub struct Calls {
     pub alloc: Global,
     pub list: CallList,
@@ -194,5 +193,16 @@ impl Copied for Calls {
             tunnel: self.tunnel,
             lsp: self.lsp,
         })
+    }
+}
+
+impl Drop for Calls {
+    fn drop(self) {
+        let Calls {
+            alloc: _,
+            list: _,
+            tunnel: _,
+            lsp: _,
+        } = self;
     }
 }

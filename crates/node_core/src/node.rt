@@ -26,7 +26,6 @@ use std::marker::Model;
 
 /// One node: the tables of its links and legs, who has the labels of the fibres that come in, which
 /// risks keep backups off them, and its calls.
-#[derive(Drop)]
 pub struct Node {
     tables: NodeTables,
     owner: Owner,
@@ -179,5 +178,16 @@ impl Copied for Node {
             shares,
             calls,
         })
+    }
+}
+
+impl Drop for Node {
+    fn drop(self) {
+        let Node {
+            tables: _,
+            owner: _,
+            shares: _,
+            calls: _,
+        } = self;
     }
 }

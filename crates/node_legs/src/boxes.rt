@@ -12,7 +12,6 @@ use std::alloc::Global;
 use std::marker::Model;
 
 /// A leg in a box.
-#[derive(Drop)]
 pub struct BoxedLeg {
     leg: Box<Leg>,
 }
@@ -62,7 +61,8 @@ impl BoxedLeg {
     pub fn into_leg(self) -> Leg
         ensures { result ≡ self }
     {
-        Box::into_inner(self.leg)
+        let BoxedLeg { leg } = self;
+        Box::into_inner(leg)
     }
 }
 
@@ -75,6 +75,12 @@ impl Copied for BoxedLeg {
     }
 }
 
+impl Drop for BoxedLeg {
+    fn drop(self) {
+        let BoxedLeg { leg: _ } = self;
+    }
+}
+
 /// What becomes of a leg, which is in a box where it is put.
 #[derive(Drop)]
 pub enum BoxedChange {
@@ -83,7 +89,6 @@ pub enum BoxedChange {
 }
 
 /// A change of a leg, for which memory was taken.
-#[derive(Drop)]
 pub struct LegEdit {
     change: BoxedChange,
 }
@@ -131,6 +136,13 @@ impl LegEdit {
     pub fn into_change(self) -> BoxedChange
         ensures { change_of result ≡ self }
     {
-        self.change
+        let LegEdit { change } = self;
+        change
+    }
+}
+
+impl Drop for LegEdit {
+    fn drop(self) {
+        let LegEdit { change: _ } = self;
     }
 }

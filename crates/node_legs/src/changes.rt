@@ -11,10 +11,9 @@ use mesh_rules::{CallChange, NextNumbers};
 use std::alloc::Global;
 use std::marker::Model;
 
-/// What a rule changes at its node, and what it sends, in order. All else stays.
+/// What a change is made of.
 #[derive(Drop)]
-pub struct Change {
-    alloc: Global,
+pub struct ChangeParts {
     pub legs: Vec<LegEdit>,
     pub calls: Vec<CallChange>,
     pub numbers: Option<NextNumbers>,
@@ -23,7 +22,7 @@ pub struct Change {
     pub sent: Outs,
 }
 
-impl Model for Change {
+impl Model for ChangeParts {
     ghost use Rattle.std.specs.Option.{option_to_list};
     ghost use Rattle.mesh_rules.specs.Changes.{Answer};
 
@@ -39,20 +38,34 @@ impl Model for Change {
     } };
 }
 
+/// What a rule changes at its node, and what it sends, in order. All else stays.
+pub struct Change {
+    alloc: Global,
+    parts: ChangeParts,
+}
+
+impl Model for Change {
+    ghost use Rattle.mesh_rules.specs.Changes.{Answer};
+
+    ghost Value = { Answer };
+
+    ghost view = { λ c. c.parts };
+}
+
 impl Change {
     /// Nothing changes, and nothing is sent.
     pub fn nothing(alloc: Global) -> Change
         ensures { result ≡ nothing }
     {
-        Change {
-            alloc,
+        let parts = ChangeParts {
             legs: Vec::new(alloc),
             calls: Vec::new(alloc),
             numbers: None,
             down: None,
             row: None,
             sent: Outs::new(alloc),
-        }
+        };
+        Change { alloc, parts }
     }
 
     /// The row is learnt, and nothing is sent.
@@ -60,7 +73,7 @@ impl Change {
         ensures { result ≡ learns row }
     {
         let mut change = Change::nothing(alloc);
-        change.row = Some(row);
+        change.parts.row = Some(row);
         change
     }
 
@@ -95,7 +108,7 @@ impl Change {
     pub fn send(&mut self, to: NodeId, msg: Msg) -> Result<(), OutOfMemory>
         ensures { OnOk result (self.new ≡ followed_by self.old (sends (to_node to msg ∷ []))) }
     {
-        self.sent.push(Out { to, msg })
+        self.parts.sent.push(Out { to, msg })
     }
 
     /// Then the leg is put in its place.
@@ -103,7 +116,7 @@ impl Change {
         ensures { OnOk result (self.new ≡ followed_by self.old (puts leg [])) }
     {
         let edit = LegEdit::puts(self.alloc, leg)?;
-        self.legs.push(edit)?;
+        self.parts.legs.push(edit)?;
         Ok(())
     }
 
@@ -111,7 +124,7 @@ impl Change {
     pub fn remove(&mut self, lsp: Lsp) -> Result<(), OutOfMemory>
         ensures { OnOk result (self.new ≡ followed_by self.old (removes lsp [])) }
     {
-        self.legs.push(LegEdit::goes(lsp))?;
+        self.parts.legs.push(LegEdit::goes(lsp))?;
         Ok(())
     }
 
@@ -120,7 +133,7 @@ impl Change {
         ensures { OnOk result
             (self.new ≡ followed_by self.old (changes_calls (calls.Put call ∷ []))) }
     {
-        self.calls.push(CallChange::Put(call))?;
+        self.parts.calls.push(CallChange::Put(call))?;
         Ok(())
     }
 
@@ -129,7 +142,7 @@ impl Change {
         ensures { OnOk result
             (self.new ≡ followed_by self.old (changes_calls (calls.Goes number ∷ []))) }
     {
-        self.calls.push(CallChange::Goes(number))?;
+        self.parts.calls.push(CallChange::Goes(number))?;
         Ok(())
     }
 
@@ -137,20 +150,33 @@ impl Change {
     pub fn use_numbers(&mut self, numbers: NextNumbers)
         ensures { self.new ≡ record self.old { numbers = Some numbers } }
     {
-        self.numbers = Some(numbers);
+        self.parts.numbers = Some(numbers);
     }
 
     /// Then just these fibres are known to be down.
     pub fn know_down(&mut self, fibres: Fibres)
         ensures { self.new ≡ record self.old { down = Some fibres } }
     {
-        self.down = Some(fibres);
+        self.parts.down = Some(fibres);
     }
 
     /// The messages that are sent, in order.
     pub fn sent(&self) -> &Outs
         ensures { result.now ≡ self.now.sent }
     {
-        &self.sent
+        &self.parts.sent
+    }
+
+    pub fn into_parts(self) -> ChangeParts
+        ensures { result ≡ self }
+    {
+        let Change { alloc: _, parts } = self;
+        parts
+    }
+}
+
+impl Drop for Change {
+    fn drop(self) {
+        let Change { alloc: _, parts: _ } = self;
     }
 }

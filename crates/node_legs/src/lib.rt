@@ -8,5 +8,5 @@ pub mod legs;
 pub mod one_leg;
 mod tables;
 
-pub use changes::Change;
+pub use changes::{Change, ChangeParts};
 pub use tables::{NodeTables, PutFault};

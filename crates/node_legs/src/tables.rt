@@ -34,7 +34,6 @@ pub enum PutFault {
 }
 
 /// A node's own links, the rows that it knows, the fibres that it knows to be down, and its legs.
-#[derive(Drop)]
 pub struct NodeTables {
     node: NodeSpec,
     wait: u32,
@@ -271,6 +270,19 @@ impl Copied for NodeTables {
             down,
             legs,
         })
+    }
+}
+
+impl Drop for NodeTables {
+    fn drop(self) {
+        let NodeTables {
+            node: _,
+            wait: _,
+            own: _,
+            rows: _,
+            down: _,
+            legs: _,
+        } = self;
     }
 }
 

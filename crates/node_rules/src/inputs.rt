@@ -3,7 +3,6 @@
 use ason_base::{DeskItem, Msg, NodeId, TeRow};
 
 /// One input of a node.
-#[derive(Drop)]
 pub enum Input {
     /// A message from a neighbour.
     Message { from: NodeId, msg: Msg },
@@ -12,4 +11,13 @@ pub enum Input {
     Tick,
     /// The row of a link that a neighbour knows.
     Learn(TeRow),
+}
+
+impl Drop for Input {
+    fn drop(self) {
+        match self {
+            Input::Message { from: _, msg: _ } | Input::Desk(_) | Input::Tick | Input::Learn(_) =>
+                {}
+        }
+    }
 }

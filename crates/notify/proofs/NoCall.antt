@@ -17,7 +17,7 @@ use Rattle.mesh_rules.specs.Pairs.{route_from}
 use Rattle.mesh_rules.specs.Reports.{fibre_into, reported, reported_on}
 use Rattle.leg_table.specs.States.{legs_state, local_of}
 use Rattle.leg_table.specs.Tables.{LegTable}
-use Rattle.notify.specs.Answers.{pass_answer, passed_back, passed_here, passed_to}
+use Rattle.notify.specs.Answers.{pass_answer, passed_back, passed_here, passed_to, takes_notify}
 
 module _ (t : LegTable) (u : NodeId) (m : Notice) where
   reported-none : (g : Leg) (down : Bool) (o : Option Fibre) → reported_on (legs_state t) g down o ≡ nothing
@@ -53,3 +53,26 @@ pub pass-answer : (t : LegTable) (u : NodeId) (m : Msg) (l : Lsp) (e at : NodeId
 pass-answer t u m l e at k code is =
     subst (λ m. passed_here u code m (find_leg l t.legs) ≡ pass_answer t u m) (sym is)
     (sym (pass-is t u (record { lsp = l; msg = msg.Notify l e at k code; at = at; link = k; code = code })))
+
+passed-to-down : (m : Msg) (o : Option Neighbour) → (passed_to m o).down ≡ None
+passed-to-down m None = refl
+passed-to-down m (Some h) = refl
+
+passed-down : (u : NodeId) (code : ErrCode) (m : Msg) (o : Option Leg) → (passed_here u code m o).down ≡ None
+passed-down u code m None = refl
+passed-down u code m (Some g) = go (takes_notify u code g)
+  where
+    go : (b : Bool) → (cond b (passed_back g m) nothing).down ≡ None
+    go true = passed-to-down m (previous g)
+    go false = refl
+
+-- A Notify that is passed back leaves the fibres that are known to be down.
+pub pass-down : (t : LegTable) (u : NodeId) (m : Msg) → (pass_answer t u m).down ≡ None
+pass-down t u (msg.Path l e k route set up r) = refl
+pass-down t u (msg.Resv l e k x) = refl
+pass-down t u (msg.PathTear l e k) = refl
+pass-down t u (msg.PathErr l e at gone code) = refl
+pass-down t u (msg.Notify l e at k code) =
+    subst (λ a. a.down ≡ None)
+    (pass-answer t u (msg.Notify l e at k code) l e at k code refl)
+    (passed-down u code (msg.Notify l e at k code) (find_leg l t.legs))

@@ -6,12 +6,22 @@ use crate::cert::Cert;
 use ason_base::{OutOfMemory, Steps};
 
 /// The best pair, the sum of its costs, and what shows that none is better.
-#[derive(Drop)]
 pub struct Best {
     pub primary: Steps,
     pub backup: Steps,
     pub total: u32,
     pub cert: Cert,
+}
+
+impl Drop for Best {
+    fn drop(self) {
+        let Best {
+            primary: _,
+            backup: _,
+            total: _,
+            cert: _,
+        } = self;
+    }
 }
 
 /// Why there is no best pair.

@@ -4,12 +4,17 @@ use ason_base::LinkId;
 use route_least::Potentials;
 
 /// What shows that no pair of routes has a lesser total, or that there is none.
-#[derive(Drop)]
 pub struct Cert {
     /// Bounds of the cost from each node to the end.
     pub goal: Potentials,
     /// What stands at the prefix without a step.
     pub tree: Tree,
+}
+
+impl Drop for Cert {
+    fn drop(self) {
+        let Cert { goal: _, tree: _ } = self;
+    }
 }
 
 /// What stands at a prefix of routes.

@@ -47,11 +47,20 @@ impl<'a> Model for Claim<'a> {
 }
 
 /// A place in the tree: the first steps of a route, the node to which they lead, and what they cost.
-#[derive(Drop)]
 struct Place {
     done: Vec<Step>,
     at: NodeId,
     cost: u128,
+}
+
+impl Drop for Place {
+    fn drop(self) {
+        let Place {
+            done: _,
+            at: _,
+            cost: _,
+        } = self;
+    }
 }
 
 fn bound_at(bounds: &Potentials, node: NodeId) -> Option<u32>

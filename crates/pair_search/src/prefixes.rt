@@ -45,11 +45,20 @@ impl<'a> Model for Search<'a> {
 }
 
 /// The first steps of a route, the node to which they lead, and what they cost.
-#[derive(Drop)]
 pub(crate) struct Prefix {
     pub(crate) done: Steps,
     pub(crate) at: NodeId,
     pub(crate) cost: u32,
+}
+
+impl Drop for Prefix {
+    fn drop(self) {
+        let Prefix {
+            done: _,
+            at: _,
+            cost: _,
+        } = self;
+    }
 }
 
 fn bound_of(potentials: &Potentials, node: NodeId) -> Option<u32>

@@ -12,7 +12,6 @@ use std::collections::BTreeMap;
 use std::marker::Model;
 
 /// Calls by their names, each with its ingress, in order of number. A map finds the number of a name.
-#[derive(Drop)]
 pub struct NamedCalls {
     names: Vec<Name>,
     ingresses: Vec<NodeId>,
@@ -101,6 +100,21 @@ impl NamedCalls {
     pub fn into_names(self) -> Names
         ensures { result ≡ self.names }
     {
-        Names::from_vec(self.names)
+        let NamedCalls {
+            names,
+            ingresses: _,
+            places: _,
+        } = self;
+        Names::from_vec(names)
+    }
+}
+
+impl Drop for NamedCalls {
+    fn drop(self) {
+        let NamedCalls {
+            names: _,
+            ingresses: _,
+            places: _,
+        } = self;
     }
 }

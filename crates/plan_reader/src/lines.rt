@@ -3,7 +3,6 @@
 use ason_base::{Bytes, Command, Disturb, Items, NodeId};
 
 /// One line of a script.
-#[derive(Drop)]
 pub enum Line {
     /// Posts a command.
     Post(Command),
@@ -21,6 +20,23 @@ pub enum Line {
     Wait(u32),
     /// Prints the table.
     Show,
+}
+
+impl Drop for Line {
+    fn drop(self) {
+        match self {
+            Line::Post(_)
+            | Line::Disturb(_)
+            | Line::Noise {
+                from: _,
+                to: _,
+                bytes: _,
+            }
+            | Line::Settle(_)
+            | Line::Wait(_)
+            | Line::Show => {}
+        }
+    }
 }
 
 /// A list of lines.

@@ -38,7 +38,6 @@ pub fn is_name(text: &[u8]) -> bool
 }
 
 /// A name: contracts see its text.
-#[derive(Drop)]
 pub struct Name {
     text: String,
 }
@@ -77,8 +76,13 @@ impl Name {
     }
 }
 
+impl Drop for Name {
+    fn drop(self) {
+        let Name { text: _ } = self;
+    }
+}
+
 /// A list of names.
-#[derive(Drop)]
 pub struct Names {
     names: Vec<Name>,
 }
@@ -136,5 +140,11 @@ impl Names {
         ensures { result ≡ has_name self.now name.now }
     {
         self.names.iter().any(|n| n.is(name))
+    }
+}
+
+impl Drop for Names {
+    fn drop(self) {
+        let Names { names: _ } = self;
     }
 }

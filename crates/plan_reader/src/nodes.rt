@@ -22,7 +22,6 @@ use std::marker::Model;
 use toml::Value;
 
 /// Nodes, and their names in the same order.
-#[derive(Drop)]
 pub struct Nodes {
     names: Names,
     nodes: Vec<NodeSpec>,
@@ -75,7 +74,8 @@ impl Nodes {
     pub fn into_names(self) -> Names
         ensures { result ≡ self.names }
     {
-        self.names
+        let Nodes { names, nodes: _ } = self;
+        names
     }
 
     // The id of the last node; 0, which no node has, where there is none.
@@ -86,6 +86,12 @@ impl Nodes {
             None => 0,
             Some(node) => node.id.0,
         }
+    }
+}
+
+impl Drop for Nodes {
+    fn drop(self) {
+        let Nodes { names: _, nodes: _ } = self;
     }
 }
 

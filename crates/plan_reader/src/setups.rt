@@ -22,10 +22,15 @@ use std::alloc::Global;
 // Link ids
 
 /// The link ids of a setup's routes, where these are given.
-#[derive(Drop)]
 pub struct RouteIds {
     via: Option<Numbers>,
     backup: Option<Numbers>,
+}
+
+impl Drop for RouteIds {
+    fn drop(self) {
+        let RouteIds { via: _, backup: _ } = self;
+    }
 }
 
 // The link ids that the word at this place writes, where a place is given.
@@ -205,10 +210,15 @@ fn new_routes(
 }
 
 // What a setup is to be besides its name and its ends.
-#[derive(Drop)]
 pub struct Asked {
     form: SetupForm,
     ids: RouteIds,
+}
+
+impl Drop for Asked {
+    fn drop(self) {
+        let Asked { form: _, ids: _ } = self;
+    }
 }
 
 // The setup between these nodes, or its first fault. Its call is added to the calls.

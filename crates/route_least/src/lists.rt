@@ -14,7 +14,6 @@ pub type LinkIds = Items<LinkId>;
 pub type NodeIds = Items<NodeId>;
 
 /// Nodes with the least cost of a walk that leads there from the start, rising by node. Nodes to which no walk leads aren't there.
-#[derive(Drop)]
 pub struct Potentials {
     entries: Vec<(NodeId, u32)>,
 }
@@ -63,11 +62,22 @@ impl Potentials {
     }
 }
 
+impl Drop for Potentials {
+    fn drop(self) {
+        let Potentials { entries: _ } = self;
+    }
+}
+
 /// What a walk must keep off.
-#[derive(Drop)]
 pub struct Banned {
     /// Links that it must not use.
     pub links: LinkIds,
     /// Nodes that it must not visit after its start.
     pub nodes: NodeIds,
+}
+
+impl Drop for Banned {
+    fn drop(self) {
+        let Banned { links: _, nodes: _ } = self;
+    }
 }

@@ -25,7 +25,6 @@ use ason_base::steps::Steps;
 use std::alloc::Global;
 
 /// The rows of a network, prepared for searches. It is good for as long as the rows are the same.
-#[derive(Drop)]
 pub struct RouteNetwork {
     places: Vec<Place>,
     order: Vec<NodePlace>,
@@ -65,6 +64,15 @@ impl RouteNetwork {
             None => alone(alloc, from, to),
             Some(start) => least_from(alloc, self, start, to, closed, banned),
         }
+    }
+}
+
+impl Drop for RouteNetwork {
+    fn drop(self) {
+        let RouteNetwork {
+            places: _,
+            order: _,
+        } = self;
     }
 }
 

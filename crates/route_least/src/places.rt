@@ -18,10 +18,15 @@ pub(crate) struct Arc {
 }
 
 /// A node, and the rows that have it as an end.
-#[derive(Drop)]
 pub(crate) struct Place {
     pub(crate) node: NodeId,
     pub(crate) arcs: Vec<Arc>,
+}
+
+impl Drop for Place {
+    fn drop(self) {
+        let Place { node: _, arcs: _ } = self;
+    }
 }
 
 /// How many guesses there are of where a node is, by the remainder of its number.

@@ -6,10 +6,18 @@ use ason_base::ids::{LinkId, OutOfMemory};
 use route_least::{Found, Potentials};
 
 /// A primary route and its backup.
-#[derive(Drop)]
 pub struct Pair {
     pub primary: Found,
     pub backup: Found,
+}
+
+impl Drop for Pair {
+    fn drop(self) {
+        let Pair {
+            primary: _,
+            backup: _,
+        } = self;
+    }
 }
 
 /// Why there is no pair.

@@ -15,10 +15,18 @@ use route_least::NodeIds;
 use std::alloc::Global;
 
 /// The rows that are closed to a backup, by their place in the list, and the nodes that it mustn't visit after its start.
-#[derive(Drop)]
 pub(crate) struct Bans {
     pub(crate) closed: Vec<bool>,
     pub(crate) nodes: NodeIds,
+}
+
+impl Drop for Bans {
+    fn drop(self) {
+        let Bans {
+            closed: _,
+            nodes: _,
+        } = self;
+    }
 }
 
 /// The rows that have a risk of the primary route, and its inner nodes.

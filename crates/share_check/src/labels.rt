@@ -14,7 +14,6 @@ use std::alloc::Global;
 use std::marker::Model;
 
 /// A label of a fibre, and the risks that are guarded on it.
-#[derive(Drop)]
 pub struct LabelGuards {
     fibre: Fibre,
     label: Label,
@@ -109,5 +108,15 @@ impl Copied for LabelGuards {
             label: self.label,
             guarded,
         })
+    }
+}
+
+impl Drop for LabelGuards {
+    fn drop(self) {
+        let LabelGuards {
+            fibre: _,
+            label: _,
+            guarded: _,
+        } = self;
     }
 }

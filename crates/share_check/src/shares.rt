@@ -12,7 +12,6 @@ use std::marker::Model;
 
 /// The risks that keep backups off labels. Backups may share a label where their primaries have no risk in common, so
 /// that no failure of one risk needs the label for both.
-#[derive(Drop)]
 pub struct Shares {
     labels: Vec<LabelGuards>,
 }
@@ -97,6 +96,12 @@ impl Copied for Shares {
     {
         let labels = copy_all(alloc, &self.labels)?;
         Ok(Shares { labels })
+    }
+}
+
+impl Drop for Shares {
+    fn drop(self) {
+        let Shares { labels: _ } = self;
     }
 }
 

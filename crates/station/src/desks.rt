@@ -11,7 +11,6 @@ use std::marker::Model;
 const LEAST_ROOM: usize = 4;
 
 /// Items, the oldest first.
-#[derive(Drop)]
 pub struct Desk {
     items: VecDeque<DeskItem>,
 }
@@ -98,5 +97,11 @@ impl Desk {
         ensures { result ≡ length self.now.items }
     {
         self.items.len()
+    }
+}
+
+impl Drop for Desk {
+    fn drop(self) {
+        let Desk { items: _ } = self;
     }
 }

@@ -22,7 +22,6 @@ use station_rings::{Head, Link};
 const MOST_LINES: usize = 50_000;
 
 /// A controller, the desk of its node, a link to each neighbour, and what was made so far.
-#[derive(Drop)]
 pub(crate) struct Parts {
     pub(crate) me: NodeId,
     pub(crate) controller: Controller,
@@ -33,6 +32,22 @@ pub(crate) struct Parts {
     pub(crate) held: Vec<HeldParcel>,
     pub(crate) lines: Vec<Disturb>,
     pub(crate) answer: Turn,
+}
+
+impl Drop for Parts {
+    fn drop(self) {
+        let Parts {
+            me: _,
+            controller: _,
+            desk: _,
+            links: _,
+            clock: _,
+            log: _,
+            held: _,
+            lines: _,
+            answer: _,
+        } = self;
+    }
 }
 
 /// Whether the log has room for a line, and a stamp is left above this one.

@@ -23,7 +23,6 @@ type Out = Producer<Parcel, Global, Rising>;
 type Into = Consumer<Parcel, Global, Rising>;
 
 /// The channel to a neighbour, and the one from it.
-#[derive(Drop)]
 pub struct Link {
     peer: NodeId,
     sent: u64,
@@ -235,6 +234,20 @@ impl Link {
         ensures { result ≡ length self.now.early + length (known_items self.now.into) }
     {
         self.early.len() + self.into.cached_slots()
+    }
+}
+
+impl Drop for Link {
+    fn drop(self) {
+        let Link {
+            peer: _,
+            sent: _,
+            standing: _,
+            out: _,
+            backlog: _,
+            into: _,
+            early: _,
+        } = self;
     }
 }
 

@@ -12,7 +12,6 @@ use mesh_rules::failures::is_cut;
 use std::alloc::Global;
 
 /// A group, and the links that fail with it.
-#[derive(Drop)]
 pub(crate) struct GroupLinks {
     pub(crate) group: Group,
     pub(crate) links: Items<LinkId>,
@@ -27,6 +26,12 @@ impl Copied for GroupLinks {
             group: self.group,
             links,
         })
+    }
+}
+
+impl Drop for GroupLinks {
+    fn drop(self) {
+        let GroupLinks { group: _, links: _ } = self;
     }
 }
 

@@ -11,8 +11,16 @@ pub type Hits = Items<Hit>;
 pub type Contends = Items<Contend>;
 
 /// What fails together, and who would contend.
-#[derive(Drop)]
 pub struct Survey {
     pub hits: Hits,
     pub contends: Contends,
+}
+
+impl Drop for Survey {
+    fn drop(self) {
+        let Survey {
+            hits: _,
+            contends: _,
+        } = self;
+    }
 }

@@ -14,7 +14,6 @@ use ason_base::{
 use std::alloc::Global;
 
 /// A label of a fibre, and the guarded calls whose backups take it, in order.
-#[derive(Drop)]
 pub(crate) struct Slot {
     pub(crate) fibre: Fibre,
     pub(crate) label: Label,
@@ -31,6 +30,16 @@ impl Copied for Slot {
             label: self.label,
             takers: Items::from_vec(takers),
         })
+    }
+}
+
+impl Drop for Slot {
+    fn drop(self) {
+        let Slot {
+            fibre: _,
+            label: _,
+            takers: _,
+        } = self;
     }
 }
 

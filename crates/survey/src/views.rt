@@ -17,7 +17,6 @@ use ason_base::{
 use std::alloc::Global;
 
 /// A call, the Live legs of its working LSP, and the legs of its backup.
-#[derive(Drop)]
 pub(crate) struct CallView {
     pub(crate) call: CallRow,
     pub(crate) live: LegRows,
@@ -35,6 +34,16 @@ impl Copied for CallView {
             live,
             backup,
         })
+    }
+}
+
+impl Drop for CallView {
+    fn drop(self) {
+        let CallView {
+            call: _,
+            live: _,
+            backup: _,
+        } = self;
     }
 }
 

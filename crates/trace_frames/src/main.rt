@@ -9,12 +9,12 @@ ghost use Rattle.trace_frames.specs.Told.{IsTold};
 
 mod told;
 
-use ason_base::{Entry, Event, OutOfMemory};
+use ason_base::{Copied, Entry, Event, OutOfMemory};
 use ason_io::{Sink, Source, StdSink, StdSource, read_all, write_all};
 use std::alloc::Global;
 use std::process::ExitCode;
 use told::frames_text;
-use trace_text::{Entries, TraceFault, read_trace};
+use trace_text::{TraceFault, read_trace};
 use world_core::{ReplayError, replay};
 
 /// The most bytes of a trace.
@@ -64,12 +64,12 @@ impl From<ReplayError> for Fault {
 }
 
 // The events of the entries, in order.
-fn events_of(alloc: Global, entries: Entries) -> Result<Vec<Event>, OutOfMemory>
-    ensures { IfOk result (λ events. events.items ≡ map (λ e. e.event) entries) }
+fn events_of(alloc: Global, entries: &[Entry]) -> Result<Vec<Event>, OutOfMemory>
+    ensures { IfOk result (λ events. events.items ≡ map (λ e. e.event) entries.now) }
 {
     let mut events = Vec::new(alloc);
-    for entry in entries.into_vec() {
-        let Entry { event, .. } = entry;
+    for entry in entries {
+        let event = entry.event.copy(alloc)?;
         events.push(event)?;
     }
     Ok(events)
@@ -80,7 +80,7 @@ fn lines_of(alloc: Global, bytes: &[u8]) -> Result<Vec<u8>, Fault>
     ensures { IfOk result (λ text. IsTold bytes.now text.items) }
 {
     let trace = read_trace(alloc, bytes)?;
-    let events = events_of(alloc, trace.entries)?;
+    let events = events_of(alloc, trace.entries.items())?;
     let world = replay(alloc, &trace.plan.topology, &events)?;
     let text = frames_text(alloc, &trace.plan, &world, &events)?;
     Ok(text)

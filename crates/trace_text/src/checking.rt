@@ -26,13 +26,24 @@ use world_core::{ReplayError, migrate, replay};
 
 /// What is told of a trace: its version, how many events its run has, how many of the trace are left out of it, the
 /// plan, and the rows of the run's table. In version 2 none is left out.
-#[derive(Drop)]
 pub struct Checked {
     pub version: u8,
     pub events: u64,
     pub left_out: u64,
     pub plan: Plan,
     pub rows: TableRows,
+}
+
+impl Drop for Checked {
+    fn drop(self) {
+        let Checked {
+            version: _,
+            events: _,
+            left_out: _,
+            plan: _,
+            rows: _,
+        } = self;
+    }
 }
 
 /// What is found of the lines of a trace: how many events their run has, how many are left out of it, and the rows of

@@ -18,13 +18,24 @@ pub type Entries = Items<Entry>;
 
 /// A trace: its version, which is 1 or 2, the bytes of its plan, the plan, the entries, and the text between the lines
 /// `table` and `end`.
-#[derive(Drop)]
 pub struct Trace {
     pub version: u8,
     pub plan_bytes: Bytes,
     pub plan: Plan,
     pub entries: Entries,
     pub table: Bytes,
+}
+
+impl Drop for Trace {
+    fn drop(self) {
+        let Trace {
+            version: _,
+            plan_bytes: _,
+            plan: _,
+            entries: _,
+            table: _,
+        } = self;
+    }
 }
 
 /// Why bytes aren't a trace.

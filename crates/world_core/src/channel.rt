@@ -14,7 +14,6 @@ use std::alloc::Global;
 use std::marker::Model;
 
 /// All that was ever sent from a node to another, the oldest first. Nothing is taken off.
-#[derive(Drop)]
 pub struct Channel {
     to: NodeId,
     frames: Vec<Bytes>,
@@ -61,6 +60,12 @@ impl Channel {
         } else {
             self.frames.get((number - 1) as usize)
         }
+    }
+}
+
+impl Drop for Channel {
+    fn drop(self) {
+        let Channel { to: _, frames: _ } = self;
     }
 }
 

@@ -13,10 +13,18 @@ use std::alloc::Global;
 pub type Events = Items<Event>;
 
 /// The events that were kept, and how many were left out.
-#[derive(Drop)]
 pub struct Migrated {
     pub events: Events,
     pub left_out: u64,
+}
+
+impl Drop for Migrated {
+    fn drop(self) {
+        let Migrated {
+            events: _,
+            left_out: _,
+        } = self;
+    }
 }
 
 // The event is kept too.

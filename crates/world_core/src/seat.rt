@@ -22,7 +22,6 @@ use std::collections::VecDeque;
 use std::marker::Model;
 
 /// A node's controller, its desk, and the channels that lead from it.
-#[derive(Drop)]
 pub struct WorldSeat {
     node: NodeId,
     controller: Controller,
@@ -218,5 +217,16 @@ impl WorldSeat {
     {
         let pending = self.controller.pending();
         self.desk.is_empty() && pending.hop == 0 && pending.flood == 0
+    }
+}
+
+impl Drop for WorldSeat {
+    fn drop(self) {
+        let WorldSeat {
+            node: _,
+            controller: _,
+            desk: _,
+            channels: _,
+        } = self;
     }
 }

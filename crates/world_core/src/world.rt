@@ -30,7 +30,6 @@ use std::marker::Model;
 
 /// The controllers of a network with their desks, all that was ever sent on each channel, the call numbers of the setups that
 /// were posted, and the groups that have failed.
-#[derive(Drop)]
 pub struct World {
     seats: Vec<WorldSeat>,
     posted: Vec<CallNo>,
@@ -282,5 +281,15 @@ impl World {
         ensures { TellsQuiet self.now result }
     {
         are_quiet(&self.seats)
+    }
+}
+
+impl Drop for World {
+    fn drop(self) {
+        let World {
+            seats: _,
+            posted: _,
+            failed: _,
+        } = self;
     }
 }

@@ -19,8 +19,10 @@ put-there xs i d a h f made found =
 
 pub returns-clause-ok : goal.returns-clause-ok
 returns-clause-ok c =
+    let there = get_or c.args.adjacencies.now c.args.place c.index-adjacencies-place.result in
     on_ok c.prepare_framed.result _ _ (λ made a found. put-there c.args.adjacencies.now c.args.place
-    c.index-adjacencies-place.result a c.prepare_framed.new.hop (λ h. with_next h c.args.out.msg) made found)
+    c.index-adjacencies-place.result a c.prepare_framed.new.hop (λ h. with_next h c.args.out.msg)
+    (subst (λ parts. c.prepare_framed.new.hop ≡ with_next there.hop parts.1) c.into_parts-msg.ensures made) found)
     c.prepare_framed.ensures.ok
 
 pub returns-clause-err : goal.returns-clause-err
@@ -30,12 +32,19 @@ returns-clause-err c =
 
 pub returns-clause-frame : goal.returns-clause-frame
 returns-clause-frame c =
-    if_ok c.prepare_framed.result _ _ (λ f is a found. is ∙ ap (λ (b : Adjacency). sent_frame c.args.me c.args.out.to
+    let there = get_or c.args.adjacencies.now c.args.place c.index-adjacencies-place.result in
+    if_ok c.prepare_framed.result _ _ (λ f is a found. is
+    ∙ ap (λ parts. sent_frame c.args.me parts.0 (Message (numbered (last_number there.hop + 1) parts.1)))
+    c.into_parts-msg.ensures
+    ∙ ap (λ (b : Adjacency). sent_frame c.args.me c.args.out.to
     (Message (numbered (last_number b.hop + 1) c.args.out.msg))) (get_or_from_slice_get c.args.adjacencies.now
     c.args.place a c.index-adjacencies-place.result found)) c.prepare_framed.ensures.frame
 
 pub returns-clause-spelled : goal.returns-clause-spelled
 returns-clause-spelled c =
+    let there = get_or c.args.adjacencies.now c.args.place c.index-adjacencies-place.result in
     if_ok c.prepare_framed.result _ _ (λ f spells a found. subst (λ (b : Adjacency). IsFrame f.bytes
     (Message (numbered (last_number b.hop + 1) c.args.out.msg))) (get_or_from_slice_get c.args.adjacencies.now
-    c.args.place a c.index-adjacencies-place.result found) spells) c.prepare_framed.ensures.spelled
+    c.args.place a c.index-adjacencies-place.result found)
+    (subst (λ parts. IsFrame f.bytes (Message (numbered (last_number there.hop + 1) parts.1)))
+    c.into_parts-msg.ensures spells)) c.prepare_framed.ensures.spelled

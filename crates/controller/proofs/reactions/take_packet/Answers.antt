@@ -2,7 +2,7 @@ use Rattle.std.proofs.Common.{◌+◌, ◌<◌, ◌^◌, ◌++◌, cond, nat_eq,
 use Rattle.ason_base.specs.declared.ids.NodeId.{NodeId}
 use Rattle.hop_reliable.specs.Hop.{HopState}
 use Rattle.control_channels.specs.Adjacencies.{prepared_at, taken_by}
-use Rattle.control_channels.specs.Controllers.{acks_to}
+use Rattle.control_channels.specs.Controllers.{acks_to, handed_body}
 use Rattle.control_channels.specs.Frames.{AllSpelled, frames_to}
 use Rattle.control_channels.proofs.Resting.{same-hop, same-reach}
 use Rattle.controller.proofs.Taking.{took-becomes, took-frames, took-spelled}
@@ -25,9 +25,11 @@ returns-clause-becomes c =
     took-becomes c.args.node.now c.hand_up.new.node c.args.adjacencies.now mid c.take.new.adjacencies _ c.args.from
     c.hears-heard.result c.args.packet c.handed_up-body.result
     c.hears-heard.ensures.heard
-    c.handed_up-body.ensures.handed c.in_ok-hand_up.ensures.hops c.in_ok-hand_up.ensures.rest
+    (c.handed_up-body.ensures.handed ∙ ap (λ parts. handed_body c.hears-heard.result parts.1) c.into_parts-acks.ensures)
+    c.in_ok-hand_up.ensures.hops c.in_ok-hand_up.ensures.rest
     (λ d. c.take.ensures.hops d ∙ ap (λ acks. cond (nat_eq d c.args.from.0)
-    (taken_by c.hears-heard.result acks (prepared_at mid d)) (prepared_at mid d)) c.items.ensures)
+    (taken_by c.hears-heard.result acks (prepared_at mid d)) (prepared_at mid d))
+    (c.items.ensures ∙ ap (λ parts. parts.0) c.into_parts-acks.ensures))
     c.take.ensures.peers c.commit_all.ensures c.in_ok-hand_up.ensures.place c.in_ok-hand_up.ensures.node
 
 pub returns-clause-frames : goal.returns-clause-frames
@@ -36,9 +38,11 @@ returns-clause-frames c =
     took-frames c.args.node.now c.hand_up.new.node c.args.adjacencies.now mid c.take.new.adjacencies _ c.args.from
     c.hears-heard.result c.args.packet c.handed_up-body.result
     c.hears-heard.ensures.heard
-    c.handed_up-body.ensures.handed c.in_ok-hand_up.ensures.hops c.in_ok-hand_up.ensures.rest
+    (c.handed_up-body.ensures.handed ∙ ap (λ parts. handed_body c.hears-heard.result parts.1) c.into_parts-acks.ensures)
+    c.in_ok-hand_up.ensures.hops c.in_ok-hand_up.ensures.rest
     (λ d. c.take.ensures.hops d ∙ ap (λ acks. cond (nat_eq d c.args.from.0)
-    (taken_by c.hears-heard.result acks (prepared_at mid d)) (prepared_at mid d)) c.items.ensures)
+    (taken_by c.hears-heard.result acks (prepared_at mid d)) (prepared_at mid d))
+    (c.items.ensures ∙ ap (λ parts. parts.0) c.into_parts-acks.ensures))
     c.take.ensures.peers c.commit_all.ensures
     c.args.frames.now.items c.acknowledge.new.frames.items c.hand_up.new.frames.items
     (c.in_ok-acknowledge.ensures.frames ∙ ap (λ (n : NodeId). c.args.frames.now.items ++
@@ -51,9 +55,11 @@ returns-clause-spelled c =
     took-spelled c.args.node.now c.hand_up.new.node c.args.adjacencies.now mid c.take.new.adjacencies _ c.args.from
     c.hears-heard.result c.args.packet c.handed_up-body.result
     c.hears-heard.ensures.heard
-    c.handed_up-body.ensures.handed c.in_ok-hand_up.ensures.hops c.in_ok-hand_up.ensures.rest
+    (c.handed_up-body.ensures.handed ∙ ap (λ parts. handed_body c.hears-heard.result parts.1) c.into_parts-acks.ensures)
+    c.in_ok-hand_up.ensures.hops c.in_ok-hand_up.ensures.rest
     (λ d. c.take.ensures.hops d ∙ ap (λ acks. cond (nat_eq d c.args.from.0)
-    (taken_by c.hears-heard.result acks (prepared_at mid d)) (prepared_at mid d)) c.items.ensures)
+    (taken_by c.hears-heard.result acks (prepared_at mid d)) (prepared_at mid d))
+    (c.items.ensures ∙ ap (λ parts. parts.0) c.into_parts-acks.ensures))
     c.take.ensures.peers c.commit_all.ensures
     (subst (λ (n : NodeId). AllSpelled n (acks_to c.args.from c.hears-heard.result c.args.packet)) c.id.ensures
     c.in_ok-acknowledge.ensures.spelled)
