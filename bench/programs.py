@@ -2,6 +2,7 @@
 
 import ctypes
 import os
+import shutil
 import signal
 import subprocess
 import sys
@@ -9,9 +10,14 @@ import tempfile
 import time
 from dataclasses import dataclass
 from functools import cached_property
+from pathlib import Path
 
 HERE = os.path.dirname(os.path.realpath(__file__))
 TOP = os.path.dirname(HERE)
+
+# What the program that is timed uses, and what of a crate is proved and built.
+TIMES_USES = ["ason_base", "te_tlv", "hop_reliable", "wire_buf", "byteorder", "flood", "route_least", "route_pair", "pair_search"]
+PARTS = ("src", "specs", "proofs")
 
 # From <linux/prctl.h>.
 PR_SET_CHILD_SUBREAPER = 36
@@ -31,21 +37,62 @@ def ason():
     return os.path.join(TOP, "out", "ason")
 
 
-def of_crate(name):
-    """The path of the program of a crate beside `ason`."""
-    folder = os.path.join(TOP, "crates", name)
-    program = os.path.join(folder, "out", name)
-    if not os.access(program, os.X_OK):
-        print(f"{name}: building, which takes some minutes", file=sys.stderr)
-        quiet = {"stdin": subprocess.DEVNULL, "stdout": subprocess.DEVNULL, "stderr": subprocess.DEVNULL}
-        subprocess.run(["rt", "run"], cwd=folder, check=False, **quiet)
-    if not os.access(program, os.X_OK):
-        sys.exit(f"{program} can't be built: rt run in {folder} shows why")
-    return program
+def crates_below(names: list[str]) -> dict[str, str]:
+    """The lines of crates.txt for these crates and those that they use."""
+    lines = [line for line in (Path(TOP) / "crates.txt").read_text().splitlines() if line.strip() and not line.startswith("#")]
+    uses = {line.split(":")[0].split()[0]: line for line in lines}
+    wanted, left = {}, list(names)
+    while left:
+        name = left.pop()
+        if name in uses and name not in wanted:
+            wanted[name] = uses[name]
+            left += uses[name].split(":")[1].split()
+    return wanted
 
 
-def bench_times():
-    return of_crate("bench_times")
+def lay_out(folder: Path, name: str, source: Path, uses: list[str], parts: tuple[str, ...]) -> Path:
+    """Makes a repository of a program beside the crates and of those that it uses, and gives the program's folder in it.
+
+    Of the crates come these parts alone. The program's sources end in `.txt` here, so that no check takes them for a crate's.
+    """
+    below = crates_below(uses)
+    for crate in below:
+        for part in parts:
+            if (there := Path(TOP) / "crates" / crate / part).is_dir():
+                shutil.copytree(there, folder / "crates" / crate / part)
+    (folder / "crates.txt").write_text("".join(f"{line}\n" for line in [*below.values(), f"{name}: {' '.join(uses)}"]))
+    (folder / ".git").mkdir()
+    room = folder / "crates" / name
+    for file in source.rglob("*"):
+        if file.is_file():
+            to = room / file.relative_to(source)
+            to.parent.mkdir(parents=True, exist_ok=True)
+            shutil.copy(file, to.with_suffix("") if to.suffix == ".txt" else to)
+    return room
+
+
+def newest(folders: list[Path]) -> float:
+    """When the last of the files below these folders was changed."""
+    return max(file.stat().st_mtime for folder in folders for file in folder.rglob("*") if file.is_file())
+
+
+def bench_times() -> str:
+    """The path of the program that floods and that searches routes, proved and built first where its sources are newer."""
+    program, source = Path(TOP) / "out" / "bench_times", Path(HERE) / "times_program"
+    sources = [source, *(Path(TOP) / "crates" / crate / part for crate in crates_below(TIMES_USES) for part in PARTS)]
+    if program.is_file() and program.stat().st_mtime > newest(sources):
+        return str(program)
+    print("bench_times: building, which takes some minutes", file=sys.stderr)
+    program.parent.mkdir(exist_ok=True)
+    with tempfile.TemporaryDirectory() as folder:
+        room = lay_out(Path(folder), program.name, source, TIMES_USES, PARTS)
+        log = program.with_suffix(".log")
+        with log.open("w") as said:
+            built = subprocess.run(["rt", "ci"], cwd=folder, stdin=subprocess.DEVNULL, stdout=said, stderr=said, check=False)
+        if built.returncode:
+            sys.exit(f"bench_times can't be built: {log} tells why")
+        shutil.copy(room / "out" / program.name, program)
+    return str(program)
 
 
 def compiled(source: str, folder: str) -> tuple[str | None, str]:
