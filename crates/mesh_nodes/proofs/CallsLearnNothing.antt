@@ -4,7 +4,7 @@ use Rattle.std.specs.Prelude.{◌&&◌, ℕ, Option, Some, None, is_some}
 use Rattle.ason_base.specs.Codes.{busy_code}
 use Rattle.ason_base.specs.Risks.{unknown_link}
 use Rattle.ason_base.specs.declared.calls.CallState.{CallState}
-use Rattle.ason_base.specs.declared.calls.CallState.TheVariants.{Asking, Bare, Blocked, Guarded, Pairing, Stuck, Turned, Turning}
+use Rattle.ason_base.specs.declared.calls.CallState.TheVariants.{Asking, Guarded, Stuck, Turned}
 use Rattle.ason_base.specs.declared.calls.Cause.TheVariants.{Code}
 use Rattle.ason_base.specs.declared.ids.Fibre.{Fibre}
 use Rattle.ason_base.specs.declared.ids.Lsp.{Lsp}
@@ -65,18 +65,15 @@ go_back-none c (Some b) = if_cases LearnsNothing (is_in_use b.phase) _ _ (λ e. 
 decided-none : (legs : List Leg) (c : CallRec) (o : Option Leg) (state : CallState) (works backs : Bool) →
     LearnsNothing (decided legs c o state works backs)
 decided-none legs c o Asking works backs = (refl, refl)
-decided-none legs c o Blocked works backs = (refl, refl)
-decided-none legs c o Bare works backs = (refl, refl)
-decided-none legs c o Pairing works backs = (refl, refl)
 decided-none legs c o Guarded true false = turn-none legs c o
 decided-none legs c o Guarded true true = (refl, refl)
 decided-none legs c o Guarded false backs = (refl, refl)
-decided-none legs c o Turning works backs = (refl, refl)
 decided-none legs c o Turned true backs = (refl, refl)
 decided-none legs c o Turned false true = go_back-none c o
 decided-none legs c o Turned false false = (refl, refl)
 decided-none legs c o Stuck true backs = (refl, refl)
 decided-none legs c o Stuck false backs = (refl, refl)
+decided-none legs c o _ works backs = (refl, refl)
 
 decide-none : (legs : List Leg) (c : CallRec) (o : Option Leg) → LearnsNothing (decide legs c o)
 decide-none legs c o = decided-none legs c o c.state (has_any c.work_reports) (has_any c.back_reports)

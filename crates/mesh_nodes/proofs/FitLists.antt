@@ -121,16 +121,12 @@ legs-less p next l legs fits = record {
 closed-phase : (f : Phase) (r : Role) → is_beyond_asked (closing_phase f r) ≡ false
 closed-phase Asked Work = refl
 closed-phase Asked Back = refl
-closed-phase Held Work = refl
 closed-phase Held Back = refl
-closed-phase Armed Work = refl
 closed-phase Armed Back = refl
-closed-phase Live Work = refl
 closed-phase Live Back = refl
-closed-phase Closing Work = refl
 closed-phase Closing Back = refl
-closed-phase Falling Work = refl
 closed-phase Falling Back = refl
+closed-phase _ Work = refl
 
 pub closed-fits : (p : LocalNode) (next : ℕ) (g : Leg) → LegFits p next g → LegFits p next (closed g)
 closed-fits p next g fits = record {
@@ -199,28 +195,17 @@ phase-fits p next f g fits beyond later = record {
 }
 
 pub held-beyond : (f : Phase) → is_held f ≡ true → is_beyond_asked f ≡ true
-held-beyond Asked e = absurd (cc e)
 held-beyond Held e = refl
-held-beyond Armed e = absurd (cc e)
-held-beyond Live e = absurd (cc e)
-held-beyond Closing e = absurd (cc e)
-held-beyond Falling e = absurd (cc e)
+held-beyond _ e = absurd (cc e)
 
 pub armed-beyond : (f : Phase) → is_armed f ≡ true → is_beyond_asked f ≡ true
-armed-beyond Asked e = absurd (cc e)
-armed-beyond Held e = absurd (cc e)
 armed-beyond Armed e = refl
-armed-beyond Live e = absurd (cc e)
-armed-beyond Closing e = absurd (cc e)
-armed-beyond Falling e = absurd (cc e)
+armed-beyond _ e = absurd (cc e)
 
 pub in_use-beyond : (f : Phase) → is_in_use f ≡ true → is_beyond_asked f ≡ true
-in_use-beyond Asked e = absurd (cc e)
-in_use-beyond Held e = absurd (cc e)
 in_use-beyond Armed e = refl
 in_use-beyond Live e = refl
-in_use-beyond Closing e = absurd (cc e)
-in_use-beyond Falling e = absurd (cc e)
+in_use-beyond _ e = absurd (cc e)
 
 -- Fibres of a leg
 

@@ -4,7 +4,7 @@ use Rattle.std.specs.Prelude.{Option, Some, None, IfSome}
 use Rattle.ason_base.specs.Codes.{busy_code}
 use Rattle.ason_base.specs.Writable.{IsWritableRole}
 use Rattle.ason_base.specs.declared.calls.CallState.{CallState}
-use Rattle.ason_base.specs.declared.calls.CallState.TheVariants.{Asking, Bare, Blocked, Guarded, Pairing, Stuck, Turned, Turning}
+use Rattle.ason_base.specs.declared.calls.CallState.TheVariants.{Asking, Guarded, Stuck, Turned}
 use Rattle.ason_base.specs.declared.calls.Cause.TheVariants.{BackDown, Code}
 use Rattle.ason_base.specs.declared.calls.Phase.{Phase}
 use Rattle.ason_base.specs.declared.calls.Phase.TheVariants.{Armed, Held}
@@ -149,20 +149,17 @@ module _ (p : LocalNode) (s : NodeState) (legs : List Leg) (W : Type 0) (fits : 
         IfSome o (BeginsHere p legs) →
         AnswerFits p (record s { legs = legs }) W (decided s.legs c o state works backs)
     decided-fits c o Asking works backs here stands = put-fits c here
-    decided-fits c o Blocked works backs here stands = put-fits c here
-    decided-fits c o Bare works backs here stands = put-fits c here
-    decided-fits c o Pairing works backs here stands = put-fits c here
     decided-fits c o Guarded true false here stands = turn-fits c o here stands
     decided-fits c o Guarded true true here stands =
         put-fits (stuck c BackDown) (record { backup = here.backup; work = here.work; back = here.back })
     decided-fits c o Guarded false backs here stands = put-fits c here
-    decided-fits c o Turning works backs here stands = put-fits c here
     decided-fits c o Turned true backs here stands = put-fits c here
     decided-fits c o Turned false true here stands = go_back-fits c o here stands
     decided-fits c o Turned false false here stands = put-fits c here
     decided-fits c o Stuck true backs here stands = put-fits c here
     decided-fits c o Stuck false backs here stands =
         put-fits (guarded c) (record { backup = here.backup; work = here.work; back = here.back })
+    decided-fits c o _ works backs here stands = put-fits c here
 
     pub decide-fits : (c : CallRec) (o : Option Leg) → CallFits p c → IfSome o (BeginsHere p legs) →
         AnswerFits p (record s { legs = legs }) W (decide s.legs c o)
