@@ -15,10 +15,9 @@ use Rattle.ason_base.specs.declared.messages.Msg.{Msg}
 use Rattle.ason_base.specs.declared.messages.Msg.TheVariants.{Path, Resv, PathErr}
 use Rattle.ason_base.specs.declared.tables.Leg.{Leg}
 use Rattle.mesh_rules.specs.declared.neighbours.Neighbour.{Neighbour}
-use Rattle.mesh_rules.specs.State.{NodeState}
 use Rattle.mesh_rules.specs.Activations.{armed_on, busy_to, resv_to}
 use Rattle.mesh_rules.specs.Changes.{Answer, puts, sends, to_node}
-use Rattle.mesh_rules.specs.LocalNodes.{LocalNode, local_node}
+use Rattle.mesh_rules.specs.LocalNodes.{local_node}
 use Rattle.mesh_rules.specs.Legs.{following, is_contended, previous, with_phase}
 use Rattle.mesh_rules.specs.Machine.{Mesh}
 use Rattle.mesh_rules.specs.Messages.{arrival}
@@ -38,7 +37,7 @@ use Rattle.lsp_laws.proofs.hops.Purposes.{Purpose, Tells, role_of}
 use Rattle.lsp_laws.proofs.hops.PathTaken.{active_taken}
 use Rattle.lsp_laws.proofs.hops.Rows.{leg_downstream}
 use Rattle.lsp_laws.proofs.hops.Sending.{sends_back, sends_on}
-use Rattle.lsp_laws.proofs.hops.Taken.{KeepsDown, down_hop, down_taken}
+use Rattle.lsp_laws.proofs.hops.Taken.{ahead, KeepsDown, down_hop, down_taken}
 
 -- the Resv that a leg sends back
 pub resv-is : (g : Leg) (h : Neighbour) (y : ℕ) (o : Option Neighbour) (label : Option ℕ) → o ≡ Some h →
@@ -60,20 +59,7 @@ module _ (t : Network) (q : Purpose) (s : Mesh) (l : Lsp) (p : Plan) (i : ℕ) (
     (rest : List Msg)
     (was : s.mail (node_at p i).0 (node_at p (suc i)).0 ≡ Path l e k r set label (Back true work primary) ∷ rest)
   where
-    abbrev u : NodeId
-    u = node_at p i
-
-    abbrev d : NodeId
-    d = node_at p (suc i)
-
-    abbrev next : NodeId
-    next = node_at p (suc (suc i))
-
-    abbrev place : LocalNode
-    place = local_node t d
-
-    abbrev state : NodeState
-    state = s.nodes d.0
+    open ahead t s p i use {u, d, next, place, state}
 
     abbrev role : PathRole
     role = Back true work primary

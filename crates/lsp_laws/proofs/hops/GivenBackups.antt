@@ -260,12 +260,7 @@ link-puts t o n p s (Some l) =
 
 posted-nodes : (t : Network) (s : Mesh) (c : Command) → (posted t s c).nodes ≡ s.nodes
 posted-nodes t s (Setup k from to protected both via backup) = refl
-posted-nodes t s (Release k from) = refl
-posted-nodes t s (Protect k from) = refl
-posted-nodes t s (Retry k from) = refl
-posted-nodes t s (Revert k from) = refl
-posted-nodes t s (Fail g) = refl
-posted-nodes t s (Repair g) = refl
+posted-nodes t s _ = refl
 
 pub given-step : (t : Network) (s : Mesh) (e : MeshEvent) (o : Routes) → EachFollows t s o →
     ((n : ℕ) → CallsRise (s.nodes n).calls) →

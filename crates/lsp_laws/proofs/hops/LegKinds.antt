@@ -24,43 +24,23 @@ gone_none (Some g) h = go g.phase h
   where
     go : (f : Phase) → phase_kind f ≡ NoLeg → Some g ≡ None
     go Asked h = cc
-    go Held h = cc
-    go Armed h = cc
-    go Live h = cc
-    go Closing h = cc
-    go Falling h = cc
+    go _ h = cc
 
 pub asked_phase : (f : Phase) → phase_kind f ≡ AskedLeg → f ≡ Asked
 asked_phase Asked e = refl
-asked_phase Held e = absurd cc
-asked_phase Armed e = absurd cc
-asked_phase Live e = absurd cc
-asked_phase Closing e = absurd cc
-asked_phase Falling e = absurd cc
+asked_phase _ e = absurd cc
 
 pub live_phase : (f : Phase) → phase_kind f ≡ LiveLeg → f ≡ Live
-live_phase Asked e = absurd cc
-live_phase Held e = absurd cc
-live_phase Armed e = absurd cc
 live_phase Live e = refl
-live_phase Closing e = absurd cc
-live_phase Falling e = absurd cc
+live_phase _ e = absurd cc
 
 pub armed_phase : (f : Phase) → phase_kind f ≡ ArmedLeg → f ≡ Armed
-armed_phase Asked e = absurd cc
-armed_phase Held e = absurd cc
 armed_phase Armed e = refl
-armed_phase Live e = absurd cc
-armed_phase Closing e = absurd cc
-armed_phase Falling e = absurd cc
+armed_phase _ e = absurd cc
 
 pub held_phase : (f : Phase) → phase_kind f ≡ HeldLeg → f ≡ Held
-held_phase Asked e = absurd cc
 held_phase Held e = refl
-held_phase Armed e = absurd cc
-held_phase Live e = absurd cc
-held_phase Closing e = absurd cc
-held_phase Falling e = absurd cc
+held_phase _ e = absurd cc
 
 -- there is a Held leg where the kind says so
 pub held_leg : (o : Option Leg) → leg_kind o ≡ HeldLeg → (g : Leg) × (o ≡ Some g) × (g.phase ≡ Held)
@@ -73,12 +53,10 @@ live_leg None e = absurd cc
 live_leg (Some g) e = (g, refl, live_phase g.phase e)
 
 pub beyond_reserved : (f : Phase) → is_beyond_asked f ≡ true → is_reserved (phase_kind f) ≡ true
-beyond_reserved Asked e = cc
 beyond_reserved Held e = refl
 beyond_reserved Armed e = refl
 beyond_reserved Live e = refl
-beyond_reserved Closing e = cc
-beyond_reserved Falling e = cc
+beyond_reserved _ e = cc
 
 -- there is a leg beyond Asked where the kind says so
 pub reserved_there : (o : Option Leg) → is_reserved (leg_kind o) ≡ true →
@@ -87,12 +65,10 @@ reserved_there None e = absurd (cc e)
 reserved_there (Some g) e = (g, refl, go g.phase e)
   where
     go : (f : Phase) → is_reserved (phase_kind f) ≡ true → is_beyond_asked f ≡ true
-    go Asked e = absurd (cc e)
     go Held e = refl
     go Armed e = refl
     go Live e = refl
-    go Closing e = absurd (cc e)
-    go Falling e = absurd (cc e)
+    go _ e = absurd (cc e)
 
 pub phase_stands : (f : Phase) → is_closing f ≡ false → Stands (phase_kind f)
 phase_stands Asked e = AskedStands
@@ -106,26 +82,15 @@ phase_stands Falling e = absurd cc
 pub torn_is_closing : (r : Role) (f : Phase) → IsTorn r (phase_kind f) → is_closing f ≡ true
 torn_is_closing r Closing torn = refl
 torn_is_closing r Falling torn = refl
-torn_is_closing r Asked torn = elim torn [ ]
-torn_is_closing r Held torn = elim torn [ ]
-torn_is_closing r Armed torn = elim torn [ ]
-torn_is_closing r Live torn = elim torn [ ]
+torn_is_closing r _ torn = elim torn [ ]
 
 pub torn_not_asked : (r : Role) (f : Phase) → IsTorn r (phase_kind f) → is_asked f ≡ false
-torn_not_asked r Closing torn = refl
-torn_not_asked r Falling torn = refl
 torn_not_asked r Asked torn = elim torn [ ]
-torn_not_asked r Held torn = refl
-torn_not_asked r Armed torn = refl
-torn_not_asked r Live torn = refl
+torn_not_asked r _ torn = refl
 
 pub torn_not_armed : (r : Role) (f : Phase) → IsTorn r (phase_kind f) → is_armed f ≡ false
-torn_not_armed r Closing torn = refl
-torn_not_armed r Falling torn = refl
-torn_not_armed r Asked torn = refl
-torn_not_armed r Held torn = refl
 torn_not_armed r Armed torn = elim torn [ ]
-torn_not_armed r Live torn = refl
+torn_not_armed r _ torn = refl
 
 -- the phase that a leg gets with its label
 pub reserved_kind : (r : Role) → phase_kind (reserved r) ≡ reserved_leg r

@@ -13,9 +13,8 @@ use Rattle.ason_base.specs.declared.risks.Risk.{Risk}
 use Rattle.ason_base.specs.declared.messages.Msg.{Msg}
 use Rattle.ason_base.specs.declared.messages.Msg.TheVariants.{Path, Resv, PathErr}
 use Rattle.ason_base.specs.declared.tables.Leg.{Leg}
-use Rattle.mesh_rules.specs.State.{NodeState}
 use Rattle.mesh_rules.specs.Changes.{Answer, sends}
-use Rattle.mesh_rules.specs.LocalNodes.{LocalNode, labels_of, local_node, own_link, fibre_in}
+use Rattle.mesh_rules.specs.LocalNodes.{labels_of, own_link, fibre_in}
 use Rattle.mesh_rules.specs.KnownRows.{known_rows}
 use Rattle.mesh_rules.specs.Legs.{reserved}
 use Rattle.mesh_rules.specs.Paths.{PathRequest, back_label, is_none, is_primary_unknown, first_failure, checks}
@@ -40,7 +39,7 @@ use Rattle.lsp_laws.proofs.hops.Sending.{sends_back, sends_on}
 use Rattle.lsp_laws.proofs.hops.LegKinds.{reserved_kind}
 use Rattle.lsp_laws.proofs.hops.Downstream.{path_last, path_passed, path_answered, path_refused}
 use Rattle.lsp_laws.proofs.hops.Upstream.{hop_idle, hop_asks}
-use Rattle.lsp_laws.proofs.hops.Taken.{KeepsDown, down_hop, down_mine, down_taken}
+use Rattle.lsp_laws.proofs.hops.Taken.{ahead, KeepsDown, down_hop, down_mine, down_taken}
 use Rattle.lsp_laws.proofs.hops.PathLabels.{drop-further, drop-none, drop-some, primary_known, some_label}
 
 module _ (t : Network) (q : Purpose) (s : Mesh) (l : Lsp) (p : Plan) (i : ℕ) (route : IsRoute t l.ingress p)
@@ -48,20 +47,7 @@ module _ (t : Network) (q : Purpose) (s : Mesh) (l : Lsp) (p : Plan) (i : ℕ) (
     (e : NodeId) (k : LinkId) (r : List Step) (set : List ℕ) (label : Option ℕ) (purpose : PathRole) (rest : List Msg)
     (was : s.mail (node_at p i).0 (node_at p (suc i)).0 ≡ Path l e k r set label purpose ∷ rest)
     (learnt : AreRowsOf t (s.nodes (node_at p (suc i)).0).learnt) (plain : path_kind purpose ≡ PlainPath) where
-  abbrev u : NodeId
-  u = node_at p i
-
-  abbrev d : NodeId
-  d = node_at p (suc i)
-
-  abbrev next : NodeId
-  next = node_at p (suc (suc i))
-
-  abbrev place : LocalNode
-  place = local_node t d
-
-  abbrev state : NodeState
-  state = s.nodes d.0
+  open ahead t s p i use {u, d, next, place, state}
 
   abbrev message : Msg
   message = Path l e k r set label purpose

@@ -8,7 +8,7 @@ use Rattle.ason_base.specs.declared.calls.Role.TheVariants as role
 use Rattle.ason_base.specs.declared.messages.PathRole.{PathRole}
 use Rattle.ason_base.specs.declared.messages.PathRole.TheVariants.{Work, Back}
 use Rattle.ason_base.specs.declared.messages.Msg.{Msg}
-use Rattle.ason_base.specs.declared.messages.Msg.TheVariants.{Path, Resv, PathTear, PathErr, Notify}
+use Rattle.ason_base.specs.declared.messages.Msg.TheVariants.{Path, Resv, PathTear}
 use Rattle.ason_base.specs.declared.steps.Step.{Step}
 use Rattle.ason_base.specs.declared.tables.Leg.{Leg}
 use Rattle.mesh_rules.specs.Legs.{is_closing}
@@ -67,33 +67,23 @@ each-any Q (x ∷ xs) f = (f x, each-any Q xs f)
 abbrev pub DownFits : Purpose → Plan → ℕ → Msg → Type 0
 DownFits q p i (Path l e k route set up r) =
     (e ≡ p.egress) × (k ≡ link_at p i) × (route ≡ drop (suc i) p.route) × Tells q r
-DownFits q p i (Resv l e k x) = Unit {0}
 DownFits q p i (PathTear l e k) = k ≡ link_at p i
-DownFits q p i (PathErr l e at gone code) = Unit {0}
-DownFits q p i (Notify l e at k code) = Unit {0}
+DownFits q p i _ = Unit {0}
 
 -- and up: no Path
 abbrev pub UpFits : Plan → ℕ → Msg → Type 0
 UpFits p i (Path l e k route set up r) = ⊥
 UpFits p i (Resv l e k x) = k ≡ link_at p i
-UpFits p i (PathTear l e k) = Unit {0}
-UpFits p i (PathErr l e at gone code) = Unit {0}
-UpFits p i (Notify l e at k code) = Unit {0}
+UpFits p i _ = Unit {0}
 
 abbrev pub is_path : Msg → Bool
 is_path (Path l e k route set up r) = true
-is_path (Resv l e k x) = false
-is_path (PathTear l e k) = false
-is_path (PathErr l e at gone code) = false
-is_path (Notify l e at k code) = false
+is_path _ = false
 
 abbrev pub has_path : List Msg → Bool
 has_path [] = false
 has_path (Path l e k route set up r ∷ ms) = true
-has_path (Resv l e k x ∷ ms) = has_path ms
-has_path (PathTear l e k ∷ ms) = has_path ms
-has_path (PathErr l e at gone code ∷ ms) = has_path ms
-has_path (Notify l e at k code ∷ ms) = has_path ms
+has_path (_ ∷ ms) = has_path ms
 
 -- Labels over a hop
 
@@ -123,10 +113,7 @@ OfferSent (Some g) (Some h) = h.phase ≡ Asked → (x : ℕ) → has h.offered 
 
 abbrev pub HasSet : List ℕ → Msg → Type 0
 HasSet sent (Path l e k route set up r) = set ≡ sent
-HasSet sent (Resv l e k x) = Unit {0}
-HasSet sent (PathTear l e k) = Unit {0}
-HasSet sent (PathErr l e at gone code) = Unit {0}
-HasSet sent (Notify l e at k code) = Unit {0}
+HasSet sent _ = Unit {0}
 
 -- the set of a Path down is the one that was sent on
 abbrev pub SetSent : Option Leg → Msg → Type 0
@@ -135,11 +122,8 @@ SetSent (Some g) m = HasSet g.sent m
 
 -- the label of a Resv up is d's label in, while d is beyond Asked, and was sent on
 abbrev pub AnswerFits : Option Leg → Option Leg → Msg → Type 0
-AnswerFits u d (Path l e k route set up r) = Unit {0}
 AnswerFits u d (Resv l e k x) = is_reserved (leg_kind d) ≡ true → (in_label_of d ≡ Some x) × SentOn u x
-AnswerFits u d (PathTear l e k) = Unit {0}
-AnswerFits u d (PathErr l e at gone code) = Unit {0}
-AnswerFits u d (Notify l e at k code) = Unit {0}
+AnswerFits u d _ = Unit {0}
 
 -- The way back over a hop
 
@@ -160,9 +144,7 @@ BackMeets u (Some h) = is_closing h.phase ≡ false → h.back_out ≡ back_in_o
 abbrev pub HasUpstream : Option ℕ → Msg → Type 0
 HasUpstream b (Path l e k route set up r) = up ≡ b
 HasUpstream b (Resv l e k x) = ⊥
-HasUpstream b (PathTear l e k) = Unit {0}
-HasUpstream b (PathErr l e at gone code) = Unit {0}
-HasUpstream b (Notify l e at k code) = Unit {0}
+HasUpstream b _ = Unit {0}
 
 -- d hasn't answered yet: the first Path is on the hop, or d is Asked
 abbrev pub IsPending : LegKind → List Msg → Type 0

@@ -20,13 +20,10 @@ reserved_leg Back = HeldLeg
 
 -- a leg of this kind is beyond Asked: it has its label in
 abbrev pub is_reserved : LegKind → Bool
-is_reserved NoLeg = false
-is_reserved AskedLeg = false
 is_reserved HeldLeg = true
 is_reserved ArmedLeg = true
 is_reserved LiveLeg = true
-is_reserved ClosingLeg = false
-is_reserved FallingLeg = false
+is_reserved _ = false
 
 pub reserved_is : (r : Role) → is_reserved (reserved_leg r) ≡ true
 reserved_is Work = refl
@@ -47,9 +44,7 @@ pub data Stands : LegKind → Type 0 where
 
 pub no_torn : (r : Role) (k : LegKind) → Stands k → IsTorn r k → ⊥
 no_torn r _ AskedStands torn = elim torn [ ]
-no_torn r _ HeldStands torn = elim torn [ ]
-no_torn r _ ArmedStands torn = elim torn [ ]
-no_torn r _ LiveStands torn = elim torn [ ]
+no_torn r _ _ torn = elim torn [ ]
 
 pub nothing_torn : (r : Role) → IsTorn r NoLeg → ⊥
 nothing_torn r torn = elim torn [ ]

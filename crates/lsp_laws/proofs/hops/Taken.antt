@@ -8,7 +8,9 @@ use Rattle.ason_base.specs.declared.messages.Msg.{Msg}
 use Rattle.ason_base.specs.declared.messages.Msg.TheVariants.{Path, Resv, PathTear, PathErr, Notify}
 use Rattle.ason_base.specs.declared.tables.Leg.{Leg}
 use Rattle.mesh_rules.specs.Changes.{Answer}
+use Rattle.mesh_rules.specs.LocalNodes.{LocalNode, local_node}
 use Rattle.mesh_rules.specs.Machine.{Mesh, commit, without_first}
+use Rattle.mesh_rules.specs.State.{NodeState}
 use Rattle.lsp_laws.specs.HopLaw.{is_message_of, messages_of, leg_at, mail_between}
 use Rattle.lsp_laws.proofs.hops.Plans.{Plan, hops, node_at, IsRoute, distinct}
 use Rattle.lsp_laws.proofs.hops.Tables.{leg_after}
@@ -34,19 +36,29 @@ mine s l u d m rest was own = rw (was, own) refl
 abbrev pub taken_mesh : Mesh → NodeId → NodeId → Answer → Mesh
 taken_mesh s u d a = commit (without_first s u.0 d.0) d.0 a
 
+-- The node at a place of a route, the next two, and the place and the state of the next one in a mesh.
+pub record Ahead : Type 0 where
+  pub u : NodeId
+  pub d : NodeId
+  pub next : NodeId
+  pub place : LocalNode
+  pub state : NodeState
+
+abbrev pub ahead : Network → Mesh → Plan → ℕ → Ahead
+ahead t s p i = record {
+  u = node_at p i;
+  d = node_at p (suc i);
+  next = node_at p (suc (suc i));
+  place = local_node t (node_at p (suc i));
+  state = s.nodes (node_at p (suc i)).0;
+}
+
 -- a message that came down from place i
 module _ (t : Network) (q : Purpose) (s : Mesh) (l : Lsp) (p : Plan) (i : ℕ) (route : IsRoute t l.ingress p)
     (chain : Chain t q l p (leg_at s l) (mail_between s l)) (below : i < hops p)
     (m : Msg) (rest : List Msg) (was : s.mail (node_at p i).0 (node_at p (suc i)).0 ≡ m ∷ rest)
     (own : is_message_of l m ≡ true) where
-  abbrev u : NodeId
-  u = node_at p i
-
-  abbrev d : NodeId
-  d = node_at p (suc i)
-
-  abbrev next : NodeId
-  next = node_at p (suc (suc i))
+  open ahead t s p i use {u, d, next}
 
   abbrev pub KeepsDown : Answer → Type 0
   KeepsDown a = Chain t q l p (leg_at (taken_mesh s u d a) l) (mail_between (taken_mesh s u d a) l)

@@ -15,10 +15,9 @@ use Rattle.ason_base.specs.declared.messages.PathRole.TheVariants.{Work, Back}
 use Rattle.ason_base.specs.declared.messages.Msg.{Msg}
 use Rattle.ason_base.specs.declared.messages.Msg.TheVariants.{Path}
 use Rattle.ason_base.specs.declared.tables.Leg.{Leg}
-use Rattle.mesh_rules.specs.State.{NodeState}
 use Rattle.mesh_rules.specs.Activations.{taken_back}
 use Rattle.mesh_rules.specs.Changes.{Answer, puts, to_node}
-use Rattle.mesh_rules.specs.LocalNodes.{LocalNode, local_node}
+use Rattle.mesh_rules.specs.LocalNodes.{local_node}
 use Rattle.mesh_rules.specs.Legs.{with_phase}
 use Rattle.mesh_rules.specs.Machine.{Mesh}
 use Rattle.mesh_rules.specs.Messages.{arrival, on_message}
@@ -40,25 +39,12 @@ use Rattle.lsp_laws.proofs.hops.Purposes.{Purpose, Tells, role_of, tells_role}
 use Rattle.lsp_laws.proofs.hops.PathTaken.{plain_taken}
 use Rattle.lsp_laws.proofs.hops.Rows.{leg_downstream}
 use Rattle.lsp_laws.proofs.hops.Sending.{sends_none, sends_on}
-use Rattle.lsp_laws.proofs.hops.Taken.{KeepsDown, down_hop, down_taken}
+use Rattle.lsp_laws.proofs.hops.Taken.{ahead, KeepsDown, down_hop, down_taken}
 
 module _ (t : Network) (q : Purpose) (s : Mesh) (l : Lsp) (p : Plan) (i : ℕ) (route : IsRoute t l.ingress p)
     (chain : Chain t q l p (leg_at s l) (mail_between s l)) (below : i < hops p)
     (e : NodeId) (k : LinkId) (r : List Step) (set : List ℕ) (label : Option ℕ) (rest : List Msg) where
-  abbrev u : NodeId
-  u = node_at p i
-
-  abbrev d : NodeId
-  d = node_at p (suc i)
-
-  abbrev next : NodeId
-  next = node_at p (suc (suc i))
-
-  abbrev place : LocalNode
-  place = local_node t d
-
-  abbrev state : NodeState
-  state = s.nodes d.0
+  open ahead t s p i use {u, d, next, place, state}
 
   -- One that takes back
 

@@ -30,17 +30,13 @@ use Rattle.lsp_laws.proofs.hops.LegKinds.{same_of, phase_stands}
 use Rattle.lsp_laws.proofs.hops.LegChanges.{closed_kind, closed_torn, torn_of, closed_fits, previous_is, following_is, following_none}
 use Rattle.lsp_laws.proofs.hops.Downstream.{tear_lets_go, tear_kept}
 use Rattle.lsp_laws.proofs.hops.Upstream.{leg_closes}
-use Rattle.lsp_laws.proofs.hops.Taken.{KeepsDown, down_hop, down_taken, path_before}
+use Rattle.lsp_laws.proofs.hops.Taken.{ahead, KeepsDown, down_hop, down_taken, path_before}
 
 module _ (t : Network) (q : Purpose) (s : Mesh) (l : Lsp) (p : Plan) (i : ℕ) (route : IsRoute t l.ingress p)
     (chain : Chain t q l p (leg_at s l) (mail_between s l)) (below : i < hops p)
     (e : NodeId) (k : LinkId) (rest : List Msg)
     (was : s.mail (node_at p i).0 (node_at p (suc i)).0 ≡ PathTear l e k ∷ rest) where
-  abbrev u : NodeId
-  u = node_at p i
-
-  abbrev d : NodeId
-  d = node_at p (suc i)
+  open ahead t s p i use {u, d}
 
   pub own : is_message_of l (PathTear l e k) ≡ true
   own = same_lsp-refl l

@@ -199,12 +199,9 @@ module _ (t : Network) (events : List MeshEvent) (run : IsRun t start events) wh
         IfSome c.work (KeepsWavelengthFor t events c)
     work-keeps Bare joined stands = named-keeps IsLive way c.egress c.work joined
     work-keeps Pairing joined stands = named-keeps IsLive way c.egress c.work joined
-    work-keeps Guarded joined stands = named-keeps IsLive way c.egress c.work joined.0
-    work-keeps Turning joined stands = named-keeps IsLive way c.egress c.work joined.0
-    work-keeps Turned joined stands = named-keeps IsLive way c.egress c.work joined.0
-    work-keeps Stuck joined stands = named-keeps IsLive way c.egress c.work joined.0
     work-keeps Asking joined stands = absurd (cc stands)
     work-keeps Blocked joined stands = absurd (cc stands)
+    work-keeps _ joined stands = named-keeps IsLive way c.egress c.work joined.0
 
     back-keeps : (f : CallState) → CallIsJoined t events c f → has_backup f ≡ true →
         IfSome c.back (KeepsWavelengthFor t events c)
@@ -212,10 +209,7 @@ module _ (t : Network) (events : List MeshEvent) (run : IsRun t start events) wh
     back-keeps Turning joined has = named-keeps HasItsLabel way c.egress c.back joined.1
     back-keeps Turned joined has = named-keeps IsLive way c.egress c.back joined.1
     back-keeps Stuck joined has = named-keeps IsHeldOrLive way c.egress c.back joined.1
-    back-keeps Asking joined has = absurd (cc has)
-    back-keeps Bare joined has = absurd (cc has)
-    back-keeps Pairing joined has = absurd (cc has)
-    back-keeps Blocked joined has = absurd (cc has)
+    back-keeps _ joined has = absurd (cc has)
 
 pub every_call_keeps : EveryCallKeepsItsWavelengths
 every_call_keeps t events run n =

@@ -43,9 +43,6 @@ back_kept g g' (Some d) is h = λ stands. h stands ∙ sym is
 
 -- a leg that has its label in isn't torn
 pub reserved_open : (f : Phase) → is_reserved (phase_kind f) ≡ true → is_closing f ≡ false
-reserved_open Asked e = refl
-reserved_open Held e = refl
-reserved_open Armed e = refl
-reserved_open Live e = refl
 reserved_open Closing e = absurd (cc e)
 reserved_open Falling e = absurd (cc e)
+reserved_open _ e = refl

@@ -6,7 +6,7 @@ use Rattle.ason_base.specs.declared.ids.Lsp.{Lsp}
 use Rattle.ason_base.specs.declared.ids.Fibre.{Fibre}
 use Rattle.ason_base.specs.declared.ids.NodeId.{NodeId}
 use Rattle.ason_base.specs.declared.calls.Phase.{Phase}
-use Rattle.ason_base.specs.declared.calls.Phase.TheVariants.{Asked, Held, Armed, Live, Closing, Falling}
+use Rattle.ason_base.specs.declared.calls.Phase.TheVariants.{Asked}
 use Rattle.ason_base.specs.declared.tables.Leg.{Leg}
 use Rattle.ason_base.specs.declared.tables.Out.{Out}
 use Rattle.mesh_rules.specs.declared.arrivals.Arrival.{Arrival}
@@ -31,11 +31,7 @@ use Rattle.lsp_laws.proofs.nodes.PathKeeps.{Keeps}
 
 pub asked-is : (f : Phase) → is_asked f ≡ true → f ≡ Asked
 asked-is Asked e = refl
-asked-is Held e = absurd (cc e)
-asked-is Armed e = absurd (cc e)
-asked-is Live e = absurd (cc e)
-asked-is Closing e = absurd (cc e)
-asked-is Falling e = absurd (cc e)
+asked-is _ e = absurd (cc e)
 
 -- Resv
 

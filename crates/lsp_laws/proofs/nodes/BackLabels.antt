@@ -13,12 +13,10 @@ use Rattle.lsp_laws.specs.LabelLaw.{HasBackLabels}
 -- Phases
 
 pub beyond-stands : (f : Phase) → is_beyond_asked f ≡ true → is_closing f ≡ false
-beyond-stands Asked e = absurd (cc e)
 beyond-stands Held e = refl
 beyond-stands Armed e = refl
 beyond-stands Live e = refl
-beyond-stands Closing e = absurd (cc e)
-beyond-stands Falling e = absurd (cc e)
+beyond-stands _ e = absurd (cc e)
 
 pub reserved-stands : (r : Role) → is_closing (reserved r) ≡ false
 reserved-stands Work = refl

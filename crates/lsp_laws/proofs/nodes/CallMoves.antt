@@ -27,43 +27,28 @@ IsLone c = has_backup c.state ≡ true → ⊥
 
 asking-is : (f : CallState) → is_asking f ≡ true → f ≡ Asking
 asking-is Asking e = refl
-asking-is Bare e = absurd (cc e)
-asking-is Blocked e = absurd (cc e)
-asking-is Guarded e = absurd (cc e)
-asking-is Pairing e = absurd (cc e)
-asking-is Stuck e = absurd (cc e)
-asking-is Turned e = absurd (cc e)
-asking-is Turning e = absurd (cc e)
+asking-is _ e = absurd (cc e)
 
 pub asking-lone : (f : CallState) → is_asking f ≡ true → has_backup f ≡ true → ⊥
-asking-lone Guarded e h = cc e
-asking-lone Stuck e h = cc e
-asking-lone Turned e h = cc e
-asking-lone Turning e h = cc e
 asking-lone Asking e h = cc h
 asking-lone Bare e h = cc h
 asking-lone Blocked e h = cc h
 asking-lone Pairing e h = cc h
+asking-lone _ e h = cc e
 
 pub bare-lone : (f : CallState) → is_bare f ≡ true → has_backup f ≡ true → ⊥
-bare-lone Guarded e h = cc e
-bare-lone Stuck e h = cc e
-bare-lone Turned e h = cc e
-bare-lone Turning e h = cc e
 bare-lone Asking e h = cc h
 bare-lone Bare e h = cc h
 bare-lone Blocked e h = cc h
 bare-lone Pairing e h = cc h
+bare-lone _ e h = cc e
 
 pub pairing-lone : (f : CallState) → is_pairing f ≡ true → has_backup f ≡ true → ⊥
-pairing-lone Guarded e h = cc e
-pairing-lone Stuck e h = cc e
-pairing-lone Turned e h = cc e
-pairing-lone Turning e h = cc e
 pairing-lone Asking e h = cc h
 pairing-lone Bare e h = cc h
 pairing-lone Blocked e h = cc h
 pairing-lone Pairing e h = cc h
+pairing-lone _ e h = cc e
 
 pub asking-stands : (f : CallState) → is_asking f ≡ true → is_standing_call f ≡ true → ⊥
 asking-stands f asking h = let never = subst (λ f. is_standing_call f ≡ true) (asking-is f asking) h in cc never
@@ -105,14 +90,11 @@ of-after Rep (Some m) l down f fibres e here all =
 -- a call that has its backup isn't bare
 backed-paired : (f : CallState) (cause : Cause) (protected : Bool) → has_backup f ≡ true →
     fits_protected f cause protected ≡ true
-backed-paired Guarded cause protected e = refl
-backed-paired Turning cause protected e = refl
-backed-paired Turned cause protected e = refl
-backed-paired Stuck cause protected e = refl
 backed-paired Asking cause protected e = absurd (cc e)
 backed-paired Bare cause protected e = absurd (cc e)
 backed-paired Pairing cause protected e = absurd (cc e)
 backed-paired Blocked cause protected e = absurd (cc e)
+backed-paired _ cause protected e = refl
 
 -- Rep holds of each fibre that is reported of an LSP
 module _ (Rep : Lsp → Fibre → Type 0) where

@@ -33,7 +33,7 @@ use Rattle.lsp_laws.proofs.nodes.CallTouched.{same-leg, touched-changes}
 use Rattle.lsp_laws.proofs.nodes.LegParts.{LegPart, MayStand, part-with_leg}
 use Rattle.lsp_laws.proofs.nodes.Parts.{back-row, node_facts}
 use Rattle.lsp_laws.proofs.nodes.PhaseLegs.{stands-alone, stands-unmarked}
-use Rattle.lsp_laws.proofs.nodes.States.{AskingRow, BareRow, BlockedRow, GuardedRow, PairingRow, Row, StuckRow, TurnedRow, TurningRow, guarded-back, guarded-stuck, live-work, stuck-guarded, turned-back}
+use Rattle.lsp_laws.proofs.nodes.States.{AskingRow, BareRow, BlockedRow, Row, guarded-back, guarded-stuck, live-work, stuck-guarded, turned-back}
 
 -- the call, in this state, with these reports
 abbrev pub revised : CallRec → CallState → List Fibre → List Fibre → Cause → ℕ → CallRec
@@ -275,8 +275,4 @@ module _ (n : ℕ) (s : NodeState) (facts : NodeFacts n s) (c : CallRec) (found 
         go _ _ _ AskingRow none put = put
         go _ _ _ BareRow none put = put
         go _ _ _ BlockedRow none put = put
-        go _ _ _ PairingRow none put = absurd (cc none)
-        go _ _ _ GuardedRow none put = absurd (cc none)
-        go _ _ _ TurningRow none put = absurd (cc none)
-        go _ _ _ TurnedRow none put = absurd (cc none)
-        go _ _ _ StuckRow none put = absurd (cc none)
+        go _ _ _ _ none put = absurd (cc none)

@@ -4,7 +4,7 @@ use Rattle.ason_base.specs.declared.ids.CallNo.{CallNo}
 use Rattle.ason_base.specs.declared.ids.Fibre.{Fibre}
 use Rattle.ason_base.specs.declared.ids.Lsp.{Lsp}
 use Rattle.ason_base.specs.declared.calls.Phase.{Phase}
-use Rattle.ason_base.specs.declared.calls.Phase.TheVariants.{Asked, Held, Armed, Live, Closing, Falling}
+use Rattle.ason_base.specs.declared.calls.Phase.TheVariants.{Asked, Closing, Falling}
 use Rattle.ason_base.specs.declared.calls.Role.TheVariants.{Back}
 use Rattle.ason_base.specs.declared.tables.CallRec.{CallRec}
 use Rattle.ason_base.specs.declared.tables.Leg.{Leg}
@@ -36,11 +36,9 @@ IsTornLeg g = (g.in_label ≡ None) × IsTrue (is_some g.next)
 -- Asked: no label; beyond Asked: the labels of its fibres. An Asked or a torn leg has a next node.
 abbrev pub FitsPhase : Phase → Leg → Type 0
 FitsPhase Asked g = (g.in_label ≡ None) × (g.out_label ≡ None) × IsTrue (is_some g.next)
-FitsPhase Held g = HasItsLabels g
-FitsPhase Armed g = HasItsLabels g
-FitsPhase Live g = HasItsLabels g
 FitsPhase Closing g = IsTornLeg g
 FitsPhase Falling g = IsTornLeg g
+FitsPhase _ g = HasItsLabels g
 
 -- A leg at node n, whose next LSP number is this one. The ingress has no previous node and no fibre in, every other
 -- node has both; the egress has no next node and no fibre out, every other node has both; no node is both ends.

@@ -7,7 +7,7 @@ use Rattle.std.proofs.lemmas.List.Elements.{All-from_recursion}
 use Rattle.std.proofs.lemmas.List.Kept.{AllPairs-cons}
 use Rattle.ason_base.specs.declared.ids.Lsp.{Lsp}
 use Rattle.ason_base.specs.declared.calls.Phase.{Phase}
-use Rattle.ason_base.specs.declared.calls.Phase.TheVariants.{Asked, Held, Armed, Live, Closing, Falling}
+use Rattle.ason_base.specs.declared.calls.Phase.TheVariants.{Live}
 use Rattle.ason_base.specs.declared.tables.CallRec.{CallRec}
 use Rattle.ason_base.specs.declared.tables.Leg.{Leg}
 use Rattle.ason_base.specs.Lsps.{lsp_before, same_lsp}
@@ -106,12 +106,8 @@ every_node t n inputs may =
 
 -- a Live leg's labels are those of its fibres
 live-labelled : (f : Phase) (g : Leg) → FitsPhase f g → f ≡ Live → IsLabelled g
-live-labelled Asked g fits e = absurd cc
-live-labelled Held g fits e = absurd cc
-live-labelled Armed g fits e = absurd cc
 live-labelled Live g fits e = record { enters = fits.0; leaves = fits.1 }
-live-labelled Closing g fits e = absurd cc
-live-labelled Falling g fits e = absurd cc
+live-labelled _ g fits e = absurd cc
 
 pub every_live : EveryLiveLegIsLabelled
 every_live t events run n =

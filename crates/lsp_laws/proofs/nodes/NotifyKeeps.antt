@@ -4,7 +4,7 @@ use Rattle.std.specs.Prelude.{◌&&◌, Option, Some, None}
 use Rattle.ason_base.specs.Codes.{fibre_down_code, fibre_up_code}
 use Rattle.ason_base.specs.Lsps.{has_fibre, is_lsp, without_fibre}
 use Rattle.ason_base.specs.declared.calls.CallState.{CallState}
-use Rattle.ason_base.specs.declared.calls.CallState.TheVariants.{Asking, Bare, Pairing, Guarded, Turning, Turned, Stuck, Blocked}
+use Rattle.ason_base.specs.declared.calls.CallState.TheVariants.{Stuck}
 use Rattle.ason_base.specs.declared.calls.Phase.TheVariants.{Held}
 use Rattle.ason_base.specs.declared.codes.ErrCode.{ErrCode}
 use Rattle.ason_base.specs.declared.ids.CallNo.{CallNo}
@@ -129,14 +129,8 @@ keeps-notify p s u m (Some g) facts is =
 -- Retry
 
 stuck-is : (state : CallState) → is_stuck state ≡ true → state ≡ Stuck
-stuck-is Asking e = absurd (cc e)
-stuck-is Bare e = absurd (cc e)
-stuck-is Pairing e = absurd (cc e)
-stuck-is Guarded e = absurd (cc e)
-stuck-is Turning e = absurd (cc e)
-stuck-is Turned e = absurd (cc e)
 stuck-is Stuck e = refl
-stuck-is Blocked e = absurd (cc e)
+stuck-is _ e = absurd (cc e)
 
 module _ (p : LocalNode) (s : NodeState) (facts : NodeFacts p.id.0 s) (c : CallRec)
     (found : find_call c.call s.calls ≡ Some c) (stuck : c.state ≡ Stuck) where

@@ -2,7 +2,7 @@
 use Rattle.std.proofs.Common.{◌≡◌, true, nat_eq, refl, sym, subst}
 use Rattle.std.specs.Prelude.{◌&&◌, Option, Some, None}
 use Rattle.ason_base.specs.declared.calls.CallState.{CallState}
-use Rattle.ason_base.specs.declared.calls.CallState.TheVariants.{Asking, Bare, Pairing, Guarded, Turning, Turned, Stuck, Blocked}
+use Rattle.ason_base.specs.declared.calls.CallState.TheVariants.{Bare}
 use Rattle.ason_base.specs.declared.commands.Command.{Command}
 use Rattle.ason_base.specs.declared.commands.Command.TheVariants.{Setup, Release, Protect, Retry, Revert, Fail, Repair}
 use Rattle.ason_base.specs.declared.commands.DeskItem.{DeskItem}
@@ -34,14 +34,8 @@ use Rattle.lsp_laws.proofs.nodes.Sharing.{take-same}
 -- Protect
 
 bare-is : (state : CallState) → is_bare state ≡ true → state ≡ Bare
-bare-is Asking e = absurd (cc e)
 bare-is Bare e = refl
-bare-is Pairing e = absurd (cc e)
-bare-is Guarded e = absurd (cc e)
-bare-is Turning e = absurd (cc e)
-bare-is Turned e = absurd (cc e)
-bare-is Stuck e = absurd (cc e)
-bare-is Blocked e = absurd (cc e)
+bare-is _ e = absurd (cc e)
 
 module _ (p : LocalNode) (s : NodeState) (c : CallRec) (found : find_call c.call s.calls ≡ Some c)
     (facts : NodeFacts p.id.0 s) where

@@ -2,7 +2,7 @@
 use Rattle.std.proofs.Common.{◌≡◌, ℕ, true, false, not, nat_eq, List, refl, sym, subst, ap, ◌∙◌, arith}
 use Rattle.std.specs.Prelude.{is_some, ◌||◌, Option, Some, None}
 use Rattle.ason_base.specs.declared.calls.Phase.{Phase}
-use Rattle.ason_base.specs.declared.calls.Phase.TheVariants.{Asked, Held, Armed, Live, Closing, Falling}
+use Rattle.ason_base.specs.declared.calls.Phase.TheVariants.{Held, Armed, Live}
 use Rattle.ason_base.specs.declared.calls.Role.TheVariants.{Back}
 use Rattle.ason_base.specs.declared.ids.Lsp.{Lsp}
 use Rattle.ason_base.specs.declared.tables.Leg.{Leg}
@@ -17,36 +17,24 @@ use Rattle.lsp_laws.proofs.nodes.Marks.{may-arm, may-keep}
 -- Phases
 
 labels-of : (f : Phase) (g : Leg) → FitsPhase f g → is_beyond_asked f ≡ true → HasItsLabels g
-labels-of Asked g fits e = absurd (cc e)
 labels-of Held g fits e = fits
 labels-of Armed g fits e = fits
 labels-of Live g fits e = fits
-labels-of Closing g fits e = absurd (cc e)
-labels-of Falling g fits e = absurd (cc e)
+labels-of _ g fits e = absurd (cc e)
 
 fits-phase : (f : Phase) (g : Leg) → HasItsLabels g → is_beyond_asked f ≡ true → FitsPhase f g
-fits-phase Asked g labels e = absurd (cc e)
 fits-phase Held g labels e = labels
 fits-phase Armed g labels e = labels
 fits-phase Live g labels e = labels
-fits-phase Closing g labels e = absurd (cc e)
-fits-phase Falling g labels e = absurd (cc e)
+fits-phase _ g labels e = absurd (cc e)
 
 pub held-is : (f : Phase) → is_held f ≡ true → f ≡ Held
-held-is Asked e = absurd (cc e)
 held-is Held e = refl
-held-is Armed e = absurd (cc e)
-held-is Live e = absurd (cc e)
-held-is Closing e = absurd (cc e)
-held-is Falling e = absurd (cc e)
+held-is _ e = absurd (cc e)
 
 pub armed-is : (f : Phase) → is_armed f ≡ true → f ≡ Armed
-armed-is Asked e = absurd (cc e)
-armed-is Held e = absurd (cc e)
 armed-is Armed e = refl
-armed-is Live e = absurd (cc e)
-armed-is Closing e = absurd (cc e)
-armed-is Falling e = absurd (cc e)
+armed-is _ e = absurd (cc e)
 
 -- a Held or an Armed leg is a backup's
 pub held-back : (n next : ℕ) (g : Leg) → LegFacts n next g → g.phase ≡ Held → g.role ≡ Back
@@ -72,12 +60,10 @@ ingress-unlabelled n next g facts begins = go g.phase facts.phase
     labelled labels = none g.in_label (labels.0 ∙ first)
 
     go : (f : Phase) → FitsPhase f g → g.in_label ≡ None
-    go Asked fits = fits.0
     go Held fits = labelled fits
     go Armed fits = labelled fits
     go Live fits = labelled fits
-    go Closing fits = fits.0
-    go Falling fits = fits.0
+    go _ fits = fits.0
 
 -- The leg of a backup that has its labels, at a node with these legs, in the phase f
 

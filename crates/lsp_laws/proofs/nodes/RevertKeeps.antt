@@ -2,7 +2,7 @@
 use Rattle.std.proofs.Common.{◌≡◌, ℕ, true, false, not, nat_eq, refl, sym, ap, subst}
 use Rattle.std.specs.Prelude.{◌&&◌, Option, Some, None}
 use Rattle.ason_base.specs.declared.calls.CallState.{CallState}
-use Rattle.ason_base.specs.declared.calls.CallState.TheVariants.{Asking, Bare, Pairing, Guarded, Turning, Turned, Stuck, Blocked}
+use Rattle.ason_base.specs.declared.calls.CallState.TheVariants.{Turned}
 use Rattle.ason_base.specs.declared.calls.Phase.TheVariants.{Live}
 use Rattle.ason_base.specs.declared.ids.CallNo.{CallNo}
 use Rattle.ason_base.specs.declared.ids.NodeId.{NodeId}
@@ -27,14 +27,8 @@ use Rattle.lsp_laws.proofs.nodes.PathKeeps.{Keeps}
 use Rattle.lsp_laws.proofs.nodes.States.{Row, row, turned-legs}
 
 turned-is : (state : CallState) → is_turned state ≡ true → state ≡ Turned
-turned-is Asking e = absurd (cc e)
-turned-is Bare e = absurd (cc e)
-turned-is Pairing e = absurd (cc e)
-turned-is Guarded e = absurd (cc e)
-turned-is Turning e = absurd (cc e)
 turned-is Turned e = refl
-turned-is Stuck e = absurd (cc e)
-turned-is Blocked e = absurd (cc e)
+turned-is _ e = absurd (cc e)
 
 -- A turned call whose working LSP isn't hit
 

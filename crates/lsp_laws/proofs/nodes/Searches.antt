@@ -2,7 +2,7 @@
 use Rattle.std.proofs.Common.{◌≡◌, Bool, true, false, cond, nat_eq, List, [], ◌∷◌, refl, subst, arith}
 use Rattle.std.specs.Prelude.{Option, Some, None}
 use Rattle.ason_base.specs.declared.commands.Command.{Command}
-use Rattle.ason_base.specs.declared.commands.Command.TheVariants.{Setup, Release, Protect, Retry, Revert, Fail, Repair}
+use Rattle.ason_base.specs.declared.commands.Command.TheVariants.{Setup}
 use Rattle.ason_base.specs.declared.ids.LinkId.{LinkId}
 use Rattle.ason_base.specs.declared.ids.NodeId.{NodeId}
 use Rattle.ason_base.specs.declared.network.LinkSpec.{LinkSpec}
@@ -40,12 +40,7 @@ after-commit t s n a here fit m = go (nat_eq m.0 n.0) refl
 
 after-posted : (t : Network) (s : Mesh) (c : Command) → CanSearch t s → CanSearch t (posted t s c)
 after-posted t s (Setup n from to protected both via backup) fit = fit
-after-posted t s (Release n from) fit = fit
-after-posted t s (Protect n from) fit = fit
-after-posted t s (Retry n from) fit = fit
-after-posted t s (Revert n from) fit = fit
-after-posted t s (Fail g) fit = fit
-after-posted t s (Repair g) fit = fit
+after-posted t s _ fit = fit
 
 after-link : (t : Network) (n : NodeId) (s : NodeState) (k : LinkId) (o : Option LinkSpec) → IsTopology t →
     find_link t k ≡ o → AreRowsOf t s.learnt → RowsFit (local_node t n) s →

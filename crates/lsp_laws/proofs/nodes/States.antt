@@ -34,19 +34,11 @@ row state w b e = absurd (cc e)
 
 pub work-stands : (state : CallState) (f : Phase) (b : Option Phase) → Row state (Some f) b → is_closing f ≡ true → ⊥
 work-stands _ _ _ AskingRow torn = cc torn
-work-stands _ _ _ BareRow torn = cc torn
-work-stands _ _ _ PairingRow torn = cc torn
-work-stands _ _ _ GuardedRow torn = cc torn
-work-stands _ _ _ TurningRow torn = cc torn
-work-stands _ _ _ TurnedRow torn = cc torn
-work-stands _ _ _ StuckRow torn = cc torn
+work-stands _ _ _ _ torn = cc torn
 
 pub back-stands : (state : CallState) (w : Option Phase) (f : Phase) → Row state w (Some f) → is_closing f ≡ true → ⊥
 back-stands _ _ _ PairingRow torn = cc torn
-back-stands _ _ _ GuardedRow torn = cc torn
-back-stands _ _ _ TurningRow torn = cc torn
-back-stands _ _ _ TurnedRow torn = cc torn
-back-stands _ _ _ StuckRow torn = cc torn
+back-stands _ _ _ _ torn = cc torn
 
 -- where the working leg is Asked, the call waits for it and has no backup's leg
 pub asked-work : (state : CallState) (b : Option Phase) → Row state (Some Asked) b → (state ≡ Asking) × (b ≡ None)
@@ -63,10 +55,7 @@ armed-back _ _ TurningRow = (refl, refl)
 -- beside a backup's leg the working leg is Live
 pub live-work : (state : CallState) (w : Option Phase) (f : Phase) → Row state w (Some f) → w ≡ Some Live
 live-work _ _ _ PairingRow = refl
-live-work _ _ _ GuardedRow = refl
-live-work _ _ _ TurningRow = refl
-live-work _ _ _ TurnedRow = refl
-live-work _ _ _ StuckRow = refl
+live-work _ _ _ _ = refl
 
 -- a bare call's working leg is Live, and it has no backup's leg
 pub bare-legs : (w b : Option Phase) → Row Bare w b → (w ≡ Some Live) × (b ≡ None)
@@ -94,10 +83,7 @@ stuck-legs _ _ StuckRow = (refl, refl)
 pub back-fits : (state : CallState) (w : Option Phase) (f : Phase) → Row state w (Some f) →
     fits state (Some Live) (Some f) ≡ true
 back-fits _ _ _ PairingRow = refl
-back-fits _ _ _ GuardedRow = refl
-back-fits _ _ _ TurningRow = refl
-back-fits _ _ _ TurnedRow = refl
-back-fits _ _ _ StuckRow = refl
+back-fits _ _ _ _ = refl
 
 -- Reports
 
@@ -106,11 +92,7 @@ pub alone-reported : (state : CallState) (f : Phase) (b : Option Phase) (works w
     Row state (Some f) b → b ≡ None → fits_reports state works backs ≡ true → fits_reports state works' backs ≡ true
 alone-reported _ _ _ works works' backs AskingRow none e = e
 alone-reported _ _ _ works works' backs BareRow none e = e
-alone-reported _ _ _ works works' backs PairingRow none e = absurd (cc none)
-alone-reported _ _ _ works works' backs GuardedRow none e = absurd (cc none)
-alone-reported _ _ _ works works' backs TurningRow none e = absurd (cc none)
-alone-reported _ _ _ works works' backs TurnedRow none e = absurd (cc none)
-alone-reported _ _ _ works works' backs StuckRow none e = absurd (cc none)
+alone-reported _ _ _ works works' backs _ none e = absurd (cc none)
 
 -- the row of a guarded call is that of a stuck one
 
