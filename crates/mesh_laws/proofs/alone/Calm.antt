@@ -4,9 +4,9 @@ use Rattle.std.specs.Prelude.{◌&&◌}
 use Rattle.std.specs.List.{AllByRecursion}
 use Rattle.ason_base.specs.Network.{Network}
 use Rattle.ason_base.specs.declared.calls.CallState.{CallState}
-use Rattle.ason_base.specs.declared.calls.CallState.TheVariants.{Asking, Bare, Blocked, Guarded, Pairing, Stuck, Turned, Turning}
+use Rattle.ason_base.specs.declared.calls.CallState.TheVariants.{Stuck}
 use Rattle.ason_base.specs.declared.calls.Phase.{Phase}
-use Rattle.ason_base.specs.declared.calls.Phase.TheVariants.{Asked, Held, Armed, Live, Closing, Falling}
+use Rattle.ason_base.specs.declared.calls.Phase.TheVariants.{Armed, Live, Falling}
 use Rattle.ason_base.specs.declared.commands.DeskItem.{DeskItem}
 use Rattle.ason_base.specs.declared.commands.DeskItem.TheVariants.{Order, Alarm, Clear}
 use Rattle.ason_base.specs.declared.commands.Group.{Group}
@@ -31,12 +31,10 @@ module _ (t : Network) (gs : List Group) (o : Routes) where
   calm-leg b calm mark = idle-concerns gs b (go b.phase (calm (marked-back b mark))) mark
     where
       go : (f : Phase) → is_idle f ≡ true → is_marking f ≡ false
-      go Asked e = refl
-      go Held e = refl
       go Armed e = absurd (cc e)
       go Live e = absurd (cc e)
-      go Closing e = refl
       go Falling e = absurd (cc e)
+      go _ e = refl
 
   calm-call : (legs : List Leg) (c : CallRec) → CallKnows t o legs c → CallIsCalm c → CallHolds t gs o c
   calm-call legs c knows calm =
@@ -55,13 +53,7 @@ module _ (t : Network) (gs : List Group) (o : Routes) where
     where
       admitted : (state : CallState) → (state ≡ Stuck → ⊥) → (is_stuck state && is_of_busy c.cause) ≡ false
       admitted Stuck never = absurd (never refl)
-      admitted Asking never = refl
-      admitted Bare never = refl
-      admitted Blocked never = refl
-      admitted Guarded never = refl
-      admitted Pairing never = refl
-      admitted Turned never = refl
-      admitted Turning never = refl
+      admitted _ never = refl
 
   calm-calls : (legs : List Leg) (calls : List CallRec) → AllByRecursion (CallKnows t o legs) calls →
       AllByRecursion CallIsCalm calls → AllByRecursion (CallHolds t gs o) calls

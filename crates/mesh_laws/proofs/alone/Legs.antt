@@ -7,7 +7,7 @@ use Rattle.ason_base.specs.declared.ids.Fibre.{Fibre}
 use Rattle.ason_base.specs.declared.ids.Lsp.{Lsp}
 use Rattle.ason_base.specs.declared.ids.NodeId.{NodeId}
 use Rattle.ason_base.specs.declared.calls.Phase.{Phase}
-use Rattle.ason_base.specs.declared.calls.Phase.TheVariants.{Asked, Held, Armed, Live, Closing, Falling}
+use Rattle.ason_base.specs.declared.calls.Phase.TheVariants.{Armed}
 use Rattle.ason_base.specs.declared.calls.Role.TheVariants.{Back}
 use Rattle.ason_base.specs.declared.commands.Group.{Group}
 use Rattle.ason_base.specs.declared.messages.Msg.{Msg}
@@ -85,11 +85,7 @@ module _ (gs : List Group) where
     where
       go : (f : Phase) → is_armed f ≡ true → is_marking f ≡ true
       go Armed e = refl
-      go Asked e = absurd (cc e)
-      go Held e = absurd (cc e)
-      go Live e = absurd (cc e)
-      go Closing e = absurd (cc e)
-      go Falling e = absurd (cc e)
+      go _ e = absurd (cc e)
 
   -- Contention
 

@@ -4,22 +4,22 @@ use Rattle.std.specs.Prelude.{◌||◌, None}
 use Rattle.std.proofs.Math.Bool.{or-false}
 use Rattle.ason_base.specs.Network.{Network}
 use Rattle.ason_base.specs.Risks.{has_risk}
-use Rattle.ason_base.specs.declared.commands.Command.TheVariants.{Setup, Release, Protect, Retry, Revert, Fail, Repair}
+use Rattle.ason_base.specs.declared.commands.Command.TheVariants.{Fail}
 use Rattle.ason_base.specs.declared.commands.DeskItem.{DeskItem}
 use Rattle.ason_base.specs.declared.commands.DeskItem.TheVariants.{Order, Alarm, Clear}
 use Rattle.ason_base.specs.declared.commands.Group.{Group}
 use Rattle.ason_base.specs.declared.ids.Fibre.{Fibre}
 use Rattle.ason_base.specs.declared.ids.NodeId.{NodeId}
 use Rattle.ason_base.specs.declared.messages.Msg.{Msg}
-use Rattle.ason_base.specs.declared.messages.Msg.TheVariants.{Path, Resv, PathTear, PathErr, Notify}
-use Rattle.ason_base.specs.declared.messages.PathRole.TheVariants.{Work, Back}
+use Rattle.ason_base.specs.declared.messages.Msg.TheVariants.{Path, Resv, PathErr, Notify}
+use Rattle.ason_base.specs.declared.messages.PathRole.TheVariants.{Back}
 use Rattle.ason_base.specs.declared.steps.Step.{Step}
 use Rattle.ason_base.specs.declared.tables.CallRec.{CallRec}
 use Rattle.ason_base.specs.declared.tables.Leg.{Leg}
 use Rattle.ason_base.proofs.Ordered.{contains-head}
 use Rattle.ason_base.proofs.RiskOrder.{has_risk-contains}
 use Rattle.mesh_rules.specs.declared.events.MeshEvent.{MeshEvent}
-use Rattle.mesh_rules.specs.declared.events.MeshEvent.TheVariants.{Take, Desk, Tick, Learn, Post}
+use Rattle.mesh_rules.specs.declared.events.MeshEvent.TheVariants.{Post}
 use Rattle.mesh_rules.specs.Legs.{connected}
 use Rattle.mesh_rules.specs.Machine.{Mesh}
 use Rattle.mesh_rules.specs.State.{NodeState}
@@ -73,14 +73,11 @@ module _ (t : Network) (g : Group) where
   }
 
   msg-one : (m : Msg) → MsgConcerns t (g ∷ []) m → OneMsg t g m
-  msg-one (Path l e k route set up (Work guard)) holds = tt
   msg-one (Path l e k route set up (Back true work primary)) holds = route-one t g primary holds
   msg-one (Path l e k route set up (Back false work primary)) holds = tt
-  msg-one (Resv l e k x) holds = tt
-  msg-one (PathTear l e k) holds = tt
-  msg-one (PathErr l e at true code) holds = tt
   msg-one (PathErr l e at false code) holds = absurd holds
   msg-one (Notify l e at k code) holds = or-none (is_on_link t g k) holds
+  msg-one _ holds = tt
 
   item-one : (i : DeskItem) → ItemConcerns t (g ∷ []) i → OneItem t g i
   item-one (Order c) holds = tt
@@ -103,17 +100,8 @@ module _ (t : Network) (g : Group) where
 
 -- the one group alone fails
 pub fails-one : (g : Group) (e : MeshEvent) → OneFails g e → FailsOnly (g ∷ []) e
-fails-one g (Take d u) only = tt
-fails-one g (Desk n) only = tt
-fails-one g (Tick n) only = tt
-fails-one g (Learn n k) only = tt
-fails-one g (Post (Setup n from to protected both via backup)) only = tt
-fails-one g (Post (Release n from)) only = tt
-fails-one g (Post (Protect n from)) only = tt
-fails-one g (Post (Retry n from)) only = tt
-fails-one g (Post (Revert n from)) only = tt
 fails-one g (Post (Fail h)) only = is-only g h only
-fails-one g (Post (Repair h)) only = tt
+fails-one g _ only = tt
 
 -- backups that share a label record risks apart, so at most one of them records the group
 pub shares-alone : (g : Group) (legs : List Leg) (b : Leg) → SharesAll legs b → IsAlone (g ∷ []) legs b
@@ -124,9 +112,6 @@ shares-alone g legs b shares f x m h apart at_m this that back_b back_h has_b ha
 
 pub msg-alone : (t : Network) (g : Group) (s : NodeState) (u : NodeId) (m : Msg) → MsgKnows t s u m →
     MsgApart (g ∷ []) s.legs u m
-msg-alone t g s u (Path l e k route set up r) its = tt
 msg-alone t g s u (Resv l e k x) its =
     λ b found asked over. shares-alone g s.legs (connected b None x) (its b found over)
-msg-alone t g s u (PathTear l e k) its = tt
-msg-alone t g s u (PathErr l e at gone code) its = tt
-msg-alone t g s u (Notify l e at k code) its = tt
+msg-alone t g s u _ its = tt

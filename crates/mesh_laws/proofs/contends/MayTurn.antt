@@ -57,12 +57,9 @@ work-live state w f e beyond = absurd (cc e)
 
 -- a leg that is up isn't torn
 pub up-not_closing : (q : Phase) → is_beyond_asked q ≡ true → is_closing q ≡ false
-up-not_closing Held e = refl
-up-not_closing Armed e = refl
-up-not_closing Live e = refl
-up-not_closing Asked e = refl
 up-not_closing Closing e = absurd (cc e)
 up-not_closing Falling e = absurd (cc e)
+up-not_closing _ e = refl
 
 -- a leg of an option
 record LegThere (o : Option Lsp) (legs : List Leg) : Type 0 where

@@ -4,7 +4,7 @@ use Rattle.std.proofs.Common.{◌≡◌, ◌≢◌, true, false, refl, sym, ap, 
 use Rattle.std.specs.Prelude.{◌⊎◌, Some, is_some}
 use Rattle.ason_base.specs.Network.{Network, sender_of}
 use Rattle.ason_base.specs.declared.calls.Phase.{Phase}
-use Rattle.ason_base.specs.declared.calls.Phase.TheVariants.{Asked, Held, Armed, Live, Closing, Falling}
+use Rattle.ason_base.specs.declared.calls.Phase.TheVariants.{Held, Armed, Live}
 use Rattle.ason_base.specs.declared.calls.Role.TheVariants.{Back}
 use Rattle.ason_base.specs.declared.ids.Fibre.{Fibre}
 use Rattle.ason_base.specs.declared.ids.Lsp.{Lsp}
@@ -50,20 +50,13 @@ pub record ArmStep (t : Network) (s s' : Mesh) (n : NodeId) (Q : Given) : Type 0
       Upstream s l u f v
 
 held-open : (f : Phase) → is_held f ≡ true → is_closing f ≡ false
-held-open Asked e = absurd (cc e)
 held-open Held e = refl
-held-open Armed e = absurd (cc e)
-held-open Live e = absurd (cc e)
-held-open Closing e = absurd (cc e)
-held-open Falling e = absurd (cc e)
+held-open _ e = absurd (cc e)
 
 used-marking : (f : Phase) → is_in_use f ≡ true → is_marking f ≡ true
-used-marking Asked e = absurd (cc e)
-used-marking Held e = absurd (cc e)
 used-marking Armed e = refl
 used-marking Live e = refl
-used-marking Closing e = absurd (cc e)
-used-marking Falling e = absurd (cc e)
+used-marking _ e = absurd (cc e)
 
 same-label : (v g h : Leg) → SameIn v g → HaveOneLabel g h → HaveOneLabel v h
 same-label v g h same (x, inl both) = (x, inl (same.label ∙ both.0, both.1))

@@ -93,12 +93,8 @@ label-out q Closing i n enter leave fits small (inl e) = absurd (cc e)
 label-out q Closing i n enter leave fits small (inr e) = absurd (cc e)
 
 held-kind : (f : Phase) → is_held f ≡ true → phase_kind f ≡ HeldLeg
-held-kind Asked e = absurd (cc e)
 held-kind Held e = refl
-held-kind Armed e = absurd (cc e)
-held-kind Live e = absurd (cc e)
-held-kind Closing e = absurd (cc e)
-held-kind Falling e = absurd (cc e)
+held-kind _ e = absurd (cc e)
 
 -- where the first message down a hop is an active Path
 upstream-at : (t : Network) (q : Purpose) (s : Mesh) (l : Lsp) (p : Plan) (mail : NodeId → NodeId → List Msg)

@@ -8,11 +8,11 @@ use Rattle.ason_base.specs.Network.{Network, find_link}
 use Rattle.ason_base.specs.declared.ids.Lsp.{Lsp}
 use Rattle.ason_base.specs.declared.ids.NodeId.{NodeId}
 use Rattle.ason_base.specs.declared.calls.Phase.TheVariants.{Held}
-use Rattle.ason_base.specs.declared.commands.Command.TheVariants.{Setup, Release, Protect, Retry, Revert, Fail, Repair}
+use Rattle.ason_base.specs.declared.commands.Command.TheVariants.{Retry, Revert, Fail, Repair}
 use Rattle.ason_base.specs.declared.commands.DeskItem.{DeskItem}
 use Rattle.ason_base.specs.declared.commands.Group.{Group}
 use Rattle.ason_base.specs.declared.messages.Msg.{Msg}
-use Rattle.ason_base.specs.declared.messages.Msg.TheVariants.{Path, Resv, PathTear, PathErr, Notify}
+use Rattle.ason_base.specs.declared.messages.Msg.TheVariants.{Path, Resv}
 use Rattle.ason_base.specs.declared.tables.Leg.{Leg}
 use Rattle.mesh_rules.specs.declared.events.MeshEvent.{MeshEvent}
 use Rattle.mesh_rules.specs.declared.events.MeshEvent.TheVariants.{Take, Desk, Tick, Learn, Post}
@@ -61,28 +61,16 @@ apart-kept gs was now same apart l a at_l f x m b differ at_m uses_a uses_b back
 
 -- and no leg that is up waits for its label
 gifts-apart : (gs : List Group) (legs : List Leg) → LegsUp legs → (u : NodeId) (m : Msg) → MsgApart gs legs u m
-gifts-apart gs legs up u (Path l e k route set back r) = tt
 gifts-apart gs legs up u (Resv l e k x) =
     λ b found asked over. absurd (up-not_asked b.phase (found-all IsUp l legs b found up) asked)
-gifts-apart gs legs up u (PathTear l e k) = tt
-gifts-apart gs legs up u (PathErr l e at gone code) = tt
-gifts-apart gs legs up u (Notify l e at k code) = tt
+gifts-apart gs legs up u _ = tt
 
 -- One step
 
 -- no other group fails
 pub fails-only : (gs : List Group) (e : MeshEvent) → GoesOnWith gs e → FailsOnly gs e
-fails-only gs (Take d u) only = tt
-fails-only gs (Desk n) only = tt
-fails-only gs (Tick n) only = tt
-fails-only gs (Learn n k) only = tt
-fails-only gs (Post (Setup n from to protected both via backup)) only = tt
-fails-only gs (Post (Release n from)) only = tt
-fails-only gs (Post (Protect n from)) only = tt
-fails-only gs (Post (Retry n from)) only = tt
-fails-only gs (Post (Revert n from)) only = tt
 fails-only gs (Post (Fail h)) only = only
-fails-only gs (Post (Repair h)) only = tt
+fails-only gs _ only = tt
 
 module _ (t : Network) (gs : List Group) (was s : Mesh) (o : Routes) (hops : (l : Lsp) → LspFits t s l (o l))
     (kept : MeshKept was s) where
@@ -90,10 +78,7 @@ module _ (t : Network) (gs : List Group) (was s : Mesh) (o : Routes) (hops : (l 
       ComesToLeg (local_node t d) (s.nodes d.0) (kept.up d.0) m
   comes d u (Path l e k route set up r) ms is =
       λ none. path-there t s o hops kept.up l e k route set up r ms u d is none
-  comes d u (Resv l e k x) ms is = tt
-  comes d u (PathTear l e k) ms is = tt
-  comes d u (PathErr l e at gone code) ms is = tt
-  comes d u (Notify l e at k code) ms is = tt
+  comes d u _ ms is = tt
 
   first-kept : (d u : NodeId) (ms : List Msg) → s.mail u.0 d.0 ≡ ms →
       Kept (s.nodes d.0).legs (on_first (local_node t d) (s.nodes d.0) u ms)
@@ -120,13 +105,11 @@ module _ (t : Network) (gs : List Group) (was s : Mesh) (o : Routes) (hops : (l 
       commit-kept was s n.0 _ (tick-kept (local_node t n) (s.nodes n.0)) kept
   step-kept (Learn n k) only =
       commit-kept was s n.0 _ (link-kept (local_node t n) (s.nodes n.0) (find_link t k)) kept
-  step-kept (Post (Setup n from to protected both via backup)) only = absurd only
-  step-kept (Post (Release n from)) only = absurd only
-  step-kept (Post (Protect n from)) only = absurd only
   step-kept (Post (Retry n from)) only = ordered-kept was s from.0 (Retry n from) tt kept
   step-kept (Post (Revert n from)) only = ordered-kept was s from.0 (Revert n from) tt kept
   step-kept (Post (Fail h)) only = failed-kept was t s (with_group h s.failed) kept
   step-kept (Post (Repair h)) only = failed-kept was t s (without_group h s.failed) kept
+  step-kept (Post _) only = absurd only
 
 -- A run
 

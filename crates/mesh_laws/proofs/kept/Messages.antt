@@ -6,7 +6,7 @@ use Rattle.ason_base.specs.declared.ids.Fibre.{Fibre}
 use Rattle.ason_base.specs.declared.ids.Lsp.{Lsp}
 use Rattle.ason_base.specs.declared.ids.NodeId.{NodeId}
 use Rattle.ason_base.specs.declared.calls.Phase.{Phase}
-use Rattle.ason_base.specs.declared.calls.Phase.TheVariants.{Asked, Held, Armed, Live, Closing, Falling}
+use Rattle.ason_base.specs.declared.calls.Phase.TheVariants.{Asked, Held, Armed, Live}
 use Rattle.ason_base.specs.declared.messages.Msg.{Msg}
 use Rattle.ason_base.specs.declared.messages.Msg.TheVariants.{Path, Resv, PathTear, PathErr, Notify}
 use Rattle.ason_base.specs.declared.messages.PathRole.{PathRole}
@@ -38,11 +38,7 @@ use Rattle.mesh_laws.proofs.kept.Calls.{call_contended-kept, call_turned-kept, d
 
 pub up-not_asked : (q : Phase) → is_beyond_asked q ≡ true → is_asked q ≡ true → ⊥
 up-not_asked Asked up e = absurd (cc up)
-up-not_asked Held up e = absurd (cc e)
-up-not_asked Armed up e = absurd (cc e)
-up-not_asked Live up e = absurd (cc e)
-up-not_asked Closing up e = absurd (cc e)
-up-not_asked Falling up e = absurd (cc e)
+up-not_asked _ up e = absurd (cc e)
 
 module _ (p : LocalNode) (s : NodeState) (up : LegsUp s.legs) where
   abbrev Good : Answer → Type 0

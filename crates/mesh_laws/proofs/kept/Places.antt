@@ -8,7 +8,7 @@ use Rattle.ason_base.specs.declared.ids.LinkId.{LinkId}
 use Rattle.ason_base.specs.declared.ids.Lsp.{Lsp}
 use Rattle.ason_base.specs.declared.ids.NodeId.{NodeId}
 use Rattle.ason_base.specs.declared.calls.Phase.{Phase}
-use Rattle.ason_base.specs.declared.calls.Phase.TheVariants.{Asked, Held, Armed, Live, Closing, Falling}
+use Rattle.ason_base.specs.declared.calls.Phase.TheVariants.{Asked, Live, Closing, Falling}
 use Rattle.ason_base.specs.declared.calls.Role.{Role}
 use Rattle.ason_base.specs.declared.messages.Msg.{Msg}
 use Rattle.ason_base.specs.declared.messages.Msg.TheVariants.{Path}
@@ -23,7 +23,7 @@ use Rattle.mesh_rules.specs.Quiet.{IsQuiet}
 use Rattle.mesh_nodes.specs.Order.{LegsRise}
 use Rattle.mesh_nodes.proofs.LegList.{all-found, found-all, same_lsp-refl}
 use Rattle.lsp_laws.specs.HopLaw.{HasShape, IsHop, LspFits, RouteFits, StepFits, leg_at, mail_between, messages_of}
-use Rattle.lsp_laws.specs.HopShapes.{ActivePath, Activating, ArmedLeg, AskedLeg, Asking, ClosingLeg, Deactivating, FallingLeg, HeldLeg, LegKind, LiveLeg, MsgKind, NoLeg, PlainPath, Reactivating, Shape, TornActivating, TornAsking, TornDeactivating, TornReactivating, leg_kind, msg_kind, path_kind, phase_kind}
+use Rattle.lsp_laws.specs.HopShapes.{ActivePath, Activating, AskedLeg, ClosingLeg, Deactivating, FallingLeg, LegKind, MsgKind, NoLeg, PlainPath, Reactivating, Shape, TornActivating, leg_kind, msg_kind, path_kind, phase_kind}
 use Rattle.lsp_laws.specs.ReportLaw.{place_at}
 use Rattle.lsp_laws.proofs.hops.Rows.{BothStand, NoneThere, OnlyTorn, Settled, no_active_up, no_path_up}
 use Rattle.lsp_laws.proofs.hops.Taken.{mine}
@@ -34,25 +34,20 @@ use Rattle.mesh_laws.proofs.kept.Phases.{IsUp, LegsUp}
 
 -- of a leg, where there is one: Held, Armed or Live
 abbrev pub is_up : LegKind → Bool
-is_up NoLeg = true
 is_up AskedLeg = false
-is_up HeldLeg = true
-is_up ArmedLeg = true
-is_up LiveLeg = true
 is_up ClosingLeg = false
 is_up FallingLeg = false
+is_up _ = true
 
 -- a leg that is up, or none, is of such a kind
 pub up-kind : (l : Lsp) (legs : List Leg) → LegsUp legs → is_up (leg_kind (find_leg l legs)) ≡ true
 up-kind l legs up = go (find_leg l legs) refl
   where
     phase : (q : Phase) → is_beyond_asked q ≡ true → is_up (phase_kind q) ≡ true
-    phase Held e = refl
-    phase Armed e = refl
-    phase Live e = refl
     phase Asked e = absurd (cc e)
     phase Closing e = absurd (cc e)
     phase Falling e = absurd (cc e)
+    phase _ e = refl
 
     go : (b : Option Leg) → find_leg l legs ≡ b → is_up (leg_kind b) ≡ true
     go None is = refl
@@ -63,23 +58,18 @@ pub kind-up : (b : Leg) → is_up (leg_kind (Some b)) ≡ true → IsUp b
 kind-up b e = go b.phase e
   where
     go : (q : Phase) → is_up (phase_kind q) ≡ true → is_beyond_asked q ≡ true
-    go Held e = refl
-    go Armed e = refl
-    go Live e = refl
     go Asked e = absurd (cc e)
     go Closing e = absurd (cc e)
     go Falling e = absurd (cc e)
+    go _ e = refl
 
 -- A Path on its way down
 
 plain-down : (r : Role) (u d : LegKind) (down up : List MsgKind) → is_up u ≡ true → Shape r u d (PlainPath ∷ down) up →
     d ≡ NoLeg → ⊥
-plain-down r _ _ _ _ up Asking none = cc up
 plain-down r _ _ _ _ up Deactivating none = cc none
 plain-down r _ _ _ _ up Reactivating none = cc none
-plain-down r _ _ _ _ up TornAsking none = cc up
-plain-down r _ _ _ _ up TornDeactivating none = cc up
-plain-down r _ _ _ _ up TornReactivating none = cc up
+plain-down r _ _ _ _ up _ none = cc up
 
 active-down : (r : Role) (u d : LegKind) (down up : List MsgKind) → is_up u ≡ true →
     Shape r u d (ActivePath ∷ down) up → d ≡ NoLeg → ⊥

@@ -9,7 +9,7 @@ use Rattle.ason_base.specs.Codes.{busy_code, label_code}
 use Rattle.ason_base.specs.declared.calls.Cause.{Cause}
 use Rattle.ason_base.specs.declared.calls.Cause.TheVariants.{BackDown, Code, Full, NoBackup, Spent}
 use Rattle.ason_base.specs.declared.calls.Phase.{Phase}
-use Rattle.ason_base.specs.declared.calls.Phase.TheVariants.{Armed, Asked, Closing, Falling, Held, Live}
+use Rattle.ason_base.specs.declared.calls.Phase.TheVariants.{Armed, Held, Live}
 use Rattle.ason_base.specs.declared.ids.Lsp.{Lsp}
 use Rattle.ason_base.specs.declared.messages.PathRole.{PathRole}
 use Rattle.ason_base.specs.declared.network.LinkSpec.{LinkSpec}
@@ -53,20 +53,15 @@ held-stands : (b : Leg) → is_held b.phase ≡ true → is_closing b.phase ≡ 
 held-stands b = go b.phase
   where
     go : (f : Phase) → is_held f ≡ true → is_closing f ≡ false
-    go Asked e = absurd (cc e)
     go Held e = refl
     go Armed e = refl
     go Live e = refl
-    go Closing e = absurd (cc e)
-    go Falling e = absurd (cc e)
+    go _ e = absurd (cc e)
 
 pub used-stands : (f : Phase) → is_in_use f ≡ true → is_closing f ≡ false
-used-stands Asked e = absurd (cc e)
-used-stands Held e = absurd (cc e)
 used-stands Armed e = refl
 used-stands Live e = refl
-used-stands Closing e = absurd (cc e)
-used-stands Falling e = absurd (cc e)
+used-stands _ e = absurd (cc e)
 
 -- a Path that takes back goes out over a leg that is Held afterwards
 module _ (l : Lsp) (g : Leg) (route : List Step) (r : PathRole) where

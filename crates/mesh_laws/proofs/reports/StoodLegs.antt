@@ -41,27 +41,15 @@ stood p stands f e g h = stands f e
 
 pub asked-stands : (f : Phase) → is_asked f ≡ true → is_closing f ≡ false
 asked-stands Asked e = refl
-asked-stands Held e = absurd (cc e)
-asked-stands Armed e = absurd (cc e)
-asked-stands Live e = absurd (cc e)
-asked-stands Closing e = absurd (cc e)
-asked-stands Falling e = absurd (cc e)
+asked-stands _ e = absurd (cc e)
 
 pub held-stands : (f : Phase) → is_held f ≡ true → is_closing f ≡ false
-held-stands Asked e = absurd (cc e)
 held-stands Held e = refl
-held-stands Armed e = absurd (cc e)
-held-stands Live e = absurd (cc e)
-held-stands Closing e = absurd (cc e)
-held-stands Falling e = absurd (cc e)
+held-stands _ e = absurd (cc e)
 
 pub armed-stands : (f : Phase) → is_armed f ≡ true → is_closing f ≡ false
-armed-stands Asked e = absurd (cc e)
-armed-stands Held e = absurd (cc e)
 armed-stands Armed e = refl
-armed-stands Live e = absurd (cc e)
-armed-stands Closing e = absurd (cc e)
-armed-stands Falling e = absurd (cc e)
+armed-stands _ e = absurd (cc e)
 
 -- a torn leg isn't Asked, nor is a leg with its label
 

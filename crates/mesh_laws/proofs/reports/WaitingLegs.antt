@@ -2,7 +2,7 @@
 use Rattle.std.proofs.Common.{◌≡◌, ◌<◌, ℕ, zero, suc, Bool, true, false, not, List, [], ◌∷◌, refl, arith}
 use Rattle.std.specs.Prelude.{Option, Some, None}
 use Rattle.ason_base.specs.declared.calls.Phase.{Phase}
-use Rattle.ason_base.specs.declared.calls.Phase.TheVariants.{Armed, Asked, Closing, Falling, Held, Live}
+use Rattle.ason_base.specs.declared.calls.Phase.TheVariants.{Asked, Closing}
 use Rattle.ason_base.specs.declared.messages.Msg.{Msg}
 use Rattle.ason_base.specs.declared.messages.Msg.TheVariants.{Path, Resv, PathTear, PathErr, Notify}
 use Rattle.ason_base.specs.declared.tables.Leg.{Leg}
@@ -26,23 +26,15 @@ asked-waits (Some g) e = go g.phase e
   where
     go : (f : Phase) → phase_kind f ≡ AskedLeg → is_asked f ≡ true
     go Asked e = refl
-    go Held e = absurd (cc e)
-    go Armed e = absurd (cc e)
-    go Live e = absurd (cc e)
-    go Closing e = absurd (cc e)
-    go Falling e = absurd (cc e)
+    go _ e = absurd (cc e)
 
 pub closing-torn : (o : Option Leg) → leg_kind o ≡ ClosingLeg → is_standing o ≡ false
 closing-torn None e = absurd (cc e)
 closing-torn (Some g) e = go g.phase e
   where
     go : (f : Phase) → phase_kind f ≡ ClosingLeg → not (is_closing f) ≡ false
-    go Asked e = absurd (cc e)
-    go Held e = absurd (cc e)
-    go Armed e = absurd (cc e)
-    go Live e = absurd (cc e)
     go Closing e = refl
-    go Falling e = absurd (cc e)
+    go _ e = absurd (cc e)
 
 -- a plain Path is a Path
 pub plain-path : (ms : List Msg) → has_plain ms ≡ true → has_path ms ≡ true

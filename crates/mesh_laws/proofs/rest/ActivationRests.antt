@@ -31,6 +31,7 @@ use Rattle.lsp_laws.proofs.hops.IdleHops.{no_kinds}
 use Rattle.lsp_laws.proofs.hops.Chain.{Chain, LegFits, Hop}
 use Rattle.lsp_laws.proofs.hops.LegChanges.{previous_is}
 use Rattle.lsp_laws.proofs.hops.Views.{leg-there}
+use Rattle.lsp_laws.proofs.hops.Taken.{ahead}
 use Rattle.mesh_laws.specs.Weights.{Routes, hops_back}
 use Rattle.mesh_laws.proofs.rest.Committed.{taken_mesh}
 use Rattle.mesh_laws.proofs.rest.RowKinds.{held-none_up}
@@ -48,14 +49,7 @@ module _ (t : Network) (q : Purpose) (s : Mesh) (l : Lsp) (p : Plan) (i : ℕ) (
   abbrev role : PathRole
   role = Back true work primary
 
-  abbrev u : NodeId
-  u = node_at p i
-
-  abbrev d : NodeId
-  d = node_at p (suc i)
-
-  abbrev next : NodeId
-  next = node_at p (suc (suc i))
+  open ahead t s p i use {u, d, next}
 
   abbrev message : Msg
   message = Path l e k r set label (Back true work primary)

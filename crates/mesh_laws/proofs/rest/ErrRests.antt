@@ -25,7 +25,7 @@ use Rattle.lsp_laws.proofs.hops.Chain.{Chain, LegFits, Hop}
 use Rattle.lsp_laws.proofs.hops.LegChanges.{torn_of}
 use Rattle.mesh_rules.specs.PathErrs.{PathFailure}
 use Rattle.lsp_laws.proofs.hops.InParts.{leg_of_err, leg_failed, leg_removed, leg_refused, leg_disarmed}
-use Rattle.lsp_laws.proofs.hops.Taken.{up_hop}
+use Rattle.lsp_laws.proofs.hops.Taken.{ahead, up_hop}
 use Rattle.mesh_laws.specs.Weights.{Routes, hops_back}
 use Rattle.mesh_laws.proofs.rest.Places.{place-is}
 use Rattle.mesh_laws.proofs.rest.RowKinds.{no-way_up, path-kinds}
@@ -37,11 +37,7 @@ module _ (t : Network) (q : Purpose) (s : Mesh) (l : Lsp) (p : Plan) (i : ℕ) (
     (e names : NodeId) (gone : Bool) (code : ErrCode) (rest : List Msg)
     (was : s.mail (node_at p (suc i)).0 (node_at p i).0 ≡ PathErr l e names gone code ∷ rest)
     (o : Routes) (known : o l ≡ Some p.route) where
-  abbrev at : NodeId
-  at = node_at p i
-
-  abbrev from : NodeId
-  from = node_at p (suc i)
+  open ahead t s p i use {u as at, d as from}
 
   abbrev message : Msg
   message = PathErr l e names gone code

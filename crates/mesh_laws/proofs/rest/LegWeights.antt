@@ -92,10 +92,7 @@ asked-more role.Back k = omega arith
 phase-most : (f : Phase) (r : Role) (k : ℕ) → phase_weight f r (suc k) ≤ asked_weight r (suc k)
 phase-most Asked r k = omega arith
 phase-most Armed r k = asked-more r (suc k)
-phase-most Held r k = let h = asked-more r (suc k) in omega arith
-phase-most Live r k = let h = asked-more r (suc k) in omega arith
-phase-most Closing r k = let h = asked-more r (suc k) in omega arith
-phase-most Falling r k = let h = asked-more r (suc k) in omega arith
+phase-most _ r k = let h = asked-more r (suc k) in omega arith
 
 -- A Resv weighs at most what it weighs at an Asked leg.
 pub resv-most : (t : Network) (q : Purpose) (l : Lsp) (p : Plan) (i : ℕ) (g : Option Leg) (k : ℕ) → Fits t q l p i g →
@@ -149,20 +146,12 @@ sent-back o s s' l j n h is stays there d e k route set up work primary =
 -- The phase of a leg is that of some leg.
 pub no-leg_kind : (f : Phase) → phase_kind f ≡ NoLeg → ⊥
 no-leg_kind Asked e = cc e
-no-leg_kind Held e = cc e
-no-leg_kind Armed e = cc e
-no-leg_kind Live e = cc e
-no-leg_kind Closing e = cc e
-no-leg_kind Falling e = cc e
+no-leg_kind _ e = cc e
 
 -- The phase that is_asked means is Asked.
 pub asked-phase : (f : Phase) → is_asked f ≡ true → f ≡ Asked
 asked-phase Asked e = refl
-asked-phase Held e = absurd (cc e)
-asked-phase Armed e = absurd (cc e)
-asked-phase Live e = absurd (cc e)
-asked-phase Closing e = absurd (cc e)
-asked-phase Falling e = absurd (cc e)
+asked-phase _ e = absurd (cc e)
 
 -- An Asked leg weighs less with one hop less behind it.
 pub asked-less : (r : Role) (k : ℕ) → asked_weight r (suc k) < asked_weight r (suc (suc k))

@@ -31,6 +31,7 @@ use Rattle.lsp_laws.proofs.hops.NoticeRule.{notice_only}
 use Rattle.lsp_laws.proofs.hops.Planned.{Planned}
 use Rattle.lsp_laws.proofs.hops.Plans.{Plan, hops, node_at}
 use Rattle.lsp_laws.proofs.hops.Purposes.{Purpose}
+use Rattle.lsp_laws.proofs.hops.Taken.{ahead}
 use Rattle.mesh_laws.specs.Weights.{Routes, hops_back, place_in, steps_before, weight}
 use Rattle.mesh_laws.specs.Work.{WorkIsWithin}
 use Rattle.mesh_laws.proofs.rest.Works.{total-append}
@@ -47,11 +48,7 @@ module _ (t : Network) (s : Mesh) (o : Routes) (q : Purpose) (p : Plan) (i : ℕ
     (l : Lsp) (e names : NodeId) (k : LinkId) (code : ErrCode) (rest : List Msg)
     (was : s.mail (node_at p (suc i)).0 (node_at p i).0 ≡ Notify l e names k code ∷ rest)
     (pl : Planned t s o l q p) (known : o l ≡ Some p.route) where
-  abbrev at : NodeId
-  at = node_at p i
-
-  abbrev from : NodeId
-  from = node_at p (suc i)
+  open ahead t s p i use {u as at, d as from}
 
   abbrev message : Msg
   message = Notify l e names k code

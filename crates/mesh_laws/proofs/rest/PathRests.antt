@@ -17,9 +17,8 @@ use Rattle.ason_base.specs.declared.messages.Msg.TheVariants.{Path}
 use Rattle.ason_base.specs.declared.risks.Risk.{Risk}
 use Rattle.ason_base.specs.declared.tables.Leg.{Leg}
 use Rattle.mesh_rules.specs.declared.neighbours.Neighbour.{Neighbour}
-use Rattle.mesh_rules.specs.State.{NodeState}
 use Rattle.mesh_rules.specs.Changes.{Answer, nothing, sends}
-use Rattle.mesh_rules.specs.LocalNodes.{LocalNode, local_node, own_link, leads}
+use Rattle.mesh_rules.specs.LocalNodes.{own_link, leads}
 use Rattle.mesh_rules.specs.Legs.{following}
 use Rattle.mesh_rules.specs.Messages.{arrival}
 use Rattle.mesh_rules.specs.Machine.{Mesh, without_first}
@@ -31,7 +30,7 @@ use Rattle.lsp_laws.proofs.hops.Plans.{Plan, hops, node_at, IsRoute, distinct}
 use Rattle.lsp_laws.proofs.hops.Purposes.{Purpose, Carries, Guards, Tells, role_of}
 use Rattle.lsp_laws.proofs.hops.Chain.{Chain, LegFits, Hop, IsVacant, below_or_not}
 use Rattle.lsp_laws.proofs.hops.LegChanges.{following_none}
-use Rattle.lsp_laws.proofs.hops.Taken.{down_hop, down_mine}
+use Rattle.lsp_laws.proofs.hops.Taken.{ahead, down_hop, down_mine}
 use Rattle.lsp_laws.proofs.hops.Views.{leg-there}
 use Rattle.mesh_laws.specs.Weights.{Routes, hops_back, weight, path_weight, asked_weight}
 use Rattle.mesh_laws.proofs.rest.Committed.{taken_mesh}
@@ -63,20 +62,7 @@ module _ (t : Network) (q : Purpose) (s : Mesh) (l : Lsp) (p : Plan) (i : ℕ) (
     (e : NodeId) (k : LinkId) (r : List Step) (set : List ℕ) (label : Option ℕ) (purpose : PathRole) (rest : List Msg)
     (was : s.mail (node_at p i).0 (node_at p (suc i)).0 ≡ Path l e k r set label purpose ∷ rest)
     (o : Routes) (known : o l ≡ Some p.route) (short : hops p ≤ 63) where
-  abbrev u : NodeId
-  u = node_at p i
-
-  abbrev d : NodeId
-  d = node_at p (suc i)
-
-  abbrev next : NodeId
-  next = node_at p (suc (suc i))
-
-  abbrev place : LocalNode
-  place = local_node t d
-
-  abbrev state : NodeState
-  state = s.nodes d.0
+  open ahead t s p i use {u, d, next, place, state}
 
   abbrev message : Msg
   message = Path l e k r set label purpose

@@ -31,6 +31,7 @@ use Rattle.mesh_rules.specs.Resvs.{is_expected, labels_left, label_passed, passe
 use Rattle.mesh_rules.specs.ActivationAnswers.{is_confirmed}
 use Rattle.lsp_laws.proofs.hops.InParts.{leg_of_resv, leg_answers, leg_confirmed}
 use Rattle.lsp_laws.proofs.hops.Views.{leg-there}
+use Rattle.lsp_laws.proofs.hops.Taken.{ahead}
 use Rattle.mesh_laws.specs.Weights.{Routes, hops_back, hops_in, weight, asked_weight, phase_weight}
 use Rattle.mesh_laws.proofs.rest.Committed.{taken_mesh}
 use Rattle.mesh_laws.proofs.rest.Places.{place-is}
@@ -42,11 +43,7 @@ module _ (t : Network) (q : Purpose) (s : Mesh) (l : Lsp) (p : Plan) (i : ℕ) (
     (e : NodeId) (k : LinkId) (x : ℕ) (rest : List Msg)
     (was : s.mail (node_at p (suc i)).0 (node_at p i).0 ≡ Resv l e k x ∷ rest)
     (o : Routes) (known : o l ≡ Some p.route) (short : hops p ≤ 63) where
-  abbrev at : NodeId
-  at = node_at p i
-
-  abbrev from : NodeId
-  from = node_at p (suc i)
+  open ahead t s p i use {u as at, d as from}
 
   abbrev place : LocalNode
   place = local_node t at

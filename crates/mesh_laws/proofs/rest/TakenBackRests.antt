@@ -31,6 +31,7 @@ use Rattle.lsp_laws.proofs.hops.Chain.{Chain, LegFits}
 use Rattle.lsp_laws.proofs.hops.LegKinds.{live_leg}
 use Rattle.lsp_laws.proofs.hops.LegChanges.{following_is}
 use Rattle.lsp_laws.proofs.hops.Views.{leg-there}
+use Rattle.lsp_laws.proofs.hops.Taken.{ahead}
 use Rattle.mesh_laws.specs.Weights.{Routes, weight}
 use Rattle.mesh_laws.proofs.rest.Committed.{taken_mesh}
 use Rattle.mesh_laws.proofs.rest.LegWeights.{path-still, deaf-light, one-less, sent-back, no-leg_kind}
@@ -47,14 +48,7 @@ module _ (t : Network) (q : Purpose) (s : Mesh) (l : Lsp) (p : Plan) (i : ℕ) (
   abbrev back : PathRole
   back = Back false work primary
 
-  abbrev from : NodeId
-  from = node_at p i
-
-  abbrev at : NodeId
-  at = node_at p (suc i)
-
-  abbrev far : NodeId
-  far = node_at p (suc (suc i))
+  open ahead t s p i use {u as from, d as at, next as far}
 
   abbrev takes : Msg
   takes = Path l e k r set label (Back false work primary)

@@ -45,11 +45,7 @@ phase_of_kind FallingLeg = Some Falling
 
 kind-phase : (q : Phase) → phase_of_kind (phase_kind q) ≡ Some q
 kind-phase Asked = refl
-kind-phase Held = refl
-kind-phase Armed = refl
-kind-phase Live = refl
-kind-phase Closing = refl
-kind-phase Falling = refl
+kind-phase _ = refl
 
 -- where the kind is that of a phase, there is a leg in that phase
 pub leg-in : (q : Phase) (o : Option Leg) → leg_kind o ≡ phase_kind q → (g : Leg) × (o ≡ Some g) × (g.phase ≡ q)

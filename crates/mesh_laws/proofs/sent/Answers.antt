@@ -5,7 +5,7 @@ use Rattle.std.specs.Prelude.{◌⊎◌, ◌||◌, map, Option, Some, None}
 use Rattle.ason_base.specs.declared.ids.Fibre.{Fibre}
 use Rattle.ason_base.specs.declared.ids.Lsp.{Lsp}
 use Rattle.ason_base.specs.declared.calls.Phase.{Phase}
-use Rattle.ason_base.specs.declared.calls.Phase.TheVariants.{Asked, Held, Armed, Live, Closing, Falling}
+use Rattle.ason_base.specs.declared.calls.Phase.TheVariants.{Asked}
 use Rattle.ason_base.specs.declared.messages.PathRole.{PathRole}
 use Rattle.ason_base.specs.declared.messages.PathRole.TheVariants as path
 use Rattle.ason_base.specs.declared.messages.Msg.{Msg}
@@ -129,11 +129,7 @@ kind-none (Some g) e = absurd (phase g.phase e)
   where
     phase : (p : Phase) → phase_kind p ≡ NoLeg → ⊥
     phase Asked e = cc e
-    phase Held e = cc e
-    phase Armed e = cc e
-    phase Live e = cc e
-    phase Closing e = cc e
-    phase Falling e = cc e
+    phase _ e = cc e
 
 -- What u sends on, or is about to be given by the messages that come up, is d's label in. Asked legs have no label out,
 -- and d has a label in where it is Held, Armed or Live.

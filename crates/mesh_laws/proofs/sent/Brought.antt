@@ -4,7 +4,7 @@ use Rattle.std.specs.Prelude.{◌⊎◌, map, Option, Some, None}
 use Rattle.ason_base.specs.Network.{Network, receiver_of, sender_of}
 use Rattle.ason_base.specs.Lsps.{same_lsp}
 use Rattle.ason_base.specs.declared.calls.Phase.{Phase}
-use Rattle.ason_base.specs.declared.calls.Phase.TheVariants.{Asked, Held, Armed, Live, Closing, Falling}
+use Rattle.ason_base.specs.declared.calls.Phase.TheVariants.{Asked}
 use Rattle.ason_base.specs.declared.codes.ErrCode.{ErrCode}
 use Rattle.ason_base.specs.declared.ids.Fibre.{Fibre}
 use Rattle.ason_base.specs.declared.ids.Lsp.{Lsp}
@@ -84,11 +84,7 @@ err-removes s u l e at code g p found from why =
 
 asked-is : (f : Phase) → phase_kind f ≡ AskedLeg → is_asked f ≡ true
 asked-is Asked e = refl
-asked-is Held e = absurd (cc e)
-asked-is Armed e = absurd (cc e)
-asked-is Live e = absurd (cc e)
-asked-is Closing e = absurd (cc e)
-asked-is Falling e = absurd (cc e)
+asked-is _ e = absurd (cc e)
 
 -- a fibre of the same link is this one or its reverse
 one-of-two : (f g : Fibre) → f.link.0 ≡ g.link.0 → (f ≡ g) ⊎ (f ≡ reverse g)

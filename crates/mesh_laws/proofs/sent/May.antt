@@ -4,13 +4,13 @@
 use Rattle.std.proofs.Common.{◌≡◌, ◌≤◌, ◌<◌, ℕ, Bool, true, false, List, [], ◌∷◌, ◌++◌, refl, sym, ap, subst, inl}
 use Rattle.std.specs.Prelude.{◌⊎◌, Option, Some, None, IfSome}
 use Rattle.ason_base.specs.declared.calls.Phase.{Phase}
-use Rattle.ason_base.specs.declared.calls.Phase.TheVariants.{Asked, Held, Armed, Live, Closing, Falling}
+use Rattle.ason_base.specs.declared.calls.Phase.TheVariants.{Asked, Held, Armed, Live}
 use Rattle.ason_base.specs.declared.calls.Role.{Role}
 use Rattle.ason_base.specs.declared.calls.Role.TheVariants.{Work, Back}
 use Rattle.ason_base.specs.declared.ids.Fibre.{Fibre}
 use Rattle.ason_base.specs.declared.ids.Lsp.{Lsp}
 use Rattle.ason_base.specs.declared.messages.Msg.{Msg}
-use Rattle.ason_base.specs.declared.messages.Msg.TheVariants.{Path, Resv, PathTear, PathErr, Notify}
+use Rattle.ason_base.specs.declared.messages.Msg.TheVariants.{Path, Resv}
 use Rattle.ason_base.specs.declared.messages.PathRole.{PathRole}
 use Rattle.ason_base.specs.declared.tables.Leg.{Leg}
 use Rattle.ason_base.specs.declared.tables.Out.{Out}
@@ -34,9 +34,7 @@ use Rattle.mesh_laws.specs.HeardLaw.{brings, lets_go, sends_of}
 abbrev pub is_labelled : Msg → Bool
 is_labelled (Path l e k route set up r) = true
 is_labelled (Resv l e k y) = true
-is_labelled (PathTear l e k) = false
-is_labelled (PathErr l e at gone code) = false
-is_labelled (Notify l e at k code) = false
+is_labelled _ = false
 
 -- none of these messages lets go
 abbrev pub NoneRemoves : List Out → Type 0
@@ -63,10 +61,7 @@ pub record Given : Type 1 where
 -- what a Path says that its LSP is for
 abbrev pub role_told : Msg → Option PathRole
 role_told (Path l e k route set up r) = Some r
-role_told (Resv l e k y) = None
-role_told (PathTear l e k) = None
-role_told (PathErr l e at gone code) = None
-role_told (Notify l e at k code) = None
+role_told _ = None
 
 -- of a message
 abbrev pub gift : Msg → Given
@@ -150,13 +145,11 @@ pub record Fine (p : LocalNode) (s : NodeState) (Q : Given) (a : Answer) : Type 
 
 closed-idle : (f : Phase) (r : Role) → is_in_use (closing_phase f r) ≡ true → ⊥
 closed-idle Asked r e = cc e
-closed-idle Held r e = cc e
 closed-idle Armed Work e = cc e
 closed-idle Armed Back e = cc e
 closed-idle Live Work e = cc e
 closed-idle Live Back e = cc e
-closed-idle Closing r e = cc e
-closed-idle Falling r e = cc e
+closed-idle _ r e = cc e
 
 -- a backup that gets its label isn't activated
 pub reserved-idle : (r : Role) → r ≡ Back → is_in_use (reserved r) ≡ true → ⊥
@@ -197,12 +190,9 @@ module _ (p : LocalNode) (s : NodeState) (Q : Given) where
       phased-may Live g (λ back used away. as_armed (may.arms back (armed-used g.phase armed) away)) may
     where
       armed-used : (f : Phase) → is_armed f ≡ true → is_in_use f ≡ true
-      armed-used Asked e = absurd (cc e)
-      armed-used Held e = absurd (cc e)
       armed-used Armed e = refl
       armed-used Live e = refl
-      armed-used Closing e = absurd (cc e)
-      armed-used Falling e = absurd (cc e)
+      armed-used _ e = absurd (cc e)
 
       as_armed : InUse s Q g → InUse s Q (with_phase Live g)
       as_armed (WasInUse v found used same) =

@@ -48,11 +48,7 @@ in-of q Falling i n enter leave fits e = absurd (cc e)
 out-of : (q : Purpose) (f : Phase) (i n : ℕ) (enter leave : Option ℕ) → PhaseFits q f i n enter leave →
     phase_kind f ≡ AskedLeg → leave ≡ None
 out-of q Asked i n enter leave fits e = fits.2
-out-of q Held i n enter leave fits e = absurd (cc e)
-out-of q Armed i n enter leave fits e = absurd (cc e)
-out-of q Live i n enter leave fits e = absurd (cc e)
-out-of q Closing i n enter leave fits e = absurd (cc e)
-out-of q Falling i n enter leave fits e = absurd (cc e)
+out-of q _ i n enter leave fits e = absurd (cc e)
 
 -- Messages
 

@@ -10,7 +10,7 @@ use Rattle.ason_base.specs.declared.calls.CallState.TheVariants.{Asking, Bare, B
 use Rattle.ason_base.specs.declared.calls.CallRow.{CallRow}
 use Rattle.ason_base.specs.declared.calls.LegRow.{LegRow}
 use Rattle.ason_base.specs.declared.calls.Phase.{Phase}
-use Rattle.ason_base.specs.declared.calls.Phase.TheVariants.{Asked, Held, Armed, Live, Closing, Falling}
+use Rattle.ason_base.specs.declared.calls.Phase.TheVariants.{Asked, Held, Live}
 use Rattle.ason_base.specs.declared.calls.Role.{Role}
 use Rattle.ason_base.specs.declared.calls.Role.TheVariants.{Work, Back}
 use Rattle.ason_base.specs.declared.ids.Fibre.{Fibre}
@@ -63,10 +63,7 @@ use Rattle.mesh_laws.proofs.surveyed.Unreported.{unreported}
 reserved-idle : (q : Phase) → (is_asked q || is_held q) ≡ true → is_idle q ≡ true
 reserved-idle Asked e = refl
 reserved-idle Held e = refl
-reserved-idle Armed e = absurd (cc e)
-reserved-idle Live e = absurd (cc e)
-reserved-idle Closing e = absurd (cc e)
-reserved-idle Falling e = absurd (cc e)
+reserved-idle _ e = absurd (cc e)
 
 row-calm : (n : NodeId) (b : Leg) → is_reserved_row (leg_row n b) ≡ true → LegIsCalm b
 row-calm n b e back = reserved-idle b.phase (rw back at e)

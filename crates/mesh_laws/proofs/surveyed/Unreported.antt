@@ -4,7 +4,7 @@ use Rattle.std.specs.Prelude.{◌&&◌, Option, Some}
 use Rattle.ason_base.specs.Network.{IsTopology, Network, find_link}
 use Rattle.ason_base.specs.Routes.{makes_route}
 use Rattle.ason_base.specs.declared.calls.Phase.{Phase}
-use Rattle.ason_base.specs.declared.calls.Phase.TheVariants.{Asked, Held, Armed, Live, Closing, Falling}
+use Rattle.ason_base.specs.declared.calls.Phase.TheVariants.{Held, Armed, Live}
 use Rattle.ason_base.specs.declared.calls.Role.{Role}
 use Rattle.ason_base.specs.declared.ids.Fibre.{Fibre}
 use Rattle.ason_base.specs.declared.ids.LinkId.{LinkId}
@@ -50,9 +50,7 @@ up-stands : (q : Phase) → is_beyond_asked q ≡ true → Stands (phase_kind q)
 up-stands Held e = HeldStands
 up-stands Armed e = ArmedStands
 up-stands Live e = LiveStands
-up-stands Asked e = absurd (cc e)
-up-stands Closing e = absurd (cc e)
-up-stands Falling e = absurd (cc e)
+up-stands _ e = absurd (cc e)
 
 kind-standing : (o : Option Leg) (q : Phase) → is_beyond_asked q ≡ true → leg_kind o ≡ phase_kind q →
     is_standing o ≡ true
