@@ -8,11 +8,8 @@ use Rattle.ason_base.specs.declared.calls.Cause.TheVariants.{Unset}
 use Rattle.ason_base.specs.declared.calls.Phase.TheVariants.{Armed, Held, Live}
 use Rattle.ason_base.specs.declared.calls.Role.TheVariants.{Back}
 use Rattle.mesh_rules.specs.declared.events.MeshEvent.{MeshEvent}
-use Rattle.mesh_rules.specs.Events.{after}
-use Rattle.mesh_rules.specs.Machine.{start}
-use Rattle.lsp_laws.specs.HopLaw.{HasShape}
 use Rattle.lsp_laws.specs.HopShapes as row
-use Rattle.mesh_examples.proofs.Scene.{alone, among, desk, fails_link, joins, learns, leg, lsp, node, over, Reaches, reported, Seen, sets_up, spec, takes_each}
+use Rattle.mesh_examples.proofs.Scene.{alone, among, desk, down_at, fails_link, joins, learns, leg, lsp, mail_on, node, over, ReachesRow, reported, Seen, sets_up, spec, still, takes_each}
 
 abbrev pub network : Network
 network = record {
@@ -23,20 +20,25 @@ network = record {
       ∷ []) ∷ joins 6 3 6 2 (2 ∷ []) ∷ joins 7 5 6 1 [] ∷ [];
 }
 
-abbrev pub events : List MeshEvent
-events =
-    learns 1 (5 ∷ [])
-    ++ learns 2 (3 ∷ [])
-    ++ learns 5 (3 ∷ 5 ∷ [])
-    ++ sets_up 1 1 2 (over 1 3 ∷ over 6 5 ∷ []) (over 1 2 ∷ over 5 4 ∷ [])
+-- the call is guarded, and its working route is hit
+abbrev pub since_setup : List MeshEvent
+since_setup =
+    sets_up 1 1 2 (over 1 3 ∷ over 6 5 ∷ []) (over 1 2 ∷ over 5 4 ∷ [])
     ∷ desk 1
     ∷ takes_each ((6, 1) ∷ (2, 6) ∷ (6, 2) ∷ (1, 6) ∷ (5, 1) ∷ (2, 5) ∷ (5, 2) ∷ [])
     ++ fails_link 3
     ∷ desk 6
     ∷ takes_each ((1, 6) ∷ (1, 5) ∷ [])
 
+abbrev pub events : List MeshEvent
+events =
+    learns 1 (5 ∷ [])
+    ++ learns 2 (3 ∷ [])
+    ++ learns 5 (3 ∷ 5 ∷ [])
+    ++ since_setup
+
 abbrev pub as_reached : Seen
-as_reached = record {
+as_reached = record (still 6 7) {
   legs = among 6 (
       (1, leg 1 1 Live None (Some 1) 0 1 1 ∷ leg 1 2 Armed None (Some 1) 0 3 1 ∷ [])
       ∷ (2, leg 1 1 Live (Some 1) None 1 0 0 ∷ leg 1 2 Held (Some 1) None 1 0 0 ∷ [])
@@ -45,14 +47,10 @@ as_reached = record {
       ∷ []);
   calls = alone 6 1 (reported 1 Turning Unset 1 0 ∷ []);
   known = 4 ∷ 4 ∷ 1 ∷ 0 ∷ 5 ∷ 4 ∷ [];
-  down = 0 ∷ 0 ∷ 0 ∷ 0 ∷ 0 ∷ 1 ∷ [];
-  mail = (0, 0) ∷ (1, 0) ∷ (0, 0) ∷ (0, 0) ∷ (0, 0) ∷ (0, 0) ∷ (0, 0) ∷ [];
+  down = down_at 6 ((6, 1) ∷ []);
+  mail = mail_on 7 ((2, (1, 0)) ∷ []);
 }
 
-reaches : Reaches network events as_reached
+reaches : ReachesRow network events as_reached Back (lsp 1 1 2) (node 1) (node 5)
 unfolding labels.numbers_from
-reaches = record { enabled = refl; reached = refl }
-
-in_row : HasShape (after network start events) Back (lsp 1 1 2) (node 1) (node 5)
-unfolding labels.numbers_from
-in_row = row.Activating
+reaches = record { enabled = refl; reached = refl; in_row = row.Activating }

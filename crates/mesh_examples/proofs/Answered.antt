@@ -8,11 +8,8 @@ use Rattle.ason_base.specs.declared.calls.Cause.TheVariants.{Unset}
 use Rattle.ason_base.specs.declared.calls.Phase.TheVariants.{Asked, Live}
 use Rattle.ason_base.specs.declared.calls.Role.TheVariants.{Work}
 use Rattle.mesh_rules.specs.declared.events.MeshEvent.{MeshEvent}
-use Rattle.mesh_rules.specs.Events.{after}
-use Rattle.mesh_rules.specs.Machine.{start}
-use Rattle.lsp_laws.specs.HopLaw.{HasShape}
 use Rattle.lsp_laws.specs.HopShapes as row
-use Rattle.mesh_examples.proofs.Scene.{alone, among, called, desk, joins, leg, lsp, node, over, Reaches, Seen, sets_up, spec, takes}
+use Rattle.mesh_examples.proofs.Scene.{alone, among, called, desk, joins, leg, lsp, mail_on, node, over, ReachesRow, Seen, sets_up, spec, still, takes}
 
 abbrev pub network : Network
 network = record {
@@ -30,21 +27,16 @@ events =
     ∷ []
 
 abbrev pub as_reached : Seen
-as_reached = record {
+as_reached = record (still 6 7) {
   legs = among 6 (
       (4, leg 4 1 Asked None None 0 1 0 ∷ [])
       ∷ (5, leg 4 1 Live (Some 1) None 1 0 0 ∷ [])
       ∷ []);
   calls = alone 6 4 (called 1 Asking Unset ∷ []);
   known = 3 ∷ 2 ∷ 4 ∷ 2 ∷ 3 ∷ 0 ∷ [];
-  down = 0 ∷ 0 ∷ 0 ∷ 0 ∷ 0 ∷ 0 ∷ [];
-  mail = (0, 0) ∷ (0, 0) ∷ (0, 0) ∷ (0, 0) ∷ (0, 0) ∷ (0, 0) ∷ (0, 1) ∷ [];
+  mail = mail_on 7 ((7, (0, 1)) ∷ []);
 }
 
-reaches : Reaches network events as_reached
+reaches : ReachesRow network events as_reached Work (lsp 4 1 1) (node 4) (node 5)
 unfolding labels.numbers_from
-reaches = record { enabled = refl; reached = refl }
-
-in_row : HasShape (after network start events) Work (lsp 4 1 1) (node 4) (node 5)
-unfolding labels.numbers_from
-in_row = row.Answered
+reaches = record { enabled = refl; reached = refl; in_row = row.Answered }

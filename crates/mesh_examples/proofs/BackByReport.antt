@@ -1,16 +1,14 @@
 -- A run after which a turned call goes back, since its backup is hit and its working route is repaired.
 use Rattle.std.proofs.Common.{List, [], ◌∷◌, ◌++◌, refl}
+use Rattle.std.specs.Prelude.{replicate}
 use Rattle.ason_base.specs.Codes.{set_code}
 use Rattle.ason_base.specs.Labels as labels
-use Rattle.ason_base.specs.Network.{Network}
 use Rattle.ason_base.specs.declared.calls.CallState.TheVariants.{Blocked, Guarded}
 use Rattle.ason_base.specs.declared.calls.Cause.TheVariants.{Code, Unset}
 use Rattle.mesh_rules.specs.declared.events.MeshEvent.{MeshEvent}
 use Rattle.mesh_examples.proofs.Deactivating as deactivating
-use Rattle.mesh_examples.proofs.Scene.{alone, called, desk, fails_link, learns, over, Reaches, repairs_link, reported, reverts, Seen, sets_up, takes, takes_each, ticks}
-
-abbrev network : Network
-network = deactivating.network
+use Rattle.mesh_examples.proofs.Deactivating.{network}
+use Rattle.mesh_examples.proofs.Scene.{alone, called, desk, down_at, fails_link, learns, over, Reaches, repairs_link, reported, reverts, Seen, sets_up, takes, takes_each, ticks}
 
 abbrev events : List MeshEvent
 events =
@@ -51,8 +49,8 @@ events =
 abbrev as_reached : Seen
 as_reached = record deactivating.as_reached {
   calls = alone 6 1 (reported 1 Guarded Unset 0 1 ∷ called 2 Blocked (Code set_code) ∷ []);
-  known = 7 ∷ 7 ∷ 7 ∷ 7 ∷ 7 ∷ 7 ∷ [];
-  down = 1 ∷ 0 ∷ 0 ∷ 0 ∷ 0 ∷ 1 ∷ [];
+  known = replicate 6 7;
+  down = down_at 6 ((1, 1) ∷ (6, 1) ∷ []);
 }
 
 reaches : Reaches network events as_reached

@@ -1,6 +1,6 @@
 -- A run after which one of two reported fibres of a backup route is repaired.
 use Rattle.std.proofs.Common.{true, false, List, [], ◌∷◌, ◌++◌, refl}
-use Rattle.std.specs.Prelude.{Some, None}
+use Rattle.std.specs.Prelude.{replicate, Some, None}
 use Rattle.ason_base.specs.Codes.{set_code}
 use Rattle.ason_base.specs.Labels as labels
 use Rattle.ason_base.specs.Network.{Network}
@@ -8,7 +8,7 @@ use Rattle.ason_base.specs.declared.calls.CallState.TheVariants.{Blocked, Guarde
 use Rattle.ason_base.specs.declared.calls.Cause.TheVariants.{Code, Unset}
 use Rattle.ason_base.specs.declared.calls.Phase.TheVariants.{Held, Live}
 use Rattle.mesh_rules.specs.declared.events.MeshEvent.{MeshEvent}
-use Rattle.mesh_examples.proofs.Scene.{among, called, desk, fails_link, joins, learns, leg, over, Reaches, repairs_link, reported, reverts, Seen, sets_up, sets_up_alone, spec, takes, takes_each, ticks}
+use Rattle.mesh_examples.proofs.Scene.{among, called, desk, down_at, fails_link, joins, learns, leg, over, Reaches, repairs_link, reported, reverts, Seen, sets_up, sets_up_alone, spec, still, takes, takes_each, ticks}
 
 abbrev network : Network
 network = record {
@@ -60,7 +60,7 @@ events =
     ∷ []
 
 abbrev as_reached : Seen
-as_reached = record {
+as_reached = record (still 6 7) {
   legs = among 6 (
       (1, leg 1 1 Live None (Some 1) 0 2 0 ∷ leg 1 2 Held None (Some 1) 0 3 2 ∷ [])
       ∷ (4, leg 1 2 Held (Some 1) (Some 1) 3 3 1 ∷ [])
@@ -71,9 +71,8 @@ as_reached = record {
       (1, reported 1 Guarded Unset 0 1 ∷ [])
       ∷ (2, called 2 Blocked (Code set_code) ∷ [])
       ∷ []);
-  known = 7 ∷ 7 ∷ 7 ∷ 7 ∷ 7 ∷ 7 ∷ [];
-  down = 1 ∷ 0 ∷ 0 ∷ 1 ∷ 0 ∷ 0 ∷ [];
-  mail = (0, 0) ∷ (0, 0) ∷ (0, 0) ∷ (0, 0) ∷ (0, 0) ∷ (0, 0) ∷ (0, 0) ∷ [];
+  known = replicate 6 7;
+  down = down_at 6 ((1, 1) ∷ (4, 1) ∷ []);
 }
 
 reaches : Reaches network events as_reached

@@ -1,6 +1,6 @@
 -- A run after which a backup is refused while a fibre of its route is reported.
 use Rattle.std.proofs.Common.{true, false, List, [], ◌∷◌, ◌++◌, refl}
-use Rattle.std.specs.Prelude.{Some, None}
+use Rattle.std.specs.Prelude.{replicate, Some, None}
 use Rattle.ason_base.specs.Codes.{set_code}
 use Rattle.ason_base.specs.Labels as labels
 use Rattle.ason_base.specs.Network.{Network}
@@ -8,7 +8,7 @@ use Rattle.ason_base.specs.declared.calls.CallState.TheVariants.{Bare, Turning}
 use Rattle.ason_base.specs.declared.calls.Cause.TheVariants.{Code, Unset}
 use Rattle.ason_base.specs.declared.calls.Phase.TheVariants.{Armed, Held, Live}
 use Rattle.mesh_rules.specs.declared.events.MeshEvent.{MeshEvent}
-use Rattle.mesh_examples.proofs.Scene.{alone, called, desk, fails_link, joins, learns, leg, over, Reaches, reported, Seen, sets_up, spec, takes, takes_each}
+use Rattle.mesh_examples.proofs.Scene.{alone, called, desk, down_at, fails_link, joins, learns, leg, mail_on, over, Reaches, reported, Seen, sets_up, spec, still, takes, takes_each}
 
 abbrev network : Network
 network = record {
@@ -42,7 +42,7 @@ events =
     ∷ takes_each ((4, 5) ∷ (3, 5) ∷ (1, 3) ∷ (5, 4) ∷ (1, 3) ∷ (5, 3) ∷ (4, 5) ∷ (3, 5) ∷ (1, 4) ∷ (1, 3) ∷ [])
 
 abbrev as_reached : Seen
-as_reached = record {
+as_reached = record (still 6 7) {
   legs =
       (leg 1 1 Live None (Some 1) 0 3 0
       ∷ leg 1 3 Armed None (Some 2) 0 3 2
@@ -54,9 +54,9 @@ as_reached = record {
       ∷ []
       ∷ [];
   calls = alone 6 1 (reported 1 Turning Unset 1 0 ∷ called 2 Bare (Code set_code) ∷ []);
-  known = 7 ∷ 7 ∷ 7 ∷ 7 ∷ 7 ∷ 7 ∷ [];
-  down = 2 ∷ 0 ∷ 1 ∷ 0 ∷ 1 ∷ 0 ∷ [];
-  mail = (0, 0) ∷ (0, 0) ∷ (1, 0) ∷ (0, 0) ∷ (0, 0) ∷ (0, 0) ∷ (0, 0) ∷ [];
+  known = replicate 6 7;
+  down = down_at 6 ((1, 2) ∷ (3, 1) ∷ (5, 1) ∷ []);
+  mail = mail_on 7 ((3, (1, 0)) ∷ []);
 }
 
 reaches : Reaches network events as_reached

@@ -1,39 +1,24 @@
 -- A run after which a Path that activates a backup has passed two nodes.
 use Rattle.std.proofs.Common.{List, [], ◌∷◌, ◌++◌, refl}
-use Rattle.std.specs.Prelude.{Some, None}
+use Rattle.std.specs.Prelude.{Some}
 use Rattle.ason_base.specs.Labels as labels
-use Rattle.ason_base.specs.Network.{Network}
-use Rattle.ason_base.specs.declared.calls.Phase.TheVariants.{Armed, Held, Live}
+use Rattle.ason_base.specs.declared.calls.Phase.TheVariants.{Armed}
 use Rattle.ason_base.specs.declared.calls.Role.TheVariants.{Back}
 use Rattle.mesh_rules.specs.declared.events.MeshEvent.{MeshEvent}
-use Rattle.mesh_rules.specs.Events.{after}
-use Rattle.mesh_rules.specs.Machine.{start}
-use Rattle.lsp_laws.specs.HopLaw.{HasShape}
 use Rattle.lsp_laws.specs.HopShapes as row
 use Rattle.mesh_examples.proofs.Activating as activating
-use Rattle.mesh_examples.proofs.Scene.{among, leg, lsp, node, Reaches, Seen, takes}
-
-abbrev pub network : Network
-network = activating.network
+use Rattle.mesh_examples.proofs.Activating.{network}
+use Rattle.mesh_examples.proofs.Scene.{changed_at, leg, lsp, mail_on, node, ReachesRow, Seen, takes}
 
 abbrev pub events : List MeshEvent
 events = activating.events ++ takes 5 1 ∷ []
 
 abbrev pub as_reached : Seen
 as_reached = record activating.as_reached {
-  legs = among 6 (
-      (1, leg 1 1 Live None (Some 1) 0 1 1 ∷ leg 1 2 Armed None (Some 1) 0 3 1 ∷ [])
-      ∷ (2, leg 1 1 Live (Some 1) None 1 0 0 ∷ leg 1 2 Held (Some 1) None 1 0 0 ∷ [])
-      ∷ (5, leg 1 2 Armed (Some 1) (Some 1) 3 3 0 ∷ [])
-      ∷ (6, leg 1 1 Live (Some 1) (Some 1) 1 1 0 ∷ [])
-      ∷ []);
-  mail = (0, 0) ∷ (0, 0) ∷ (0, 0) ∷ (0, 1) ∷ (0, 0) ∷ (0, 0) ∷ (0, 0) ∷ [];
+  legs = changed_at 5 (leg 1 2 Armed (Some 1) (Some 1) 3 3 0 ∷ []) activating.as_reached.legs;
+  mail = mail_on 7 ((4, (0, 1)) ∷ []);
 }
 
-reaches : Reaches network events as_reached
+reaches : ReachesRow network events as_reached Back (lsp 1 1 2) (node 1) (node 5)
 unfolding labels.numbers_from
-reaches = record { enabled = refl; reached = refl }
-
-in_row : HasShape (after network start events) Back (lsp 1 1 2) (node 1) (node 5)
-unfolding labels.numbers_from
-in_row = row.BothArmed
+reaches = record { enabled = refl; reached = refl; in_row = row.BothArmed }

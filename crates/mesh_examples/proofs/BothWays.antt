@@ -1,7 +1,7 @@
 -- A protected two-way call: its working LSP and its backup have labels for the way back, each label that a node
 -- takes being the one that the next node sends. When its working LSP is hit the call turns, and its backup is
 -- connected both ways.
-use Rattle.std.proofs.Common.{◌≡◌, true, false, List, [], ◌∷◌, ◌++◌, map, refl}
+use Rattle.std.proofs.Common.{◌≡◌, true, List, [], ◌∷◌, ◌++◌, map, refl}
 use Rattle.std.specs.Prelude.{Some, None}
 use Rattle.ason_base.specs.Labels as labels
 use Rattle.ason_base.specs.Network.{Network}
@@ -15,14 +15,10 @@ use Rattle.mesh_rules.specs.declared.events.MeshEvent.{MeshEvent}
 use Rattle.mesh_rules.specs.Events.{after}
 use Rattle.mesh_rules.specs.Machine.{start}
 use Rattle.mesh_rules.specs.Rows.{all_call_rows, all_leg_rows}
-use Rattle.mesh_examples.proofs.Scene.{all_enabled, desk, fails_link, joins, learns, link, lsp, over, row, sets_up_both, spec, takes, takes_each}
+use Rattle.mesh_examples.proofs.Scene.{all_enabled, desk, fails_link, learns, link, lsp, over, ring, row, sets_up_both, takes, takes_each}
 
 abbrev network : Network
-network = record {
-  wait = 0;
-  nodes = spec 1 false ∷ spec 2 false ∷ spec 3 false ∷ [];
-  links = joins 1 1 2 2 [] ∷ joins 2 2 3 2 [] ∷ joins 3 1 3 2 [] ∷ [];
-}
+network = ring 2
 
 -- its working LSP is connected, and then its backup is reserved
 abbrev set_up : List MeshEvent

@@ -11,7 +11,7 @@ use Rattle.ason_base.specs.declared.calls.CallState.TheVariants.{Stuck, Turning}
 use Rattle.ason_base.specs.declared.calls.Cause.TheVariants.{Code, Unset}
 use Rattle.ason_base.specs.declared.calls.Phase.TheVariants.{Armed, Held, Live}
 use Rattle.mesh_rules.specs.declared.events.MeshEvent.{MeshEvent}
-use Rattle.mesh_examples.proofs.Scene.{desk, fails_link, joins, leg, over, Reaches, reported, Seen, sets_up, spec, takes, takes_each}
+use Rattle.mesh_examples.proofs.Scene.{desk, down_at, fails_link, joins, leg, mail_on, over, Reaches, reported, Seen, sets_up, spec, still, takes, takes_each}
 
 abbrev network : Network
 network = record {
@@ -39,7 +39,7 @@ events =
 
 -- the Path that activates the first backup is the only message from node 1 to node 2, whichever link it is over
 abbrev as_reached : Seen
-as_reached = record {
+as_reached = record (still 2 3) {
   legs =
       (leg 1 1 Live None (Some 1) 0 1 0
       ∷ leg 1 2 Armed None (Some 1) 0 1 0
@@ -52,8 +52,8 @@ as_reached = record {
       ∷ [];
   calls = (reported 1 Turning Unset 1 0 ∷ reported 2 Stuck (Code busy_code) 1 0 ∷ []) ∷ [] ∷ [];
   known = 3 ∷ 3 ∷ [];
-  down = 0 ∷ 2 ∷ [];
-  mail = (1, 0) ∷ (1, 0) ∷ (1, 0) ∷ [];
+  down = down_at 2 ((2, 2) ∷ []);
+  mail = mail_on 3 ((1, (1, 0)) ∷ (2, (1, 0)) ∷ (3, (1, 0)) ∷ []);
 }
 
 reaches : Reaches network events as_reached

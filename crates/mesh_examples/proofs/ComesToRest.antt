@@ -2,7 +2,7 @@
 -- the call goes back by an order: what each part adds, how much is handled in it, and that the mesh is quiet at the
 -- end.
 use Rattle.std.proofs.Common.{◌≡◌, true, List, [], ◌∷◌, ◌++◌, refl}
-use Rattle.std.specs.Prelude.{length, map, Some, None}
+use Rattle.std.specs.Prelude.{length, map}
 use Rattle.ason_base.specs.Labels as labels
 use Rattle.ason_base.specs.Network.{Network}
 use Rattle.ason_base.specs.declared.calls.CallState.TheVariants.{Guarded, Turned}
@@ -12,15 +12,11 @@ use Rattle.mesh_rules.specs.declared.events.MeshEvent.{MeshEvent}
 use Rattle.mesh_rules.specs.Events.{after}
 use Rattle.mesh_rules.specs.Machine.{start}
 use Rattle.mesh_laws.specs.RestLaw.{added, handled}
-use Rattle.mesh_examples.proofs.Scene.{all_enabled, among, called, desk, fails_link, joins, learns, leg, over, repairs_link, reported, reverts, Seen, seen, sets_up, spec, takes, takes_each}
+use Rattle.mesh_examples.proofs.Scene.{all_enabled, by_node_3, called, desk, down_at, fails_link, learns, over, repairs_link, reported, reverts, seen, Seen, sets_up, still, takes, takes_each, triangle}
 
 -- the working route goes over link 1, the backup over links 2 and 3
 abbrev network : Network
-network = record {
-  wait = 0;
-  nodes = spec 1 true ∷ spec 2 true ∷ spec 3 true ∷ [];
-  links = joins 1 1 2 1 [] ∷ joins 2 1 3 1 [] ∷ joins 3 2 3 1 [] ∷ [];
-}
+network = triangle true true 1
 
 abbrev set_up : List MeshEvent
 set_up =
@@ -48,30 +44,15 @@ way_back =
     ∷ takes_each ((3, 1) ∷ (2, 3) ∷ [])
 
 abbrev turned : Seen
-turned = record {
-  legs = among 3 (
-      (1, leg 1 1 Live None (Some 1) 0 1 0 ∷ leg 1 2 Live None (Some 1) 0 1 1 ∷ [])
-      ∷ (2, leg 1 1 Live (Some 1) None 1 0 0 ∷ leg 1 2 Live (Some 1) None 1 0 0 ∷ [])
-      ∷ (3, leg 1 2 Live (Some 1) (Some 1) 1 1 0 ∷ [])
-      ∷ []);
+turned = record (still 3 3) {
+  legs = by_node_3 1 Live;
   calls = (reported 1 Turned Unset 1 0 ∷ []) ∷ [] ∷ [] ∷ [];
   known = 2 ∷ 2 ∷ 3 ∷ [];
-  down = 1 ∷ 1 ∷ 0 ∷ [];
-  mail = (0, 0) ∷ (0, 0) ∷ (0, 0) ∷ [];
+  down = down_at 3 ((1, 1) ∷ (2, 1) ∷ []);
 }
 
 abbrev back : Seen
-back = record {
-  legs = among 3 (
-      (1, leg 1 1 Live None (Some 1) 0 1 0 ∷ leg 1 2 Held None (Some 1) 0 1 1 ∷ [])
-      ∷ (2, leg 1 1 Live (Some 1) None 1 0 0 ∷ leg 1 2 Held (Some 1) None 1 0 0 ∷ [])
-      ∷ (3, leg 1 2 Held (Some 1) (Some 1) 1 1 0 ∷ [])
-      ∷ []);
-  calls = (called 1 Guarded Unset ∷ []) ∷ [] ∷ [] ∷ [];
-  known = 2 ∷ 2 ∷ 3 ∷ [];
-  down = 0 ∷ 0 ∷ 0 ∷ [];
-  mail = (0, 0) ∷ (0, 0) ∷ (0, 0) ∷ [];
-}
+back = record turned { legs = by_node_3 1 Held; calls = (called 1 Guarded Unset ∷ []) ∷ [] ∷ [] ∷ []; down = down_at 3 [] }
 
 enabled : all_enabled network start (set_up ++ cut ++ way_back) ≡ true
 unfolding labels.numbers_from

@@ -9,11 +9,8 @@ use Rattle.ason_base.specs.declared.calls.Cause.TheVariants.{Unset}
 use Rattle.ason_base.specs.declared.calls.Phase.TheVariants.{Armed, Held, Live}
 use Rattle.ason_base.specs.declared.calls.Role.TheVariants.{Back}
 use Rattle.mesh_rules.specs.declared.events.MeshEvent.{MeshEvent}
-use Rattle.mesh_rules.specs.Events.{after}
-use Rattle.mesh_rules.specs.Machine.{start}
-use Rattle.lsp_laws.specs.HopLaw.{HasShape}
 use Rattle.lsp_laws.specs.HopShapes as row
-use Rattle.mesh_examples.proofs.Scene.{among, desk, fails_link, leg, lsp, node, Reaches, reported, Seen, takes_each}
+use Rattle.mesh_examples.proofs.Scene.{among, desk, down_at, fails_link, leg, lsp, mail_on, node, ReachesRow, reported, Seen, takes_each, with_new}
 use Rattle.mesh_examples.proofs.SharedLabel.{network}
 use Rattle.mesh_examples.proofs.SharedLabel as shared
 
@@ -29,29 +26,21 @@ events =
     ∷ takes_each ((3, 4) ∷ (5, 3) ∷ [])
 
 -- the Path that activates the first backup is on link 5, and the refusal of the second one on link 6
-abbrev as_reached : Seen
-as_reached = record {
-  legs = among 6 (
+abbrev pub as_reached : Seen
+as_reached = record shared.as_reached {
+  legs = with_new (
       (1, leg 1 1 Live None (Some 1) 0 1 0 ∷ leg 1 2 Armed None (Some 1) 0 2 2 ∷ [])
-      ∷ (2, leg 1 1 Live (Some 1) None 1 0 0 ∷ leg 1 2 Held (Some 1) None 1 0 0 ∷ [])
       ∷ (3, leg 3 1 Live None (Some 1) 0 1 0 ∷ leg 3 2 Armed None (Some 1) 0 2 2 ∷ [])
-      ∷ (4, leg 3 1 Live (Some 1) None 1 0 0 ∷ leg 3 2 Held (Some 1) None 1 0 0 ∷ [])
       ∷ (5, leg 1 2 Armed (Some 1) (Some 1) 2 1 1 ∷ leg 3 2 Held (Some 1) (Some 1) 2 1 1 ∷ [])
-      ∷ (6, leg 1 2 Held (Some 1) (Some 1) 1 1 0 ∷ leg 3 2 Held (Some 1) (Some 1) 1 1 0 ∷ [])
-      ∷ []);
+      ∷ []) shared.as_reached.legs;
   calls = among 6 (
       (1, reported 1 Turning Unset 1 0 ∷ [])
       ∷ (3, reported 2 Turning Unset 1 0 ∷ [])
       ∷ []);
-  known = 2 ∷ 2 ∷ 2 ∷ 2 ∷ 5 ∷ 5 ∷ [];
-  down = 0 ∷ 1 ∷ 0 ∷ 1 ∷ 0 ∷ 0 ∷ [];
-  mail = (0, 0) ∷ (0, 0) ∷ (0, 0) ∷ (0, 0) ∷ (1, 0) ∷ (0, 1) ∷ (0, 0) ∷ [];
+  down = down_at 6 ((2, 1) ∷ (4, 1) ∷ []);
+  mail = mail_on 7 ((5, (1, 0)) ∷ (6, (0, 1)) ∷ []);
 }
 
-reaches : Reaches network events as_reached
+reaches : ReachesRow network events as_reached Back (lsp 3 1 2) (node 3) (node 5)
 unfolding labels.numbers_from
-reaches = record { enabled = refl; reached = refl }
-
-in_row : HasShape (after network start events) Back (lsp 3 1 2) (node 3) (node 5)
-unfolding labels.numbers_from
-in_row = row.Contended
+reaches = record { enabled = refl; reached = refl; in_row = row.Contended }

@@ -8,11 +8,8 @@ use Rattle.ason_base.specs.declared.calls.Cause.TheVariants.{Unset}
 use Rattle.ason_base.specs.declared.calls.Phase.TheVariants.{Held, Live}
 use Rattle.ason_base.specs.declared.calls.Role.TheVariants.{Back}
 use Rattle.mesh_rules.specs.declared.events.MeshEvent.{MeshEvent}
-use Rattle.mesh_rules.specs.Events.{after}
-use Rattle.mesh_rules.specs.Machine.{start}
-use Rattle.lsp_laws.specs.HopLaw.{HasShape}
 use Rattle.lsp_laws.specs.HopShapes as row
-use Rattle.mesh_examples.proofs.Scene.{alone, among, desk, fails_link, joins, learns, leg, lsp, node, over, Reaches, repairs_link, reported, Seen, sets_up, spec, takes, takes_each}
+use Rattle.mesh_examples.proofs.Scene.{alone, among, desk, down_at, fails_link, joins, learns, leg, lsp, mail_on, node, over, ReachesRow, repairs_link, reported, Seen, sets_up, spec, still, takes, takes_each}
 
 abbrev pub network : Network
 network = record {
@@ -42,7 +39,7 @@ events =
     ∷ []
 
 abbrev pub as_reached : Seen
-as_reached = record {
+as_reached = record (still 6 7) {
   legs = among 6 (
       (1, leg 1 1 Live None (Some 1) 0 1 1 ∷ leg 1 2 Held None (Some 1) 0 1 0 ∷ [])
       ∷ (3, leg 1 1 Live (Some 1) (Some 1) 1 1 0 ∷ [])
@@ -50,14 +47,10 @@ as_reached = record {
       ∷ []);
   calls = alone 6 1 (reported 1 Guarded Unset 0 1 ∷ []);
   known = 5 ∷ 1 ∷ 2 ∷ 2 ∷ 2 ∷ 4 ∷ [];
-  down = 0 ∷ 0 ∷ 0 ∷ 0 ∷ 0 ∷ 1 ∷ [];
-  mail = (0, 0) ∷ (0, 0) ∷ (0, 0) ∷ (1, 0) ∷ (0, 0) ∷ (0, 0) ∷ (0, 0) ∷ [];
+  down = down_at 6 ((6, 1) ∷ []);
+  mail = mail_on 7 ((4, (1, 0)) ∷ []);
 }
 
-reaches : Reaches network events as_reached
+reaches : ReachesRow network events as_reached Back (lsp 1 1 2) (node 1) (node 6)
 unfolding labels.numbers_from
-reaches = record { enabled = refl; reached = refl }
-
-in_row : HasShape (after network start events) Back (lsp 1 1 2) (node 1) (node 6)
-unfolding labels.numbers_from
-in_row = row.Deactivating
+reaches = record { enabled = refl; reached = refl; in_row = row.Deactivating }

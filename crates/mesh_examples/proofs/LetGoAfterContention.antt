@@ -3,16 +3,11 @@
 use Rattle.std.proofs.Common.{List, [], ◌∷◌, ◌++◌, refl}
 use Rattle.std.specs.Prelude.{Some, None}
 use Rattle.ason_base.specs.Labels as labels
-use Rattle.ason_base.specs.declared.calls.CallState.TheVariants.{Turning}
-use Rattle.ason_base.specs.declared.calls.Cause.TheVariants.{Unset}
-use Rattle.ason_base.specs.declared.calls.Phase.TheVariants.{Armed, Closing, Falling, Held, Live}
+use Rattle.ason_base.specs.declared.calls.Phase.TheVariants.{Armed, Closing}
 use Rattle.ason_base.specs.declared.calls.Role.TheVariants.{Back}
 use Rattle.mesh_rules.specs.declared.events.MeshEvent.{MeshEvent}
-use Rattle.mesh_rules.specs.Events.{after}
-use Rattle.mesh_rules.specs.Machine.{start}
-use Rattle.lsp_laws.specs.HopLaw.{HasShape}
 use Rattle.lsp_laws.specs.HopShapes as row
-use Rattle.mesh_examples.proofs.Scene.{alone, among, leg, lsp, node, Reaches, reported, Seen, takes}
+use Rattle.mesh_examples.proofs.Scene.{leg, lsp, mail_on, node, ReachesRow, Seen, takes, with_new}
 use Rattle.mesh_examples.proofs.SharedLabel.{network}
 use Rattle.mesh_examples.proofs.TornContended as torn
 
@@ -22,25 +17,14 @@ events = torn.events ++ takes 5 3 ∷ takes 6 5 ∷ takes 6 5 ∷ takes 5 6 ∷ 
 -- on link 6 the refusal and the answer to the tear are on their way to node 3; the Path of the other backup is on
 -- link 4, and PathTears are on links 2 and 7
 abbrev as_reached : Seen
-as_reached = record {
-  legs = among 6 (
-      (1, leg 1 1 Live None (Some 1) 0 1 0 ∷ leg 1 2 Armed None (Some 1) 0 2 2 ∷ [])
-      ∷ (2, leg 1 1 Live (Some 1) None 1 0 0 ∷ leg 1 2 Held (Some 1) None 1 0 0 ∷ [])
-      ∷ (3, leg 3 1 Closing None (Some 1) 0 1 0 ∷ leg 3 2 Falling None (Some 1) 0 2 2 ∷ [])
-      ∷ (4, leg 3 1 Live (Some 1) None 1 0 0 ∷ leg 3 2 Held (Some 1) None 1 0 0 ∷ [])
-      ∷ (5, leg 1 2 Armed (Some 1) (Some 1) 2 1 1 ∷ [])
+as_reached = record torn.as_reached {
+  legs = with_new (
+      (5, leg 1 2 Armed (Some 1) (Some 1) 2 1 1 ∷ [])
       ∷ (6, leg 1 2 Armed (Some 1) (Some 1) 1 1 0 ∷ leg 3 2 Closing None (Some 1) 1 1 0 ∷ [])
-      ∷ []);
-  calls = alone 6 1 (reported 1 Turning Unset 1 0 ∷ []);
-  known = 2 ∷ 2 ∷ 2 ∷ 2 ∷ 5 ∷ 5 ∷ [];
-  down = 0 ∷ 1 ∷ 1 ∷ 1 ∷ 0 ∷ 0 ∷ [];
-  mail = (0, 0) ∷ (1, 0) ∷ (0, 0) ∷ (0, 1) ∷ (0, 0) ∷ (0, 2) ∷ (0, 1) ∷ [];
+      ∷ []) torn.as_reached.legs;
+  mail = mail_on 7 ((2, (1, 0)) ∷ (4, (0, 1)) ∷ (6, (0, 2)) ∷ (7, (0, 1)) ∷ []);
 }
 
-reaches : Reaches network events as_reached
+reaches : ReachesRow network events as_reached Back (lsp 3 1 2) (node 3) (node 5)
 unfolding labels.numbers_from
-reaches = record { enabled = refl; reached = refl }
-
-in_row : HasShape (after network start events) Back (lsp 3 1 2) (node 3) (node 5)
-unfolding labels.numbers_from
-in_row = row.LetGo row.Falls row.NothingLeft row.AfterContention
+reaches = record { enabled = refl; reached = refl; in_row = row.LetGo row.Falls row.NothingLeft row.AfterContention }

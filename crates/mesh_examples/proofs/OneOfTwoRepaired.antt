@@ -1,13 +1,13 @@
 -- A run after which one of two reported fibres of a working route is repaired.
 use Rattle.std.proofs.Common.{true, false, List, [], ◌∷◌, ◌++◌, refl}
-use Rattle.std.specs.Prelude.{Some, None}
+use Rattle.std.specs.Prelude.{replicate, Some, None}
 use Rattle.ason_base.specs.Labels as labels
 use Rattle.ason_base.specs.Network.{Network}
 use Rattle.ason_base.specs.declared.calls.CallState.TheVariants.{Asking, Bare}
 use Rattle.ason_base.specs.declared.calls.Cause.TheVariants.{Unset}
 use Rattle.ason_base.specs.declared.calls.Phase.TheVariants.{Asked, Live}
 use Rattle.mesh_rules.specs.declared.events.MeshEvent.{MeshEvent}
-use Rattle.mesh_examples.proofs.Scene.{among, called, desk, fails_link, fails_srlg, joins, learns, leg, over, Reaches, repairs_link, repairs_srlg, reported, Seen, sets_up, sets_up_alone, spec, takes, takes_each}
+use Rattle.mesh_examples.proofs.Scene.{among, called, desk, down_at, fails_link, fails_srlg, joins, learns, leg, mail_on, over, Reaches, repairs_link, repairs_srlg, reported, Seen, sets_up, sets_up_alone, spec, still, takes, takes_each}
 
 abbrev network : Network
 network = record {
@@ -61,7 +61,7 @@ events =
     ∷ []
 
 abbrev as_reached : Seen
-as_reached = record {
+as_reached = record (still 6 10) {
   legs = among 6 (
       (2, leg 3 1 Live (Some 1) None 2 0 0 ∷ [])
       ∷ (3, leg 3 1 Live None (Some 1) 0 3 1 ∷ [])
@@ -72,9 +72,9 @@ as_reached = record {
       (3, reported 1 Bare Unset 1 0 ∷ [])
       ∷ (4, called 2 Asking Unset ∷ [])
       ∷ []);
-  known = 10 ∷ 10 ∷ 10 ∷ 10 ∷ 10 ∷ 10 ∷ [];
-  down = 1 ∷ 3 ∷ 0 ∷ 2 ∷ 1 ∷ 1 ∷ [];
-  mail = (0, 0) ∷ (0, 0) ∷ (0, 0) ∷ (0, 0) ∷ (0, 0) ∷ (0, 1) ∷ (0, 0) ∷ (0, 0) ∷ (0, 0) ∷ (0, 0) ∷ [];
+  known = replicate 6 10;
+  down = down_at 6 ((1, 1) ∷ (2, 3) ∷ (4, 2) ∷ (5, 1) ∷ (6, 1) ∷ []);
+  mail = mail_on 10 ((6, (0, 1)) ∷ []);
 }
 
 reaches : Reaches network events as_reached

@@ -2,21 +2,14 @@
 use Rattle.std.proofs.Common.{List, [], ◌∷◌, ◌++◌, refl}
 use Rattle.std.specs.Prelude.{Some, None}
 use Rattle.ason_base.specs.Labels as labels
-use Rattle.ason_base.specs.Network.{Network}
 use Rattle.ason_base.specs.declared.calls.CallState.TheVariants.{Pairing}
 use Rattle.ason_base.specs.declared.calls.Cause.TheVariants.{Unset}
 use Rattle.ason_base.specs.declared.calls.Phase.TheVariants.{Asked, Live}
 use Rattle.ason_base.specs.declared.calls.Role.TheVariants.{Back}
 use Rattle.mesh_rules.specs.declared.events.MeshEvent.{MeshEvent}
-use Rattle.mesh_rules.specs.Events.{after}
-use Rattle.mesh_rules.specs.Machine.{start}
-use Rattle.lsp_laws.specs.HopLaw.{HasShape}
 use Rattle.lsp_laws.specs.HopShapes as row
-use Rattle.mesh_examples.proofs.Answered as answered
-use Rattle.mesh_examples.proofs.Scene.{alone, among, called, desk, learns, leg, lsp, node, over, Reaches, Seen, sets_up, takes_each}
-
-abbrev network : Network
-network = answered.network
+use Rattle.mesh_examples.proofs.Answered.{network}
+use Rattle.mesh_examples.proofs.Scene.{alone, among, called, desk, learns, leg, lsp, mail_on, node, over, ReachesRow, Seen, sets_up, still, takes_each}
 
 abbrev events : List MeshEvent
 events =
@@ -26,7 +19,7 @@ events =
     ∷ takes_each ((5, 4) ∷ (4, 5) ∷ (3, 4) ∷ [])
 
 abbrev as_reached : Seen
-as_reached = record {
+as_reached = record (still 6 7) {
   legs = among 6 (
       (3, leg 4 2 Asked None None 1 1 2 ∷ [])
       ∷ (4, leg 4 1 Live None (Some 1) 0 1 0 ∷ leg 4 2 Asked None None 0 1 3 ∷ [])
@@ -34,14 +27,9 @@ as_reached = record {
       ∷ []);
   calls = alone 6 4 (called 1 Pairing Unset ∷ []);
   known = 3 ∷ 2 ∷ 5 ∷ 2 ∷ 3 ∷ 0 ∷ [];
-  down = 0 ∷ 0 ∷ 0 ∷ 0 ∷ 0 ∷ 0 ∷ [];
-  mail = (0, 0) ∷ (0, 0) ∷ (0, 0) ∷ (0, 1) ∷ (0, 0) ∷ (0, 0) ∷ (0, 0) ∷ [];
+  mail = mail_on 7 ((4, (0, 1)) ∷ []);
 }
 
-reaches : Reaches network events as_reached
+reaches : ReachesRow network events as_reached Back (lsp 4 1 2) (node 4) (node 3)
 unfolding labels.numbers_from
-reaches = record { enabled = refl; reached = refl }
-
-in_row : HasShape (after network start events) Back (lsp 4 1 2) (node 4) (node 3)
-unfolding labels.numbers_from
-in_row = row.Passed
+reaches = record { enabled = refl; reached = refl; in_row = row.Passed }

@@ -1,7 +1,7 @@
 -- A call over links 1 and 2 of a triangle whose ingress doesn't know link 2 gets no backup, though a route over link 3
 -- was given for it: it can't tell whether the two have a risk in common. Once it knows the link, an order protects the
 -- call.
-use Rattle.std.proofs.Common.{◌≡◌, true, false, List, [], ◌∷◌, ◌++◌, refl}
+use Rattle.std.proofs.Common.{◌≡◌, true, List, [], ◌∷◌, ◌++◌, refl}
 use Rattle.std.specs.Prelude.{map, Option, Some, None}
 use Rattle.ason_base.specs.Labels as labels
 use Rattle.ason_base.specs.Network.{Network}
@@ -13,18 +13,14 @@ use Rattle.ason_base.specs.declared.ids.Lsp.{Lsp}
 use Rattle.mesh_rules.specs.declared.events.MeshEvent.{MeshEvent}
 use Rattle.mesh_rules.specs.Events.{after}
 use Rattle.mesh_rules.specs.Machine.{start}
-use Rattle.mesh_examples.proofs.Scene.{all_enabled, desk, joins, learns, lsp, over, protects, sets_up, spec, takes, takes_each}
+use Rattle.mesh_examples.proofs.Scene.{all_enabled, desk, learns, lsp, over, protects, ring, sets_up, takes, takes_each}
 
-abbrev triangle : Network
-triangle = record {
-  wait = 0;
-  nodes = spec 1 false ∷ spec 2 false ∷ spec 3 false ∷ [];
-  links = joins 1 1 2 1 [] ∷ joins 2 2 3 1 [] ∷ joins 3 1 3 1 [] ∷ [];
-}
+abbrev network : Network
+network = ring 1
 
 -- the state, the cause and the backup LSP of each call of node 1
 abbrev calls : List MeshEvent → List (CallState × Cause × Option Lsp)
-calls events = map (λ c. (c.state, c.cause, c.back)) ((after triangle start events).nodes 1).calls
+calls events = map (λ c. (c.state, c.cause, c.back)) ((after network start events).nodes 1).calls
 
 abbrev connected : List MeshEvent
 connected =
@@ -60,6 +56,6 @@ stays : calls (guarded ++ protects 1 1 ∷ desk 1 ∷ []) ≡ (Guarded, Unset, S
 unfolding labels.numbers_from
 stays = refl
 
-enabled : all_enabled triangle start (guarded ++ protects 1 1 ∷ desk 1 ∷ []) ≡ true
+enabled : all_enabled network start (guarded ++ protects 1 1 ∷ desk 1 ∷ []) ≡ true
 unfolding labels.numbers_from
 enabled = refl

@@ -8,11 +8,8 @@ use Rattle.ason_base.specs.declared.calls.Cause.TheVariants.{Unset}
 use Rattle.ason_base.specs.declared.calls.Phase.TheVariants.{Armed, Live}
 use Rattle.ason_base.specs.declared.calls.Role.TheVariants.{Back}
 use Rattle.mesh_rules.specs.declared.events.MeshEvent.{MeshEvent}
-use Rattle.mesh_rules.specs.Events.{after}
-use Rattle.mesh_rules.specs.Machine.{start}
-use Rattle.lsp_laws.specs.HopLaw.{HasShape}
 use Rattle.lsp_laws.specs.HopShapes as row
-use Rattle.mesh_examples.proofs.Scene.{alone, among, desk, fails_link, joins, learns, leg, lsp, node, over, Reaches, repairs_link, reported, Seen, sets_up, spec, takes, takes_each, ticks}
+use Rattle.mesh_examples.proofs.Scene.{alone, among, desk, down_at, fails_link, joins, learns, leg, lsp, mail_on, node, over, ReachesRow, repairs_link, reported, Seen, sets_up, spec, still, takes, takes_each, ticks}
 
 abbrev pub network : Network
 network = record {
@@ -49,7 +46,7 @@ events =
     ∷ []
 
 abbrev pub as_reached : Seen
-as_reached = record {
+as_reached = record (still 6 9) {
   legs = among 6 (
       (1, leg 3 1 Live (Some 1) None 1 0 0 ∷ leg 3 2 Live (Some 1) None 1 0 0 ∷ [])
       ∷ (3, leg 3 1 Live None (Some 1) 0 3 1 ∷ leg 3 2 Armed None (Some 1) 0 2 2 ∷ [])
@@ -59,14 +56,10 @@ as_reached = record {
       ∷ []);
   calls = alone 6 3 (reported 1 Turning Unset 1 0 ∷ []);
   known = 4 ∷ 2 ∷ 5 ∷ 3 ∷ 5 ∷ 5 ∷ [];
-  down = 1 ∷ 0 ∷ 0 ∷ 0 ∷ 0 ∷ 0 ∷ [];
-  mail = (0, 0) ∷ (0, 0) ∷ (0, 0) ∷ (0, 0) ∷ (0, 0) ∷ (0, 0) ∷ (2, 0) ∷ (0, 0) ∷ (0, 0) ∷ [];
+  down = down_at 6 ((1, 1) ∷ []);
+  mail = mail_on 9 ((7, (2, 0)) ∷ []);
 }
 
-reaches : Reaches network events as_reached
+reaches : ReachesRow network events as_reached Back (lsp 3 1 2) (node 3) (node 5)
 unfolding labels.numbers_from
-reaches = record { enabled = refl; reached = refl }
-
-in_row : HasShape (after network start events) Back (lsp 3 1 2) (node 3) (node 5)
-unfolding labels.numbers_from
-in_row = row.Reactivating
+reaches = record { enabled = refl; reached = refl; in_row = row.Reactivating }

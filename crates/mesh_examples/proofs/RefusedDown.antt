@@ -3,25 +3,19 @@ use Rattle.std.proofs.Common.{List, [], ◌∷◌, ◌++◌, refl}
 use Rattle.std.specs.Prelude.{Some, None}
 use Rattle.ason_base.specs.Codes.{down_code}
 use Rattle.ason_base.specs.Labels as labels
-use Rattle.ason_base.specs.Network.{Network}
 use Rattle.ason_base.specs.declared.calls.CallState.TheVariants.{Bare}
 use Rattle.ason_base.specs.declared.calls.Cause.TheVariants.{Code}
 use Rattle.ason_base.specs.declared.calls.Phase.TheVariants.{Closing, Held, Live}
 use Rattle.mesh_rules.specs.declared.events.MeshEvent.{MeshEvent}
 use Rattle.mesh_examples.proofs.SharedLabel as shared_label
-use Rattle.mesh_examples.proofs.Scene.{alone, among, desk, fails_link, learns, leg, over, protects, Reaches, releases, reported, reverts, Seen, sets_up, takes, takes_each, ticks}
-
-abbrev network : Network
-network = shared_label.network
+use Rattle.mesh_examples.proofs.SharedLabel.{network}
+use Rattle.mesh_examples.proofs.Scene.{alone, among, desk, down_at, fails_link, leg, mail_on, protects, Reaches, releases, reported, reverts, Seen, still, takes, takes_each, ticks}
 
 abbrev events : List MeshEvent
 events =
-    learns 5 (1 ∷ [])
-    ++ learns 6 (1 ∷ [])
-    ++ learns 5 (2 ∷ [])
-    ++ learns 6 (2 ∷ [])
-    ++ sets_up 1 1 2 (over 1 1 ∷ []) (over 1 3 ∷ over 5 5 ∷ over 6 4 ∷ [])
-    ∷ sets_up 2 3 4 (over 3 2 ∷ []) (over 3 6 ∷ over 5 5 ∷ over 6 7 ∷ [])
+    shared_label.both_learn
+    ++ shared_label.first_call
+    ∷ shared_label.second_call
     ∷ desk 3
     ∷ takes_each ((4, 3) ∷ (3, 4) ∷ (5, 3) ∷ [])
     ++ desk 1
@@ -47,7 +41,7 @@ events =
     ∷ takes_each ((4, 3) ∷ (5, 3) ∷ (6, 5) ∷ (3, 4) ∷ [])
 
 abbrev as_reached : Seen
-as_reached = record {
+as_reached = record (still 6 7) {
   legs = among 6 (
       (1, leg 1 1 Live None (Some 1) 0 1 0 ∷ [])
       ∷ (2, leg 1 1 Live (Some 1) None 1 0 0 ∷ [])
@@ -58,8 +52,8 @@ as_reached = record {
       ∷ []);
   calls = alone 6 1 (reported 1 Bare (Code down_code) 1 0 ∷ []);
   known = 2 ∷ 2 ∷ 2 ∷ 2 ∷ 5 ∷ 5 ∷ [];
-  down = 1 ∷ 1 ∷ 0 ∷ 0 ∷ 1 ∷ 1 ∷ [];
-  mail = (0, 0) ∷ (0, 0) ∷ (0, 0) ∷ (0, 0) ∷ (0, 1) ∷ (0, 1) ∷ (0, 1) ∷ [];
+  down = down_at 6 ((1, 1) ∷ (2, 1) ∷ (5, 1) ∷ (6, 1) ∷ []);
+  mail = mail_on 7 ((5, (0, 1)) ∷ (6, (0, 1)) ∷ (7, (0, 1)) ∷ []);
 }
 
 reaches : Reaches network events as_reached

@@ -5,28 +5,22 @@ use Rattle.std.proofs.Common.{◌≡◌, true, List, [], ◌∷◌, ◌++◌, re
 use Rattle.std.specs.Prelude.{Some, None}
 use Rattle.ason_base.specs.Codes.{label_code, set_code}
 use Rattle.ason_base.specs.Labels as labels
-use Rattle.ason_base.specs.Network.{Network}
-use Rattle.ason_base.specs.declared.calls.CallState.TheVariants.{Bare, Guarded}
+use Rattle.ason_base.specs.declared.calls.CallState.TheVariants.{Bare}
 use Rattle.ason_base.specs.declared.calls.Cause.{Cause}
-use Rattle.ason_base.specs.declared.calls.Cause.TheVariants.{Code, Unset}
+use Rattle.ason_base.specs.declared.calls.Cause.TheVariants.{Code}
 use Rattle.ason_base.specs.declared.calls.Phase.TheVariants.{Held, Live}
 use Rattle.mesh_rules.specs.declared.events.MeshEvent.{MeshEvent}
 use Rattle.mesh_rules.specs.Events.{after}
 use Rattle.mesh_rules.specs.Machine.{start}
-use Rattle.mesh_examples.proofs.TakenLabel as taken_label
-use Rattle.mesh_examples.proofs.Scene.{all_enabled, among, called, desk, learns, leg, over, protects, Seen, seen, sets_up, takes, takes_each}
-
-abbrev network : Network
-network = taken_label.network
+use Rattle.mesh_examples.proofs.TakenLabel.{network}
+use Rattle.mesh_examples.proofs.Scene.{all_enabled, called, changed_at, desk, leg, protects, Seen, seen, takes, takes_each, with_new}
+use Rattle.mesh_examples.proofs.SharedLabel as shared_label
 
 abbrev first_try : List MeshEvent
 first_try =
-    learns 5 (1 ∷ [])
-    ++ learns 6 (1 ∷ [])
-    ++ learns 5 (2 ∷ [])
-    ++ learns 6 (2 ∷ [])
-    ++ sets_up 1 1 2 (over 1 1 ∷ []) (over 1 3 ∷ over 5 5 ∷ over 6 4 ∷ [])
-    ∷ sets_up 2 3 4 (over 3 2 ∷ []) (over 3 6 ∷ over 5 5 ∷ over 6 7 ∷ [])
+    shared_label.both_learn
+    ++ shared_label.first_call
+    ∷ shared_label.second_call
     ∷ desk 3
     ∷ takes_each ((4, 3) ∷ (3, 4) ∷ [])
     ++ desk 1
@@ -39,22 +33,14 @@ again = first_try ++ protects 1 1 ∷ desk 1 ∷ takes 5 1 ∷ takes 6 5 ∷ tak
 
 -- the call is bare, for this cause
 abbrev as_reached : Cause → Seen
-as_reached cause = record {
-  legs = among 6 (
+as_reached cause = record shared_label.as_reached {
+  legs = with_new (
       (1, leg 1 1 Live None (Some 1) 0 1 0 ∷ [])
       ∷ (2, leg 1 1 Live (Some 1) None 1 0 0 ∷ [])
-      ∷ (3, leg 3 1 Live None (Some 1) 0 1 0 ∷ leg 3 2 Held None (Some 1) 0 2 2 ∷ [])
-      ∷ (4, leg 3 1 Live (Some 1) None 1 0 0 ∷ leg 3 2 Held (Some 1) None 1 0 0 ∷ [])
       ∷ (5, leg 3 2 Held (Some 1) (Some 1) 2 1 1 ∷ [])
       ∷ (6, leg 3 2 Held (Some 1) (Some 1) 1 1 0 ∷ [])
-      ∷ []);
-  calls = among 6 (
-      (1, called 1 Bare cause ∷ [])
-      ∷ (3, called 2 Guarded Unset ∷ [])
-      ∷ []);
-  known = 2 ∷ 2 ∷ 2 ∷ 2 ∷ 5 ∷ 5 ∷ [];
-  down = 0 ∷ 0 ∷ 0 ∷ 0 ∷ 0 ∷ 0 ∷ [];
-  mail = (0, 0) ∷ (0, 0) ∷ (0, 0) ∷ (0, 0) ∷ (0, 0) ∷ (0, 0) ∷ (0, 0) ∷ [];
+      ∷ []) shared_label.as_reached.legs;
+  calls = changed_at 1 (called 1 Bare cause ∷ []) shared_label.as_reached.calls;
 }
 
 enabled : all_enabled network start again ≡ true

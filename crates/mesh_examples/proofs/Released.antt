@@ -16,7 +16,7 @@ use Rattle.mesh_rules.specs.Events.{after}
 use Rattle.mesh_rules.specs.Machine.{Mesh, start}
 use Rattle.lsp_laws.specs.HopLaw.{HasShape}
 use Rattle.lsp_laws.specs.HopShapes as row
-use Rattle.mesh_examples.proofs.Scene.{all_enabled, among, desk, joins, learns, lsp, node, over, releases, Seen, seen, sets_up, spec, takes}
+use Rattle.mesh_examples.proofs.Scene.{all_enabled, among, desk, joins, learns, lsp, node, over, releases, Seen, seen, sets_up, spec, still, takes}
 
 abbrev square : Network
 square = record {
@@ -80,12 +80,9 @@ gone =
 
 -- four nodes and four links
 abbrev nothing_left : List ℕ → Seen
-nothing_left known = record {
+nothing_left known = record (still 4 4) {
   legs = among 4 [];
-  calls = among 4 [];
   known = known;
-  down = 0 ∷ 0 ∷ 0 ∷ 0 ∷ [];
-  mail = (0, 0) ∷ (0, 0) ∷ (0, 0) ∷ (0, 0) ∷ [];
 }
 
 enabled : all_enabled square start gone ≡ true

@@ -8,11 +8,8 @@ use Rattle.ason_base.specs.declared.calls.Cause.TheVariants.{Unset}
 use Rattle.ason_base.specs.declared.calls.Phase.TheVariants.{Asked, Held, Live}
 use Rattle.ason_base.specs.declared.calls.Role.TheVariants.{Back}
 use Rattle.mesh_rules.specs.declared.events.MeshEvent.{MeshEvent}
-use Rattle.mesh_rules.specs.Events.{after}
-use Rattle.mesh_rules.specs.Machine.{start}
-use Rattle.lsp_laws.specs.HopLaw.{HasShape}
 use Rattle.lsp_laws.specs.HopShapes as row
-use Rattle.mesh_examples.proofs.Scene.{alone, among, called, desk, joins, learns, leg, lsp, node, over, Reaches, Seen, sets_up, spec, takes_each}
+use Rattle.mesh_examples.proofs.Scene.{alone, among, called, desk, joins, learns, leg, lsp, mail_on, node, over, ReachesRow, Seen, sets_up, spec, still, takes_each}
 
 abbrev pub network : Network
 network = record {
@@ -31,7 +28,7 @@ events =
     ∷ takes_each ((4, 6) ∷ (3, 4) ∷ (4, 3) ∷ (6, 4) ∷ (3, 6) ∷ [])
 
 abbrev pub as_reached : Seen
-as_reached = record {
+as_reached = record (still 6 7) {
   legs = among 6 (
       (3, leg 6 1 Live (Some 1) None 2 0 0 ∷ leg 6 2 Held (Some 1) None 1 0 0 ∷ [])
       ∷ (4, leg 6 1 Live (Some 1) (Some 1) 1 2 0 ∷ [])
@@ -39,14 +36,9 @@ as_reached = record {
       ∷ []);
   calls = alone 6 6 (called 1 Pairing Unset ∷ []);
   known = 2 ∷ 0 ∷ 4 ∷ 3 ∷ 2 ∷ 5 ∷ [];
-  down = 0 ∷ 0 ∷ 0 ∷ 0 ∷ 0 ∷ 0 ∷ [];
-  mail = (0, 0) ∷ (0, 0) ∷ (0, 0) ∷ (0, 0) ∷ (1, 0) ∷ (0, 0) ∷ (0, 0) ∷ [];
+  mail = mail_on 7 ((5, (1, 0)) ∷ []);
 }
 
-reaches : Reaches network events as_reached
+reaches : ReachesRow network events as_reached Back (lsp 6 1 2) (node 6) (node 3)
 unfolding labels.numbers_from
-reaches = record { enabled = refl; reached = refl }
-
-in_row : HasShape (after network start events) Back (lsp 6 1 2) (node 6) (node 3)
-unfolding labels.numbers_from
-in_row = row.Reserved
+reaches = record { enabled = refl; reached = refl; in_row = row.Reserved }

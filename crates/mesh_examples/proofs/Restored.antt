@@ -1,6 +1,6 @@
 -- A run after which a call whose working LSP is hit is carried by its backup, and nothing is under way.
 use Rattle.std.proofs.Common.{◌≡◌, true, false, List, [], ◌∷◌, ◌++◌, length, map, refl}
-use Rattle.std.specs.Prelude.{Some, None}
+use Rattle.std.specs.Prelude.{Some}
 use Rattle.ason_base.specs.Labels as labels
 use Rattle.ason_base.specs.Network.{Network}
 use Rattle.ason_base.specs.declared.calls.CallState.TheVariants.{Turned}
@@ -13,14 +13,10 @@ use Rattle.mesh_rules.specs.Machine.{start}
 use Rattle.mesh_laws.specs.AloneLaw.{Alone}
 use Rattle.mesh_laws.specs.RestorationLaw.{is_guarded, is_hit}
 use Rattle.mesh_laws.proofs.alone.Law.{run_starts_calm}
-use Rattle.mesh_examples.proofs.Scene.{among, desk, fails_link, joins, learns, leg, link, lsp, over, Reaches, reported, Seen, sets_up, spec, takes_each}
+use Rattle.mesh_examples.proofs.Scene.{by_node_3, desk, down_at, fails_link, learns, link, lsp, over, Reaches, reported, Seen, sets_up, still, takes_each, triangle}
 
 abbrev network : Network
-network = record {
-  wait = 0;
-  nodes = spec 1 true ∷ spec 2 false ∷ spec 3 false ∷ [];
-  links = joins 1 1 2 2 [] ∷ joins 2 1 3 2 [] ∷ joins 3 2 3 2 [] ∷ [];
-}
+network = triangle true false 2
 
 abbrev events : List MeshEvent
 events =
@@ -36,16 +32,11 @@ events =
     ∷ takes_each ((1, 2) ∷ (3, 1) ∷ (2, 3) ∷ (3, 2) ∷ (1, 3) ∷ [])
 
 abbrev as_reached : Seen
-as_reached = record {
-  legs = among 3 (
-      (1, leg 1 1 Live None (Some 1) 0 2 0 ∷ leg 1 2 Live None (Some 1) 0 2 1 ∷ [])
-      ∷ (2, leg 1 1 Live (Some 1) None 2 0 0 ∷ leg 1 2 Live (Some 1) None 2 0 0 ∷ [])
-      ∷ (3, leg 1 2 Live (Some 1) (Some 1) 2 2 0 ∷ [])
-      ∷ []);
+as_reached = record (still 3 3) {
+  legs = by_node_3 2 Live;
   calls = (reported 1 Turned Unset 1 0 ∷ []) ∷ [] ∷ [] ∷ [];
   known = 3 ∷ 3 ∷ 3 ∷ [];
-  down = 1 ∷ 1 ∷ 0 ∷ [];
-  mail = (0, 0) ∷ (0, 0) ∷ (0, 0) ∷ [];
+  down = down_at 3 ((1, 1) ∷ (2, 1) ∷ []);
 }
 
 reaches : Reaches network events as_reached

@@ -14,7 +14,7 @@ use Rattle.mesh_rules.specs.declared.events.MeshEvent.{MeshEvent}
 use Rattle.mesh_rules.specs.Events.{after}
 use Rattle.mesh_rules.specs.Machine.{start}
 use Rattle.mesh_examples.proofs.Contended as contended
-use Rattle.mesh_examples.proofs.Scene.{all_enabled, among, desk, leg, reported, retries, Seen, seen, takes}
+use Rattle.mesh_examples.proofs.Scene.{all_enabled, changed_at, desk, down_at, leg, mail_on, reported, retries, Seen, seen, takes}
 use Rattle.mesh_examples.proofs.SharedLabel.{network}
 
 -- node 3 takes the refusal, and the alarm of link 2 on its desk
@@ -27,22 +27,11 @@ events = until_stuck ++ retries 2 3 ∷ desk 3 ∷ []
 -- the leg of the second backup at node 3 is in this phase, its call in this state, and so many messages are from there
 -- to node 5
 abbrev with_second : Phase → CallState → Cause → ℕ → Seen
-with_second phase state cause sent = record {
-  legs = among 6 (
-      (1, leg 1 1 Live None (Some 1) 0 1 0 ∷ leg 1 2 Armed None (Some 1) 0 2 2 ∷ [])
-      ∷ (2, leg 1 1 Live (Some 1) None 1 0 0 ∷ leg 1 2 Held (Some 1) None 1 0 0 ∷ [])
-      ∷ (3, leg 3 1 Live None (Some 1) 0 1 0 ∷ leg 3 2 phase None (Some 1) 0 2 2 ∷ [])
-      ∷ (4, leg 3 1 Live (Some 1) None 1 0 0 ∷ leg 3 2 Held (Some 1) None 1 0 0 ∷ [])
-      ∷ (5, leg 1 2 Armed (Some 1) (Some 1) 2 1 1 ∷ leg 3 2 Held (Some 1) (Some 1) 2 1 1 ∷ [])
-      ∷ (6, leg 1 2 Held (Some 1) (Some 1) 1 1 0 ∷ leg 3 2 Held (Some 1) (Some 1) 1 1 0 ∷ [])
-      ∷ []);
-  calls = among 6 (
-      (1, reported 1 Turning Unset 1 0 ∷ [])
-      ∷ (3, reported 2 state cause 1 0 ∷ [])
-      ∷ []);
-  known = 2 ∷ 2 ∷ 2 ∷ 2 ∷ 5 ∷ 5 ∷ [];
-  down = 0 ∷ 1 ∷ 1 ∷ 1 ∷ 0 ∷ 0 ∷ [];
-  mail = (0, 0) ∷ (0, 0) ∷ (0, 0) ∷ (0, 0) ∷ (1, 0) ∷ (sent, 0) ∷ (0, 0) ∷ [];
+with_second phase state cause sent = record contended.as_reached {
+  legs = changed_at 3 (leg 3 1 Live None (Some 1) 0 1 0 ∷ leg 3 2 phase None (Some 1) 0 2 2 ∷ []) contended.as_reached.legs;
+  calls = changed_at 3 (reported 2 state cause 1 0 ∷ []) contended.as_reached.calls;
+  down = down_at 6 ((2, 1) ∷ (3, 1) ∷ (4, 1) ∷ []);
+  mail = mail_on 7 ((5, (1, 0)) ∷ (6, (sent, 0)) ∷ []);
 }
 
 enabled : all_enabled network start events ≡ true

@@ -1,12 +1,13 @@
 -- What is looked at of a mesh of some nodes after a run: the legs and calls of each node, how many links each node
 -- knows, how many fibres it knows to be down, and how many messages are under way.
-use Rattle.std.proofs.Common.{◌≡◌, ℕ, zero, suc, Bool, true, false, cond, nat_eq, List, [], ◌∷◌}
-use Rattle.std.specs.Prelude.{◌&&◌, length, map, Option, Some, None}
+use Rattle.std.proofs.Common.{◌≡◌, ℕ, suc, Bool, true, false, cond, nat_eq, List, [], ◌∷◌}
+use Rattle.std.specs.Prelude.{◌&&◌, length, map, replicate, Option, Some, None}
 use Rattle.ason_base.specs.Network.{Network}
 use Rattle.ason_base.specs.declared.calls.CallState.{CallState}
 use Rattle.ason_base.specs.declared.calls.Cause.{Cause}
 use Rattle.ason_base.specs.declared.calls.LegRow.{LegRow}
 use Rattle.ason_base.specs.declared.calls.Phase.{Phase}
+use Rattle.ason_base.specs.declared.calls.Phase.TheVariants.{Live}
 use Rattle.ason_base.specs.declared.calls.Role.{Role}
 use Rattle.ason_base.specs.declared.commands.Command.TheVariants.{Fail, Protect, Release, Repair, Retry, Revert, Setup}
 use Rattle.ason_base.specs.declared.commands.Group.TheVariants.{Link, Srlg}
@@ -25,6 +26,7 @@ use Rattle.mesh_rules.specs.Events.{after, is_enabled, step}
 use Rattle.mesh_rules.specs.KnownRows.{known_rows}
 use Rattle.mesh_rules.specs.LocalNodes.{local_node}
 use Rattle.mesh_rules.specs.Machine.{Mesh, start}
+use Rattle.lsp_laws.specs.HopLaw.{HasShape}
 
 -- Networks
 
@@ -42,6 +44,23 @@ spec n convert = record { id = node n; convert = convert }
 abbrev pub joins : ℕ → ℕ → ℕ → ℕ → List ℕ → LinkSpec
 joins k a b labels srlgs =
     record { id = link k; low = node a; high = node b; labels = labels; metric = 1; srlgs = srlgs }
+
+-- three nodes, each two joined by a link with so many labels: link 1 joins nodes 1 and 2, link 2 nodes 1 and 3, link 3
+-- nodes 2 and 3; whether node 1 converts, and whether the others do
+abbrev pub triangle : Bool → Bool → ℕ → Network
+triangle first others labels = record {
+  wait = 0;
+  nodes = spec 1 first ∷ spec 2 others ∷ spec 3 others ∷ [];
+  links = joins 1 1 2 labels [] ∷ joins 2 1 3 labels [] ∷ joins 3 2 3 labels [] ∷ [];
+}
+
+-- three nodes that don't convert in a ring, in which links 1 and 2 go from node 1 by node 2 to node 3, and link 3 closes it
+abbrev pub ring : ℕ → Network
+ring labels = record {
+  wait = 0;
+  nodes = spec 1 false ∷ spec 2 false ∷ spec 3 false ∷ [];
+  links = joins 1 1 2 labels [] ∷ joins 2 2 3 labels [] ∷ joins 3 1 3 labels [] ∷ [];
+}
 
 -- an LSP of this ingress, in this tunnel
 abbrev pub lsp : ℕ → ℕ → ℕ → Lsp
@@ -136,19 +155,35 @@ pub record SeenCall : Type 0 where
   pub back_reports : ℕ
   pub ticks : ℕ
 
--- what is given to the node
-abbrev pub given_to : {X : Type 0} → ℕ → List (ℕ × List X) → List X
-given_to n [] = []
-given_to n (g ∷ given) = cond (nat_eq g.0 n) g.1 (given_to n given)
+-- what is given to the node, or else this
+abbrev pub given_or : {X : Type 0} → X → ℕ → List (ℕ × X) → X
+given_or x n [] = x
+given_or x n (g ∷ given) = cond (nat_eq g.0 n) g.1 (given_or x n given)
 
--- what the nodes from this one on have, of so many nodes
-abbrev pub from_node : {X : Type 0} → ℕ → ℕ → List (ℕ × List X) → List (List X)
-from_node zero n given = []
-from_node (suc count) n given = given_to n given ∷ from_node count (suc n) given
+-- what the nodes from this one on have: what is given to them, or else what they had
+abbrev pub given_from : {X : Type 0} → ℕ → List (ℕ × X) → List X → List X
+given_from n given [] = []
+given_from n given (x ∷ xs) = given_or x n given ∷ given_from (suc n) given xs
+
+-- these nodes have something new, and the others what they had
+abbrev pub with_new : {X : Type 0} → List (ℕ × X) → List X → List X
+with_new given xs = given_from 1 given xs
+
+-- this node has something new, and the others what they had
+abbrev pub changed_at : {X : Type 0} → ℕ → X → List X → List X
+changed_at n x xs = with_new ((n, x) ∷ []) xs
 
 -- of so many nodes these alone have any
 abbrev pub among : {X : Type 0} → ℕ → List (ℕ × List X) → List (List X)
-among count given = from_node count 1 given
+among count given = with_new given (replicate count [])
+
+-- of so many nodes these alone know of fibres that are down
+abbrev pub down_at : ℕ → List (ℕ × ℕ) → List ℕ
+down_at count given = with_new given (replicate count 0)
+
+-- of so many links these alone have messages, to the high end and to the low end
+abbrev pub mail_on : ℕ → List (ℕ × (ℕ × ℕ)) → List (ℕ × ℕ)
+mail_on count given = with_new given (replicate count (0, 0))
 
 -- this one alone has any
 abbrev pub alone : {X : Type 0} → ℕ → ℕ → List X → List (List X)
@@ -163,6 +198,16 @@ pub record Seen : Type 0 where
   pub down : List ℕ
   pub mail : List (ℕ × ℕ)
 
+-- so many nodes and links, of which none has anything
+abbrev pub still : ℕ → ℕ → Seen
+still nodes links = record {
+  legs = among nodes [];
+  calls = among nodes [];
+  known = down_at nodes [];
+  down = down_at nodes [];
+  mail = mail_on links [];
+}
+
 abbrev pub leg : ℕ → ℕ → Phase → Option ℕ → Option ℕ → ℕ → ℕ → ℕ → SeenLeg
 leg ingress number phase in_label out_label offered sent left = record {
   ingress = ingress;
@@ -174,6 +219,15 @@ leg ingress number phase in_label out_label offered sent left = record {
   sent = sent;
   left = left;
 }
+
+-- in a triangle with so many labels: the legs of a call from node 1 to node 2 over link 1, and of its backup by node 3,
+-- which are in this phase
+abbrev pub by_node_3 : ℕ → Phase → List (List SeenLeg)
+by_node_3 labels phase =
+    (leg 1 1 Live None (Some 1) 0 labels 0 ∷ leg 1 2 phase None (Some 1) 0 labels 1 ∷ [])
+    ∷ (leg 1 1 Live (Some 1) None labels 0 0 ∷ leg 1 2 phase (Some 1) None labels 0 0 ∷ [])
+    ∷ (leg 1 2 phase (Some 1) (Some 1) labels labels 0 ∷ [])
+    ∷ []
 
 -- a call without reports
 abbrev pub called : ℕ → CallState → Cause → SeenCall
@@ -233,3 +287,10 @@ waiting number state cause works backs ticks =
 pub record Reaches (t : Network) (events : List MeshEvent) (shown : Seen) : Type 0 where
   pub enabled : all_enabled t start events ≡ true
   pub reached : seen t (after t start events) ≡ shown
+
+-- the run reaches this, and there the hop from one node to the next is in its row of the table
+pub record ReachesRow (t : Network) (events : List MeshEvent) (shown : Seen) (r : Role) (l : Lsp) (u d : NodeId) : Type 0
+  where
+    pub enabled : all_enabled t start events ≡ true
+    pub reached : seen t (after t start events) ≡ shown
+    pub in_row : HasShape (after t start events) r l u d

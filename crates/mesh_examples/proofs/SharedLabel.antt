@@ -1,6 +1,6 @@
 -- Two guarded calls whose backups meet on link 5, which has one label. Their primaries have no risk in common, so the
 -- backups share the label.
-use Rattle.std.proofs.Common.{true, false, List, [], ◌∷◌, ◌++◌, refl}
+use Rattle.std.proofs.Common.{ℕ, true, false, List, [], ◌∷◌, ◌++◌, refl}
 use Rattle.std.specs.Prelude.{Some, None}
 use Rattle.ason_base.specs.Labels as labels
 use Rattle.ason_base.specs.Network.{Network}
@@ -8,32 +8,43 @@ use Rattle.ason_base.specs.declared.calls.CallState.TheVariants.{Guarded}
 use Rattle.ason_base.specs.declared.calls.Cause.TheVariants.{Unset}
 use Rattle.ason_base.specs.declared.calls.Phase.TheVariants.{Held, Live}
 use Rattle.mesh_rules.specs.declared.events.MeshEvent.{MeshEvent}
-use Rattle.mesh_examples.proofs.Scene.{among, called, desk, joins, learns, leg, over, Reaches, Seen, sets_up, spec, takes_each}
+use Rattle.mesh_examples.proofs.Scene.{among, called, desk, joins, learns, leg, over, Reaches, Seen, sets_up, spec, still, takes_each}
 
-abbrev pub network : Network
-network = record {
-  wait = 2;
+-- how many ticks the wait has, and the SRLG of link 2
+abbrev pub network_of : ℕ → ℕ → Network
+network_of wait srlg = record {
+  wait = wait;
   nodes = spec 1 false ∷ spec 2 false ∷ spec 3 false ∷ spec 4 false ∷ spec 5 true ∷ spec 6 false ∷ [];
-  links = joins 1 1 2 1 (1 ∷ []) ∷ joins 2 3 4 1 (2 ∷ []) ∷ joins 3 1 5 2 [] ∷ joins 4 2 6 2 [] ∷ joins 5 5 6 1 []
+  links = joins 1 1 2 1 (1 ∷ []) ∷ joins 2 3 4 1 (srlg ∷ []) ∷ joins 3 1 5 2 [] ∷ joins 4 2 6 2 [] ∷ joins 5 5 6 1 []
       ∷ joins 6 3 5 2 [] ∷ joins 7 4 6 2 [] ∷ [];
 }
 
+abbrev pub network : Network
+network = network_of 2 2
+
+-- nodes 5 and 6 learn of the links of both primaries
+abbrev pub both_learn : List MeshEvent
+both_learn = learns 5 (1 ∷ []) ++ learns 6 (1 ∷ []) ++ learns 5 (2 ∷ []) ++ learns 6 (2 ∷ [])
+
+abbrev pub first_call : MeshEvent
+first_call = sets_up 1 1 2 (over 1 1 ∷ []) (over 1 3 ∷ over 5 5 ∷ over 6 4 ∷ [])
+
+abbrev pub second_call : MeshEvent
+second_call = sets_up 2 3 4 (over 3 2 ∷ []) (over 3 6 ∷ over 5 5 ∷ over 6 7 ∷ [])
+
 abbrev pub events : List MeshEvent
 events =
-    learns 5 (1 ∷ [])
-    ++ learns 6 (1 ∷ [])
-    ++ learns 5 (2 ∷ [])
-    ++ learns 6 (2 ∷ [])
-    ++ sets_up 1 1 2 (over 1 1 ∷ []) (over 1 3 ∷ over 5 5 ∷ over 6 4 ∷ [])
+    both_learn
+    ++ first_call
     ∷ desk 1
     ∷ takes_each ((2, 1) ∷ (1, 2) ∷ (5, 1) ∷ [])
-    ++ sets_up 2 3 4 (over 3 2 ∷ []) (over 3 6 ∷ over 5 5 ∷ over 6 7 ∷ [])
+    ++ second_call
     ∷ desk 3
     ∷ takes_each ((4, 3) ∷ (6, 5) ∷ (3, 4) ∷ (2, 6) ∷ (5, 3) ∷ (6, 2) ∷ (6, 5) ∷ (4, 6) ∷ (5, 6) ∷ (6, 4)
     ∷ (1, 5) ∷ (5, 6) ∷ (3, 5) ∷ [])
 
 abbrev pub as_reached : Seen
-as_reached = record {
+as_reached = record (still 6 7) {
   legs = among 6 (
       (1, leg 1 1 Live None (Some 1) 0 1 0 ∷ leg 1 2 Held None (Some 1) 0 2 2 ∷ [])
       ∷ (2, leg 1 1 Live (Some 1) None 1 0 0 ∷ leg 1 2 Held (Some 1) None 1 0 0 ∷ [])
@@ -47,8 +58,6 @@ as_reached = record {
       ∷ (3, called 2 Guarded Unset ∷ [])
       ∷ []);
   known = 2 ∷ 2 ∷ 2 ∷ 2 ∷ 5 ∷ 5 ∷ [];
-  down = 0 ∷ 0 ∷ 0 ∷ 0 ∷ 0 ∷ 0 ∷ [];
-  mail = (0, 0) ∷ (0, 0) ∷ (0, 0) ∷ (0, 0) ∷ (0, 0) ∷ (0, 0) ∷ (0, 0) ∷ [];
 }
 
 reaches : Reaches network events as_reached

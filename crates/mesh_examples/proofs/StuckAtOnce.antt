@@ -1,13 +1,13 @@
 -- A run after which a call is stuck as soon as its backup is reserved: both its routes are hit.
 use Rattle.std.proofs.Common.{false, List, [], ◌∷◌, ◌++◌, refl}
-use Rattle.std.specs.Prelude.{Some, None}
+use Rattle.std.specs.Prelude.{replicate, Some, None}
 use Rattle.ason_base.specs.Labels as labels
 use Rattle.ason_base.specs.Network.{Network}
 use Rattle.ason_base.specs.declared.calls.CallState.TheVariants.{Asking, Stuck}
 use Rattle.ason_base.specs.declared.calls.Cause.TheVariants.{BackDown, Unset}
 use Rattle.ason_base.specs.declared.calls.Phase.TheVariants.{Asked, Held, Live}
 use Rattle.mesh_rules.specs.declared.events.MeshEvent.{MeshEvent}
-use Rattle.mesh_examples.proofs.Scene.{among, called, desk, fails_link, joins, learns, leg, over, Reaches, reported, Seen, sets_up, spec, takes, takes_each}
+use Rattle.mesh_examples.proofs.Scene.{among, called, desk, down_at, fails_link, joins, learns, leg, mail_on, over, Reaches, reported, Seen, sets_up, spec, still, takes, takes_each}
 
 abbrev network : Network
 network = record {
@@ -51,7 +51,7 @@ events =
     ∷ []
 
 abbrev as_reached : Seen
-as_reached = record {
+as_reached = record (still 6 8) {
   legs = among 6 (
       (1, leg 1 1 Live None (Some 1) 0 1 0 ∷ leg 1 2 Held None (Some 1) 0 1 1 ∷ [])
       ∷ (2, leg 1 2 Held (Some 1) (Some 1) 1 1 0 ∷ [])
@@ -62,9 +62,9 @@ as_reached = record {
       (1, reported 1 Stuck BackDown 1 1 ∷ [])
       ∷ (5, called 2 Asking Unset ∷ [])
       ∷ []);
-  known = 8 ∷ 8 ∷ 8 ∷ 8 ∷ 8 ∷ 8 ∷ [];
-  down = 2 ∷ 2 ∷ 0 ∷ 0 ∷ 2 ∷ 0 ∷ [];
-  mail = (0, 0) ∷ (0, 0) ∷ (0, 0) ∷ (0, 1) ∷ (0, 0) ∷ (0, 0) ∷ (0, 0) ∷ (0, 1) ∷ [];
+  known = replicate 6 8;
+  down = down_at 6 ((1, 2) ∷ (2, 2) ∷ (5, 2) ∷ []);
+  mail = mail_on 8 ((4, (0, 1)) ∷ (8, (0, 1)) ∷ []);
 }
 
 reaches : Reaches network events as_reached

@@ -1,6 +1,6 @@
 -- A run after which a call that was stuck is guarded again: its working route is repaired.
 use Rattle.std.proofs.Common.{true, false, List, [], ◌∷◌, ◌++◌, refl}
-use Rattle.std.specs.Prelude.{Some, None}
+use Rattle.std.specs.Prelude.{replicate, Some, None}
 use Rattle.ason_base.specs.Codes.{down_code}
 use Rattle.ason_base.specs.Labels as labels
 use Rattle.ason_base.specs.Network.{Network}
@@ -8,7 +8,7 @@ use Rattle.ason_base.specs.declared.calls.CallState.TheVariants.{Blocked, Guarde
 use Rattle.ason_base.specs.declared.calls.Cause.TheVariants.{Code, Unset}
 use Rattle.ason_base.specs.declared.calls.Phase.TheVariants.{Held, Live}
 use Rattle.mesh_rules.specs.declared.events.MeshEvent.{MeshEvent}
-use Rattle.mesh_examples.proofs.Scene.{among, called, desk, fails_link, joins, learns, leg, over, Reaches, repairs_link, reported, Seen, sets_up, spec, takes, takes_each}
+use Rattle.mesh_examples.proofs.Scene.{among, called, desk, down_at, fails_link, joins, learns, leg, over, Reaches, repairs_link, reported, Seen, sets_up, spec, still, takes, takes_each}
 
 abbrev network : Network
 network = record {
@@ -52,7 +52,7 @@ events =
     ∷ []
 
 abbrev as_reached : Seen
-as_reached = record {
+as_reached = record (still 6 9) {
   legs = among 6 (
       (1, leg 6 1 Live (Some 1) None 1 0 0 ∷ leg 6 2 Held (Some 1) None 1 0 0 ∷ [])
       ∷ (2, leg 6 2 Held (Some 1) (Some 1) 2 1 0 ∷ [])
@@ -63,9 +63,8 @@ as_reached = record {
       (2, called 2 Blocked (Code down_code) ∷ [])
       ∷ (6, reported 1 Guarded Unset 0 1 ∷ [])
       ∷ []);
-  known = 9 ∷ 9 ∷ 9 ∷ 9 ∷ 9 ∷ 9 ∷ [];
-  down = 0 ∷ 1 ∷ 0 ∷ 0 ∷ 0 ∷ 1 ∷ [];
-  mail = (0, 0) ∷ (0, 0) ∷ (0, 0) ∷ (0, 0) ∷ (0, 0) ∷ (0, 0) ∷ (0, 0) ∷ (0, 0) ∷ (0, 0) ∷ [];
+  known = replicate 6 9;
+  down = down_at 6 ((2, 1) ∷ (6, 1) ∷ []);
 }
 
 reaches : Reaches network events as_reached

@@ -19,7 +19,7 @@ use Rattle.ason_base.specs.declared.ids.LinkId.{LinkId}
 use Rattle.ason_base.specs.declared.ids.Lsp.{Lsp}
 use Rattle.mesh_laws.specs.Survey.{contends_of, hits_of}
 use Rattle.mesh_laws.specs.declared.survey.Hit.{Hit}
-use Rattle.mesh_examples.proofs.Scene.{call, joins, link, lsp, node, spec}
+use Rattle.mesh_examples.proofs.Scene.{call, joins, link, lsp, node, row as leg_row, spec}
 
 -- a call's row, with its working LSP and its backup
 abbrev row : ℕ → ℕ → ℕ → CallState → Option Lsp → CallRow
@@ -35,18 +35,8 @@ row number from to state back = record {
 
 -- a leg's row: its LSP, the node, and link and label in and out
 abbrev shows : Lsp → ℕ → Role → Phase → Option LinkId → Option ℕ → Option LinkId → Option ℕ → LegRow
-shows l n role phase in_link in_label out_link out_label = record {
-  lsp = l;
-  node = node n;
-  role = role;
-  phase = phase;
-  in_link = in_link;
-  in_label = in_label;
-  out_link = out_link;
-  out_label = out_label;
-  back_in = None;
-  back_out = None;
-}
+shows l n role phase in_link in_label out_link out_label =
+    leg_row l role n phase in_link in_label out_link out_label None None
 
 abbrev hit : Group → List CallNo → List CallNo → Hit
 hit g guarded bare = record { group = g; guarded = guarded; bare = bare }

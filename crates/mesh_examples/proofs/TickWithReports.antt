@@ -1,13 +1,13 @@
 -- A run after which a tick counts nothing while a fibre of the working route is reported.
 use Rattle.std.proofs.Common.{true, false, List, [], ◌∷◌, ◌++◌, refl}
-use Rattle.std.specs.Prelude.{Some, None}
+use Rattle.std.specs.Prelude.{replicate, Some, None}
 use Rattle.ason_base.specs.Labels as labels
 use Rattle.ason_base.specs.Network.{Network}
 use Rattle.ason_base.specs.declared.calls.CallState.TheVariants.{Turned}
 use Rattle.ason_base.specs.declared.calls.Cause.TheVariants.{Unset}
 use Rattle.ason_base.specs.declared.calls.Phase.TheVariants.{Live}
 use Rattle.mesh_rules.specs.declared.events.MeshEvent.{MeshEvent}
-use Rattle.mesh_examples.proofs.Scene.{alone, among, desk, fails_link, joins, learns, leg, over, protects, Reaches, reported, retries, Seen, sets_up, spec, takes, takes_each, ticks}
+use Rattle.mesh_examples.proofs.Scene.{alone, among, desk, down_at, fails_link, joins, learns, leg, over, protects, Reaches, reported, retries, Seen, sets_up, spec, still, takes, takes_each, ticks}
 
 abbrev network : Network
 network = record {
@@ -45,7 +45,7 @@ events =
     ∷ []
 
 abbrev as_reached : Seen
-as_reached = record {
+as_reached = record (still 6 9) {
   legs = among 6 (
       (1, leg 2 1 Live (Some 1) (Some 1) 1 1 1 ∷ [])
       ∷ (2, leg 2 1 Live None (Some 1) 0 1 2 ∷ leg 2 2 Live None (Some 1) 0 1 0 ∷ [])
@@ -53,9 +53,8 @@ as_reached = record {
       ∷ (6, leg 2 1 Live (Some 1) (Some 1) 1 1 0 ∷ [])
       ∷ []);
   calls = alone 6 2 (reported 1 Turned Unset 1 0 ∷ []);
-  known = 9 ∷ 9 ∷ 9 ∷ 9 ∷ 9 ∷ 9 ∷ [];
-  down = 1 ∷ 1 ∷ 0 ∷ 0 ∷ 1 ∷ 0 ∷ [];
-  mail = (0, 0) ∷ (0, 0) ∷ (0, 0) ∷ (0, 0) ∷ (0, 0) ∷ (0, 0) ∷ (0, 0) ∷ (0, 0) ∷ (0, 0) ∷ [];
+  known = replicate 6 9;
+  down = down_at 6 ((1, 1) ∷ (2, 1) ∷ (5, 1) ∷ []);
 }
 
 reaches : Reaches network events as_reached

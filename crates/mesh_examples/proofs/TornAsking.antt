@@ -8,11 +8,8 @@ use Rattle.ason_base.specs.declared.calls.Cause.TheVariants.{Unset}
 use Rattle.ason_base.specs.declared.calls.Phase.TheVariants.{Asked, Closing, Live}
 use Rattle.ason_base.specs.declared.calls.Role.TheVariants.{Back}
 use Rattle.mesh_rules.specs.declared.events.MeshEvent.{MeshEvent}
-use Rattle.mesh_rules.specs.Events.{after}
-use Rattle.mesh_rules.specs.Machine.{start}
-use Rattle.lsp_laws.specs.HopLaw.{HasShape}
 use Rattle.lsp_laws.specs.HopShapes as row
-use Rattle.mesh_examples.proofs.Scene.{alone, called, desk, joins, learns, leg, lsp, node, over, Reaches, releases, Seen, sets_up, spec, takes_each}
+use Rattle.mesh_examples.proofs.Scene.{alone, called, desk, joins, learns, leg, lsp, mail_on, node, over, ReachesRow, releases, Seen, sets_up, spec, still, takes_each}
 
 abbrev network : Network
 network = record {
@@ -36,7 +33,7 @@ events =
     ∷ []
 
 abbrev as_reached : Seen
-as_reached = record {
+as_reached = record (still 6 8) {
   legs =
       []
       ∷ (leg 2 1 Live None (Some 1) 0 3 0 ∷ leg 2 2 Asked None None 0 1 1 ∷ leg 2 3 Closing None (Some 1) 0 2 1 ∷ leg 2 4 Closing None None 0 1 0 ∷ [])
@@ -47,14 +44,9 @@ as_reached = record {
       ∷ [];
   calls = alone 6 2 (called 1 Pairing Unset ∷ []);
   known = 2 ∷ 4 ∷ 3 ∷ 4 ∷ 0 ∷ 4 ∷ [];
-  down = 0 ∷ 0 ∷ 0 ∷ 0 ∷ 0 ∷ 0 ∷ [];
-  mail = (0, 0) ∷ (0, 0) ∷ (3, 0) ∷ (0, 0) ∷ (1, 0) ∷ (0, 0) ∷ (0, 0) ∷ (0, 0) ∷ [];
+  mail = mail_on 8 ((3, (3, 0)) ∷ (5, (1, 0)) ∷ []);
 }
 
-reaches : Reaches network events as_reached
+reaches : ReachesRow network events as_reached Back (lsp 2 2 4) (node 2) (node 3)
 unfolding labels.numbers_from
-reaches = record { enabled = refl; reached = refl }
-
-in_row : HasShape (after network start events) Back (lsp 2 2 4) (node 2) (node 3)
-unfolding labels.numbers_from
-in_row = row.TornAsking
+reaches = record { enabled = refl; reached = refl; in_row = row.TornAsking }

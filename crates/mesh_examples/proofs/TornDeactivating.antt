@@ -6,11 +6,8 @@ use Rattle.ason_base.specs.Network.{Network}
 use Rattle.ason_base.specs.declared.calls.Phase.TheVariants.{Closing, Live}
 use Rattle.ason_base.specs.declared.calls.Role.TheVariants.{Back}
 use Rattle.mesh_rules.specs.declared.events.MeshEvent.{MeshEvent}
-use Rattle.mesh_rules.specs.Events.{after}
-use Rattle.mesh_rules.specs.Machine.{start}
-use Rattle.lsp_laws.specs.HopLaw.{HasShape}
 use Rattle.lsp_laws.specs.HopShapes as row
-use Rattle.mesh_examples.proofs.Scene.{among, desk, fails_link, joins, learns, leg, lsp, node, over, Reaches, releases, repairs_link, Seen, sets_up, spec, takes, takes_each}
+use Rattle.mesh_examples.proofs.Scene.{among, desk, down_at, fails_link, joins, learns, leg, lsp, mail_on, node, over, ReachesRow, releases, repairs_link, Seen, sets_up, spec, still, takes, takes_each}
 
 abbrev network : Network
 network = record {
@@ -45,23 +42,18 @@ events =
     ∷ []
 
 abbrev as_reached : Seen
-as_reached = record {
+as_reached = record (still 6 7) {
   legs = among 6 (
       (1, leg 3 2 Live (Some 1) (Some 1) 1 1 1 ∷ [])
       ∷ (3, leg 3 1 Closing None (Some 1) 0 3 0 ∷ leg 3 2 Closing None (Some 1) 0 1 2 ∷ [])
       ∷ (4, leg 3 2 Live (Some 1) (Some 1) 1 1 0 ∷ [])
       ∷ (5, leg 3 1 Live (Some 1) None 3 0 0 ∷ leg 3 2 Live (Some 1) None 1 0 0 ∷ [])
       ∷ []);
-  calls = among 6 [];
   known = 4 ∷ 3 ∷ 2 ∷ 4 ∷ 3 ∷ 0 ∷ [];
-  down = 0 ∷ 0 ∷ 0 ∷ 1 ∷ 0 ∷ 0 ∷ [];
-  mail = (0, 0) ∷ (0, 2) ∷ (0, 0) ∷ (0, 0) ∷ (0, 0) ∷ (1, 0) ∷ (0, 0) ∷ [];
+  down = down_at 6 ((4, 1) ∷ []);
+  mail = mail_on 7 ((2, (0, 2)) ∷ (6, (1, 0)) ∷ []);
 }
 
-reaches : Reaches network events as_reached
+reaches : ReachesRow network events as_reached Back (lsp 3 1 2) (node 3) (node 1)
 unfolding labels.numbers_from
-reaches = record { enabled = refl; reached = refl }
-
-in_row : HasShape (after network start events) Back (lsp 3 1 2) (node 3) (node 1)
-unfolding labels.numbers_from
-in_row = row.TornDeactivating
+reaches = record { enabled = refl; reached = refl; in_row = row.TornDeactivating }

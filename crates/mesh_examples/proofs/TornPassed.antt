@@ -6,11 +6,8 @@ use Rattle.ason_base.specs.Network.{Network}
 use Rattle.ason_base.specs.declared.calls.Phase.TheVariants.{Asked, Closing, Live}
 use Rattle.ason_base.specs.declared.calls.Role.TheVariants.{Back}
 use Rattle.mesh_rules.specs.declared.events.MeshEvent.{MeshEvent}
-use Rattle.mesh_rules.specs.Events.{after}
-use Rattle.mesh_rules.specs.Machine.{start}
-use Rattle.lsp_laws.specs.HopLaw.{HasShape}
 use Rattle.lsp_laws.specs.HopShapes as row
-use Rattle.mesh_examples.proofs.Scene.{among, desk, joins, learns, leg, lsp, node, over, Reaches, releases, Seen, sets_up, spec, takes, takes_each}
+use Rattle.mesh_examples.proofs.Scene.{among, desk, joins, learns, leg, lsp, mail_on, node, over, ReachesRow, releases, Seen, sets_up, spec, still, takes, takes_each}
 
 abbrev network : Network
 network = record {
@@ -32,22 +29,16 @@ events =
     ∷ []
 
 abbrev as_reached : Seen
-as_reached = record {
+as_reached = record (still 6 7) {
   legs = among 6 (
       (1, leg 1 1 Closing None (Some 1) 0 1 0 ∷ leg 1 2 Closing None None 0 1 2 ∷ [])
       ∷ (2, leg 1 1 Live (Some 1) None 1 0 0 ∷ [])
       ∷ (4, leg 1 2 Asked None None 1 1 1 ∷ [])
       ∷ []);
-  calls = among 6 [];
   known = 2 ∷ 3 ∷ 2 ∷ 3 ∷ 2 ∷ 3 ∷ [];
-  down = 0 ∷ 0 ∷ 0 ∷ 0 ∷ 0 ∷ 0 ∷ [];
-  mail = (1, 0) ∷ (1, 0) ∷ (0, 0) ∷ (0, 0) ∷ (0, 0) ∷ (0, 0) ∷ (1, 0) ∷ [];
+  mail = mail_on 7 ((1, (1, 0)) ∷ (2, (1, 0)) ∷ (7, (1, 0)) ∷ []);
 }
 
-reaches : Reaches network events as_reached
+reaches : ReachesRow network events as_reached Back (lsp 1 1 2) (node 1) (node 4)
 unfolding labels.numbers_from
-reaches = record { enabled = refl; reached = refl }
-
-in_row : HasShape (after network start events) Back (lsp 1 1 2) (node 1) (node 4)
-unfolding labels.numbers_from
-in_row = row.TornPassed
+reaches = record { enabled = refl; reached = refl; in_row = row.TornPassed }

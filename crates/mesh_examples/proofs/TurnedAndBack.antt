@@ -1,6 +1,6 @@
 -- A run after which a call that turned goes back by an order.
 use Rattle.std.proofs.Common.{true, false, List, [], ◌∷◌, ◌++◌, refl}
-use Rattle.std.specs.Prelude.{Some, None}
+use Rattle.std.specs.Prelude.{replicate, Some, None}
 use Rattle.ason_base.specs.Codes.{set_code}
 use Rattle.ason_base.specs.Labels as labels
 use Rattle.ason_base.specs.Network.{Network}
@@ -8,7 +8,7 @@ use Rattle.ason_base.specs.declared.calls.CallState.TheVariants.{Asking, Blocked
 use Rattle.ason_base.specs.declared.calls.Cause.TheVariants.{Code, Unset}
 use Rattle.ason_base.specs.declared.calls.Phase.TheVariants.{Asked, Held, Live}
 use Rattle.mesh_rules.specs.declared.events.MeshEvent.{MeshEvent}
-use Rattle.mesh_examples.proofs.Scene.{alone, among, called, desk, fails_link, joins, learns, leg, over, Reaches, repairs_link, reported, retries, reverts, Seen, sets_up, sets_up_alone, spec, takes, takes_each, ticks}
+use Rattle.mesh_examples.proofs.Scene.{alone, among, called, desk, fails_link, joins, learns, leg, mail_on, over, Reaches, repairs_link, reported, retries, reverts, Seen, sets_up, sets_up_alone, spec, still, takes, takes_each, ticks}
 
 abbrev network : Network
 network = record {
@@ -76,7 +76,7 @@ events =
     ∷ []
 
 abbrev as_reached : Seen
-as_reached = record {
+as_reached = record (still 6 7) {
   legs = among 6 (
       (2, leg 5 1 Live (Some 1) None 1 0 0 ∷ leg 5 2 Live (Some 1) None 2 0 0 ∷ [])
       ∷ (3, leg 5 2 Live (Some 1) (Some 1) 2 2 1 ∷ [])
@@ -84,9 +84,8 @@ as_reached = record {
       ∷ (6, leg 5 2 Live (Some 1) (Some 1) 2 2 0 ∷ [])
       ∷ []);
   calls = alone 6 5 (reported 1 Guarded Unset 0 1 ∷ called 2 Blocked (Code set_code) ∷ called 3 Asking Unset ∷ []);
-  known = 7 ∷ 7 ∷ 7 ∷ 7 ∷ 7 ∷ 7 ∷ [];
-  down = 0 ∷ 0 ∷ 0 ∷ 0 ∷ 0 ∷ 0 ∷ [];
-  mail = (0, 0) ∷ (0, 0) ∷ (0, 1) ∷ (0, 0) ∷ (0, 0) ∷ (0, 1) ∷ (0, 1) ∷ [];
+  known = replicate 6 7;
+  mail = mail_on 7 ((3, (0, 1)) ∷ (6, (0, 1)) ∷ (7, (0, 1)) ∷ []);
 }
 
 reaches : Reaches network events as_reached

@@ -8,7 +8,7 @@ use Rattle.ason_base.specs.declared.calls.CallState.TheVariants.{Blocked, Turned
 use Rattle.ason_base.specs.declared.calls.Cause.TheVariants.{Code, Unset}
 use Rattle.ason_base.specs.declared.calls.Phase.TheVariants.{Live}
 use Rattle.mesh_rules.specs.declared.events.MeshEvent.{MeshEvent}
-use Rattle.mesh_examples.proofs.Scene.{among, called, desk, fails_link, fails_srlg, joins, learns, leg, over, protects, Reaches, releases, repairs_link, repairs_srlg, reported, retries, reverts, Seen, sets_up, spec, takes, takes_each, ticks}
+use Rattle.mesh_examples.proofs.Scene.{among, called, desk, down_at, fails_link, fails_srlg, joins, learns, leg, over, protects, Reaches, releases, repairs_link, repairs_srlg, reported, retries, reverts, Seen, sets_up, spec, still, takes, takes_each, ticks}
 
 abbrev network : Network
 network = record {
@@ -89,7 +89,7 @@ events =
     ∷ takes_each ((6, 3) ∷ (4, 6) ∷ [])
 
 abbrev as_reached : Seen
-as_reached = record {
+as_reached = record (still 6 8) {
   legs = among 6 (
       (3, leg 4 2 Live (Some 1) None 1 0 0 ∷ leg 4 3 Live (Some 1) None 2 0 0 ∷ [])
       ∷ (4, leg 4 2 Live None (Some 1) 0 1 1 ∷ leg 4 3 Live None (Some 1) 0 2 0 ∷ [])
@@ -99,8 +99,7 @@ as_reached = record {
       (4, called 1 Blocked (Code down_code) ∷ reported 2 Turned Unset 1 0 ∷ called 4 Blocked (Code set_code) ∷ [])
       ∷ []);
   known = 8 ∷ 0 ∷ 8 ∷ 8 ∷ 8 ∷ 8 ∷ [];
-  down = 0 ∷ 0 ∷ 1 ∷ 0 ∷ 1 ∷ 1 ∷ [];
-  mail = (0, 0) ∷ (0, 0) ∷ (0, 0) ∷ (0, 0) ∷ (0, 0) ∷ (0, 0) ∷ (0, 0) ∷ (0, 0) ∷ [];
+  down = down_at 6 ((3, 1) ∷ (5, 1) ∷ (6, 1) ∷ []);
 }
 
 reaches : Reaches network events as_reached

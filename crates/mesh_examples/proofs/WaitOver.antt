@@ -1,13 +1,13 @@
 -- A run after which a turned call goes back at the end of the wait.
 use Rattle.std.proofs.Common.{true, false, List, [], ◌∷◌, ◌++◌, refl}
-use Rattle.std.specs.Prelude.{Some, None}
+use Rattle.std.specs.Prelude.{replicate, Some, None}
 use Rattle.ason_base.specs.Labels as labels
 use Rattle.ason_base.specs.Network.{Network}
 use Rattle.ason_base.specs.declared.calls.CallState.TheVariants.{Asking, Bare, Guarded}
 use Rattle.ason_base.specs.declared.calls.Cause.TheVariants.{Unset}
 use Rattle.ason_base.specs.declared.calls.Phase.TheVariants.{Asked, Held, Live}
 use Rattle.mesh_rules.specs.declared.events.MeshEvent.{MeshEvent}
-use Rattle.mesh_examples.proofs.Scene.{alone, called, desk, fails_link, joins, learns, leg, over, Reaches, repairs_link, Seen, sets_up, sets_up_alone, spec, takes, takes_each, ticks}
+use Rattle.mesh_examples.proofs.Scene.{alone, called, desk, down_at, fails_link, joins, learns, leg, mail_on, over, Reaches, repairs_link, Seen, sets_up, sets_up_alone, spec, still, takes, takes_each, ticks}
 
 abbrev network : Network
 network = record {
@@ -53,7 +53,7 @@ events =
     ∷ []
 
 abbrev as_reached : Seen
-as_reached = record {
+as_reached = record (still 6 9) {
   legs =
       []
       ∷ (leg 2 1 Live None (Some 1) 0 2 1
@@ -66,9 +66,9 @@ as_reached = record {
       ∷ (leg 2 2 Live (Some 1) (Some 1) 3 3 0 ∷ [])
       ∷ [];
   calls = alone 6 2 (called 1 Guarded Unset ∷ called 2 Bare Unset ∷ called 3 Asking Unset ∷ []);
-  known = 9 ∷ 9 ∷ 9 ∷ 9 ∷ 9 ∷ 9 ∷ [];
-  down = 1 ∷ 0 ∷ 1 ∷ 0 ∷ 0 ∷ 0 ∷ [];
-  mail = (0, 0) ∷ (0, 0) ∷ (0, 1) ∷ (0, 0) ∷ (1, 0) ∷ (0, 0) ∷ (0, 0) ∷ (0, 0) ∷ (0, 0) ∷ [];
+  known = replicate 6 9;
+  down = down_at 6 ((1, 1) ∷ (3, 1) ∷ []);
+  mail = mail_on 9 ((3, (0, 1)) ∷ (5, (1, 0)) ∷ []);
 }
 
 reaches : Reaches network events as_reached

@@ -1,7 +1,7 @@
 -- A call from node 3 to node 2 takes a label of the fibre over which a two-way call from node 1 to node 3 comes back.
 -- A node that doesn't convert has no other label for the way back: it refuses the Path. One that converts takes
 -- another.
-use Rattle.std.proofs.Common.{◌≡◌, Bool, true, false, List, [], ◌∷◌, ◌++◌, refl}
+use Rattle.std.proofs.Common.{◌≡◌, ℕ, Bool, true, false, List, [], ◌∷◌, ◌++◌, refl}
 use Rattle.std.specs.Prelude.{Some, None}
 use Rattle.ason_base.specs.Codes.{label_code}
 use Rattle.ason_base.specs.Labels as labels
@@ -25,23 +25,21 @@ network converts = record {
   links = joins 1 1 2 2 [] ∷ joins 2 2 3 2 [] ∷ [];
 }
 
-abbrev refused : List MeshEvent
-refused =
+-- the second call is set up after the first, and then these messages are taken
+abbrev both_set_up : List (ℕ × ℕ) → List MeshEvent
+both_set_up taken =
     sets_up_alone 1 3 2 (over 3 2 ∷ [])
     ∷ desk 3
     ∷ takes_each ((2, 3) ∷ (3, 2) ∷ [])
     ++ sets_up_both 2 1 3 false (over 1 1 ∷ over 2 2 ∷ []) None
     ∷ desk 1
-    ∷ takes_each ((2, 1) ∷ (1, 2) ∷ [])
+    ∷ takes_each taken
+
+abbrev refused : List MeshEvent
+refused = both_set_up ((2, 1) ∷ (1, 2) ∷ [])
 
 abbrev converted : List MeshEvent
-converted =
-    sets_up_alone 1 3 2 (over 3 2 ∷ [])
-    ∷ desk 3
-    ∷ takes_each ((2, 3) ∷ (3, 2) ∷ [])
-    ++ sets_up_both 2 1 3 false (over 1 1 ∷ over 2 2 ∷ []) None
-    ∷ desk 1
-    ∷ takes_each ((2, 1) ∷ (3, 2) ∷ (2, 3) ∷ (1, 2) ∷ [])
+converted = both_set_up ((2, 1) ∷ (3, 2) ∷ (2, 3) ∷ (1, 2) ∷ [])
 
 abbrev connected : List LegRow
 connected =
