@@ -66,9 +66,12 @@ length-filter_less p (x ∷ xs) = go (p x) (length-filter_less p xs)
 
 -- Legs
 
--- a number more may be given out
-later-fits : (p : LocalNode) (a b : ℕ) (g : Leg) → a ≤ b → LegFits p a g → LegFits p b g
-later-fits p a b g le fits = record {
+-- a leg whose phase and labels alone are others fits where these do, also once more numbers are given out
+altered-fits : (p : LocalNode) (a b : ℕ) (g : Leg) (f : Phase) (i o back : Option ℕ) → a ≤ b → LegFits p a g →
+    (IsTrue (is_beyond_asked f) → is_some i ≡ is_some g.in_fibre) →
+    (IsTrue (is_beyond_asked f) → is_some o ≡ is_some g.out_fibre) → (is_beyond_asked f ≡ false → i ≡ None) →
+    LegFits p b (record g { phase = f; in_label = i; out_label = o; back_out = back })
+altered-fits p a b g f i o back le fits labelled out bare = record {
   prev = fits.prev;
   in_fibre = fits.in_fibre;
   next_node = fits.next_node;
@@ -76,15 +79,20 @@ later-fits p a b g le fits = record {
   upstream = fits.upstream;
   downstream = fits.downstream;
   role = fits.role;
-  in_label = fits.in_label;
-  out_label = fits.out_label;
-  bare = fits.bare;
+  in_label = labelled;
+  out_label = out;
+  bare = bare;
   number = λ e. let small : g.lsp.lsp < a = fits.number e in omega arith;
   leaves = fits.leaves;
   short = fits.short;
   says = fits.says;
   set = fits.set;
 }
+
+-- a number more may be given out
+later-fits : (p : LocalNode) (a b : ℕ) (g : Leg) → a ≤ b → LegFits p a g → LegFits p b g
+later-fits p a b g le fits =
+    altered-fits p a b g g.phase g.in_label g.out_label g.back_out le fits fits.in_label fits.out_label fits.bare
 
 -- a leg more, where there is room
 pub legs-more : (p : LocalNode) (a b : ℕ) (g : Leg) (legs : List Leg) → a ≤ b → LegsFit p a legs →
@@ -129,23 +137,11 @@ closed-phase Falling Back = refl
 closed-phase _ Work = refl
 
 pub closed-fits : (p : LocalNode) (next : ℕ) (g : Leg) → LegFits p next g → LegFits p next (closed g)
-closed-fits p next g fits = record {
-  prev = fits.prev;
-  in_fibre = fits.in_fibre;
-  next_node = fits.next_node;
-  out_fibre = fits.out_fibre;
-  upstream = fits.upstream;
-  downstream = fits.downstream;
-  role = fits.role;
-  in_label = λ beyond. let torn = closed-phase g.phase g.role in absurd (cc (beyond, torn));
-  out_label = λ beyond. let torn = closed-phase g.phase g.role in absurd (cc (beyond, torn));
-  bare = λ e. refl;
-  number = fits.number;
-  leaves = fits.leaves;
-  short = fits.short;
-  says = fits.says;
-  set = fits.set;
-}
+closed-fits p next g fits =
+    altered-fits p next next g (closing_phase g.phase g.role) None g.out_label None (omega arith) fits
+    (λ beyond. let torn = closed-phase g.phase g.role in absurd (cc (beyond, torn)))
+    (λ beyond. let torn = closed-phase g.phase g.role in absurd (cc (beyond, torn)))
+    (λ e. refl)
 
 -- a leg that gets its label is beyond Asked
 pub reserved-beyond : (r : Role) → is_beyond_asked (reserved r) ≡ true
@@ -155,44 +151,16 @@ reserved-beyond Back = refl
 -- the label in as it should be, and a fibre out
 pub connected-fits : (p : LocalNode) (next : ℕ) (g : Leg) (label : Option ℕ) (x : ℕ) → LegFits p next g →
     is_some label ≡ is_some g.in_fibre → is_some g.out_fibre ≡ true → LegFits p next (connected g label x)
-connected-fits p next g label x fits labelled out = record {
-  prev = fits.prev;
-  in_fibre = fits.in_fibre;
-  next_node = fits.next_node;
-  out_fibre = fits.out_fibre;
-  upstream = fits.upstream;
-  downstream = fits.downstream;
-  role = fits.role;
-  in_label = λ beyond. labelled;
-  out_label = λ beyond. sym out;
-  bare = λ e. absurd (let beyond = reserved-beyond g.role in cc (beyond, e));
-  number = fits.number;
-  leaves = fits.leaves;
-  short = fits.short;
-  says = fits.says;
-  set = fits.set;
-}
+connected-fits p next g label x fits labelled out =
+    altered-fits p next next g (reserved g.role) label (Some x) g.back_out (omega arith) fits (λ beyond. labelled)
+    (λ beyond. sym out) (λ e. absurd (let beyond = reserved-beyond g.role in cc (beyond, e)))
 
 -- another phase, where the leg has its labels
 pub phase-fits : (p : LocalNode) (next : ℕ) (f : Phase) (g : Leg) → LegFits p next g →
     is_beyond_asked g.phase ≡ true → is_beyond_asked f ≡ true → LegFits p next (with_phase f g)
-phase-fits p next f g fits beyond later = record {
-  prev = fits.prev;
-  in_fibre = fits.in_fibre;
-  next_node = fits.next_node;
-  out_fibre = fits.out_fibre;
-  upstream = fits.upstream;
-  downstream = fits.downstream;
-  role = fits.role;
-  in_label = λ e. fits.in_label beyond;
-  out_label = λ e. fits.out_label beyond;
-  bare = λ e. absurd (cc (later, e));
-  number = fits.number;
-  leaves = fits.leaves;
-  short = fits.short;
-  says = fits.says;
-  set = fits.set;
-}
+phase-fits p next f g fits beyond later =
+    altered-fits p next next g f g.in_label g.out_label g.back_out (omega arith) fits (λ e. fits.in_label beyond)
+    (λ e. fits.out_label beyond) (λ e. absurd (cc (later, e)))
 
 pub held-beyond : (f : Phase) → is_held f ≡ true → is_beyond_asked f ≡ true
 held-beyond Held e = refl
