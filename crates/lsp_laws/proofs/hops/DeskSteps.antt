@@ -4,7 +4,7 @@ use Rattle.ason_base.specs.Network.{Network}
 use Rattle.ason_base.specs.declared.ids.Lsp.{Lsp}
 use Rattle.ason_base.specs.declared.ids.NodeId.{NodeId}
 use Rattle.ason_base.specs.declared.commands.Command.{Command}
-use Rattle.ason_base.specs.declared.commands.Command.TheVariants.{Setup, Release, Protect, Retry, Revert, Fail, Repair}
+use Rattle.ason_base.specs.declared.commands.Command.TheVariants.{Setup}
 use Rattle.mesh_rules.specs.Changes.{Answer}
 use Rattle.mesh_rules.specs.Machine.{Mesh, commit, without_item}
 use Rattle.mesh_rules.specs.Events.{posted}
@@ -17,27 +17,7 @@ posted_same t s (Setup k from to protected both via backup) l = record {
   still = record { legs = λ n. refl; mail = λ a b. refl; next = omega arith };
   notices = λ a b. refl;
 }
-posted_same t s (Release k from) l = record {
-  still = record { legs = λ n. refl; mail = λ a b. refl; next = omega arith };
-  notices = λ a b. refl;
-}
-posted_same t s (Protect k from) l = record {
-  still = record { legs = λ n. refl; mail = λ a b. refl; next = omega arith };
-  notices = λ a b. refl;
-}
-posted_same t s (Retry k from) l = record {
-  still = record { legs = λ n. refl; mail = λ a b. refl; next = omega arith };
-  notices = λ a b. refl;
-}
-posted_same t s (Revert k from) l = record {
-  still = record { legs = λ n. refl; mail = λ a b. refl; next = omega arith };
-  notices = λ a b. refl;
-}
-posted_same t s (Fail g) l = record {
-  still = record { legs = λ n. refl; mail = λ a b. refl; next = omega arith };
-  notices = λ a b. refl;
-}
-posted_same t s (Repair g) l = record {
+posted_same t s _ l = record {
   still = record { legs = λ n. refl; mail = λ a b. refl; next = omega arith };
   notices = λ a b. refl;
 }

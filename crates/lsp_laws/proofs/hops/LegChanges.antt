@@ -57,8 +57,13 @@ module _ (t : Network) (q : Purpose) (l : Lsp) (p : Plan) where
       go (Guards w r) Closing = Closes
       go (Guards w r) Falling = Closes
 
-  pub closed_fits : (i : ℕ) (g : Leg) → LegFits t q l p i g → i < hops p → LegFits t q l p i (closed g)
-  closed_fits i g fits small = record {
+  -- a leg whose phase and labels alone are others fits its place where these do
+  altered_fits : (i : ℕ) (g : Leg) (f : Phase) (in_label out_label back_out : Option ℕ) → LegFits t q l p i g →
+      WasSent g.sent out_label → PhaseFits q f i (hops p) in_label out_label →
+      KeepsLabels (local_node t (node_at p i))
+      (record g { phase = f; in_label = in_label; out_label = out_label; back_out = back_out }) →
+      LegFits t q l p i (record g { phase = f; in_label = in_label; out_label = out_label; back_out = back_out })
+  altered_fits i g f in_label out_label back_out fits sent phase labels = record {
     own = fits.own;
     egress = fits.egress;
     role = fits.role;
@@ -69,11 +74,17 @@ module _ (t : Network) (q : Purpose) (l : Lsp) (p : Plan) where
     next = fits.next;
     out_fibre = fits.out_fibre;
     route = fits.route;
-    sent = fits.sent;
-    phase = rw fits.role (go q g.phase fits.phase);
-    labels = no_label_in (local_node t (node_at p i)) (closed g) refl (λ keeps. no_back_out (closed g) refl)
-        fits.labels.back_of_link;
+    sent = sent;
+    phase = phase;
+    labels = labels;
   }
+
+  pub closed_fits : (i : ℕ) (g : Leg) → LegFits t q l p i g → i < hops p → LegFits t q l p i (closed g)
+  closed_fits i g fits small =
+      altered_fits i g (closing_phase g.phase g.role) None g.out_label None fits fits.sent
+      (rw fits.role (go q g.phase fits.phase))
+      (no_label_in (local_node t (node_at p i)) (closed g) refl (λ keeps. no_back_out (closed g) refl)
+      fits.labels.back_of_link)
     where
       go : (q : Purpose) (f : Phase) → PhaseFits q f i (hops p) g.in_label g.out_label →
           PhaseFits q (closing_phase f (role_of q)) i (hops p) None g.out_label
@@ -110,21 +121,9 @@ module _ (t : Network) (q : Purpose) (l : Lsp) (p : Plan) where
   pub connected_fits : (i : ℕ) (g : Leg) (label : Option ℕ) (x : ℕ) → LegFits t q l p i g → HasIn i label →
       has g.sent x ≡ true → KeepsLabels (local_node t (node_at p i)) (connected g label x) →
       LegFits t q l p i (connected g label x)
-  connected_fits i g label x fits enters sent labels = record {
-    own = fits.own;
-    egress = fits.egress;
-    role = fits.role;
-    tells = fits.tells;
-    risks = fits.risks;
-    prev = fits.prev;
-    in_fibre = fits.in_fibre;
-    next = fits.next;
-    out_fibre = fits.out_fibre;
-    route = fits.route;
-    sent = sent;
-    phase = rw fits.role (reserved_fits q i (hops p) label (Some x) enters (λ small. (x, refl)));
-    labels = labels;
-  }
+  connected_fits i g label x fits enters sent labels =
+      altered_fits i g (reserved g.role) label (Some x) g.back_out fits sent
+      (rw fits.role (reserved_fits q i (hops p) label (Some x) enters (λ small. (x, refl)))) labels
 
   -- it has its label
   pub connected_kind : (i : ℕ) (g : Leg) (label : Option ℕ) (x : ℕ) → LegFits t q l p i g →
@@ -134,26 +133,13 @@ module _ (t : Network) (q : Purpose) (l : Lsp) (p : Plan) where
   -- a leg that changes its phase alone
   pub phase_fits : (i : ℕ) (g : Leg) (f : Phase) → LegFits t q l p i g →
       PhaseFits q f i (hops p) g.in_label g.out_label → LegFits t q l p i (with_phase f g)
-  phase_fits i g f fits phase = record {
-    own = fits.own;
-    egress = fits.egress;
-    role = fits.role;
-    tells = fits.tells;
-    risks = fits.risks;
-    prev = fits.prev;
-    in_fibre = fits.in_fibre;
-    next = fits.next;
-    out_fibre = fits.out_fibre;
-    route = fits.route;
-    sent = fits.sent;
-    phase = phase;
-    labels = record {
-      one = fits.labels.one;
-      of_link = fits.labels.of_link;
-      one_back = fits.labels.one_back;
-      back_of_link = fits.labels.back_of_link;
-    };
-  }
+  phase_fits i g f fits phase =
+      altered_fits i g f g.in_label g.out_label g.back_out fits fits.sent phase (record {
+        one = fits.labels.one;
+        of_link = fits.labels.of_link;
+        one_back = fits.labels.one_back;
+        back_of_link = fits.labels.back_of_link;
+      })
 
   out_label : (i : ℕ) (g : Leg) → LegFits t q l p i g → (x : ℕ) × (g.out_label ≡ Some x) →
       (x : ℕ) × (g.out_label ≡ Some x) × (has g.sent x ≡ true)

@@ -1,6 +1,6 @@
 -- A torn leg may stand in the place of the leg that it was: it takes and sends no more, and is marked only where that
 -- was.
-use Rattle.std.proofs.Common.{◌≡◌, ℕ, true, not, List, refl, inl, inr}
+use Rattle.std.proofs.Common.{◌≡◌, ℕ, true, not, List, refl, arith, inl, inr}
 use Rattle.std.specs.Prelude.{◌&&◌, ◌||◌, Some, None, IsTrue, is_some}
 use Rattle.ason_base.specs.declared.ids.Fibre.{Fibre}
 use Rattle.ason_base.specs.declared.calls.Phase.{Phase}
@@ -12,7 +12,7 @@ use Rattle.mesh_rules.specs.Legs.{closed, closing_phase, find_leg, is_armed, is_
 use Rattle.mesh_nodes.proofs.LabelPlaces.{either, none-at, or-first, or-second}
 use Rattle.lsp_laws.proofs.nodes.BackLabels.{back-closed}
 use Rattle.lsp_laws.proofs.nodes.Facts.{FitsPhase, LegFacts}
-use Rattle.lsp_laws.proofs.nodes.LegParts.{LegPart, MayStand}
+use Rattle.lsp_laws.proofs.nodes.LegParts.{altered-facts, LegPart, MayStand}
 use Rattle.lsp_laws.proofs.nodes.Marks.{may-keep}
 
 phase_closed : (f : Phase) (r : Role) (g : Leg) → IsTrue (is_some g.next) → FitsPhase (closing_phase f r) (closed g)
@@ -36,20 +36,10 @@ closed-idle Closing r e = cc e
 closed-idle Falling r e = cc e
 
 closed-facts : (n next : ℕ) (g : Leg) → IsTrue (is_some g.next) → LegFacts n next g → LegFacts n next (closed g)
-closed-facts n next g goes_on facts = record {
-  prev = facts.prev;
-  in_fibre = facts.in_fibre;
-  next_node = facts.next_node;
-  out_fibre = facts.out_fibre;
-  one_end = facts.one_end;
-  number = facts.number;
-  role = facts.role;
-  held = λ e. absurd (closed-idle g.phase g.role e);
-  phase = phase_closed g.phase g.role g goes_on;
-  offered = tt;
-  sent = facts.sent;
-  back = back-closed g facts.back;
-}
+closed-facts n next g goes_on facts =
+    altered-facts n next next g (closing_phase g.phase g.role) None g.out_label None (omega arith) facts
+    (λ e. absurd (closed-idle g.phase g.role e)) (phase_closed g.phase g.role g goes_on) tt facts.sent
+    (back-closed g facts.back)
 
 -- it takes and sends no more, and is marked only where it was
 closed-takes : (g : Leg) (f : Fibre) (x : ℕ) → takes f x (closed g) ≡ true → takes f x g ≡ true

@@ -1,5 +1,5 @@
 -- An Asked leg whose Resv comes may stand with its label: that is usable for it, and its back label in stays.
-use Rattle.std.proofs.Common.{◌≡◌, ℕ, true, List, refl, sym, ap, subst, ◌∙◌, inl, inr}
+use Rattle.std.proofs.Common.{◌≡◌, ℕ, true, List, refl, sym, ap, subst, ◌∙◌, arith, inl, inr}
 use Rattle.std.specs.Prelude.{Option, Some, None, IsTrue, IfSome, is_some}
 use Rattle.ason_base.specs.Labels.{has, meet}
 use Rattle.ason_base.specs.declared.ids.Fibre.{Fibre}
@@ -8,12 +8,12 @@ use Rattle.ason_base.specs.declared.calls.Phase.TheVariants.{Asked}
 use Rattle.ason_base.specs.declared.tables.Leg.{Leg}
 use Rattle.mesh_rules.specs.declared.neighbours.Neighbour.{Neighbour}
 use Rattle.mesh_rules.specs.LocalNodes.{LocalNode}
-use Rattle.mesh_rules.specs.Legs.{connected, find_leg, is_at, is_closing, is_usable, neighbour_over, reverse_of, takes, usable, with_leg}
+use Rattle.mesh_rules.specs.Legs.{connected, find_leg, is_at, is_closing, is_usable, neighbour_over, reserved, reverse_of, takes, usable, with_leg}
 use Rattle.mesh_nodes.proofs.LabelPlaces.{at-is, back_in-taken, either, none-at}
 use Rattle.mesh_nodes.proofs.ChosenLabels.{has-left, has-right, usable-is}
 use Rattle.lsp_laws.proofs.nodes.BackLabels.{back-kept, reserved-stands}
 use Rattle.lsp_laws.proofs.nodes.Facts.{LegFacts}
-use Rattle.lsp_laws.proofs.nodes.LegParts.{LegPart, MayStand, found-after}
+use Rattle.lsp_laws.proofs.nodes.LegParts.{altered-facts, LegPart, MayStand, found-after}
 use Rattle.lsp_laws.proofs.nodes.Marks.{may-take}
 use Rattle.lsp_laws.proofs.nodes.NewLegs.{phase_reserved, reserved-back, reserved-plain, some}
 use Rattle.lsp_laws.proofs.nodes.Sharing.{TakeNoMore, Took, take-same}
@@ -45,21 +45,11 @@ pub connected-facts : (n next : ℕ) (g : Leg) (label : Option ℕ) (x : ℕ) �
     is_some label ≡ is_some g.in_fibre → is_some g.next ≡ true → IfSome label (λ y. IsTrue (has g.offered y)) →
     has g.sent x ≡ true →
     LegFacts n next (connected g label x)
-connected-facts n next g label x facts asked fits goes_on offered sent = record {
-  prev = facts.prev;
-  in_fibre = facts.in_fibre;
-  next_node = facts.next_node;
-  out_fibre = facts.out_fibre;
-  one_end = facts.one_end;
-  number = facts.number;
-  role = facts.role;
-  held = reserved-back g.role;
-  phase = phase_reserved g.role (connected g label x) (fits, sym (facts.out_fibre ∙ goes_on));
-  offered = offered;
-  sent = sent;
-  back = back-kept g (connected g label x) refl refl refl refl
-      (ap is_closing asked ∙ sym (reserved-stands g.role)) facts.back;
-}
+connected-facts n next g label x facts asked fits goes_on offered sent =
+    altered-facts n next next g (reserved g.role) label (Some x) g.back_out (omega arith) facts (reserved-back g.role)
+    (phase_reserved g.role (connected g label x) (fits, sym (facts.out_fibre ∙ goes_on))) offered sent
+    (back-kept g (connected g label x) refl refl refl refl (ap is_closing asked ∙ sym (reserved-stands g.role))
+    facts.back)
 
 -- an Asked leg that stands, with a label in that is usable for it, or with none at the ingress
 module _ (p : LocalNode) (next : ℕ) (legs : List Leg) (part : LegPart p.id.0 next legs) (g : Leg)

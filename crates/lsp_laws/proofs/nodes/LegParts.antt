@@ -1,13 +1,16 @@
 -- The legs of a node after one of them comes, changes or goes.
 use Rattle.std.proofs.Common.{◌≡◌, ◌≤◌, ◌<◌, ℕ, Bool, true, false, cond, List, refl, sym, subst, ◌∙◌, arith, inl, inr}
-use Rattle.std.specs.Prelude.{◌⊎◌, Some, None}
+use Rattle.std.specs.Prelude.{◌⊎◌, ◌||◌, Option, Some, None, IfSome, IsTrue}
+use Rattle.ason_base.specs.Labels.{has}
+use Rattle.ason_base.specs.declared.calls.Phase.{Phase}
+use Rattle.ason_base.specs.declared.calls.Role.TheVariants.{Back}
 use Rattle.ason_base.specs.declared.ids.Fibre.{Fibre}
 use Rattle.ason_base.specs.declared.ids.Lsp.{Lsp}
 use Rattle.ason_base.specs.declared.tables.Leg.{Leg}
 use Rattle.ason_base.specs.Lsps.{same_lsp}
-use Rattle.mesh_rules.specs.Legs.{find_leg, with_leg, without_leg, sends, takes, uses, is_marked}
-use Rattle.lsp_laws.specs.LabelLaw.{MayShare}
-use Rattle.lsp_laws.proofs.nodes.Facts.{LabelsFit, LegFacts, NoTwoMarked}
+use Rattle.mesh_rules.specs.Legs.{find_leg, is_armed, is_held, with_leg, without_leg, sends, takes, uses, is_marked}
+use Rattle.lsp_laws.specs.LabelLaw.{HasBackLabels, MayShare}
+use Rattle.lsp_laws.proofs.nodes.Facts.{FitsPhase, LabelsFit, LegFacts, NoTwoMarked}
 use Rattle.lsp_laws.proofs.nodes.Sharing.{may_share-flip}
 use Rattle.mesh_nodes.specs.Order.{LegsRise}
 use Rattle.mesh_nodes.proofs.LabelPlaces.{is-at, label_in-taken, or-first}
@@ -39,9 +42,14 @@ pub record MayStand (n : ℕ) (next : ℕ) (legs : List Leg) (g : Leg) : Type 0 
   pub alone : (f : Fibre) (x : ℕ) (m : Lsp) (h : Leg) → same_lsp g.lsp m ≡ false → find_leg m legs ≡ Some h →
       uses f x g ≡ true → uses f x h ≡ true → is_marked g ≡ true → is_marked h ≡ true → ⊥
 
--- a number more may be given out
-later-facts : (n a b : ℕ) (g : Leg) → a ≤ b → LegFacts n a g → LegFacts n b g
-later-facts n a b g le facts = record {
+-- A leg whose phase and labels alone are others has its facts where these have, also once more numbers are given out.
+pub altered-facts : (n a b : ℕ) (g : Leg) (f : Phase) (i o back : Option ℕ) → a ≤ b → LegFacts n a g →
+    (IsTrue (is_held f || is_armed f) → g.role ≡ Back) →
+    FitsPhase f (record g { phase = f; in_label = i; out_label = o; back_out = back }) →
+    IfSome i (λ x. IsTrue (has g.offered x)) → IfSome o (λ x. IsTrue (has g.sent x)) →
+    HasBackLabels (record g { phase = f; in_label = i; out_label = o; back_out = back }) →
+    LegFacts n b (record g { phase = f; in_label = i; out_label = o; back_out = back })
+altered-facts n a b g f i o back le facts held phase offered sent labels = record {
   prev = facts.prev;
   in_fibre = facts.in_fibre;
   next_node = facts.next_node;
@@ -49,12 +57,18 @@ later-facts n a b g le facts = record {
   one_end = facts.one_end;
   number = λ e. let small : g.lsp.lsp < a = facts.number e in omega arith;
   role = facts.role;
-  held = facts.held;
-  phase = facts.phase;
-  offered = facts.offered;
-  sent = facts.sent;
-  back = facts.back;
+  held = held;
+  phase = phase;
+  offered = offered;
+  sent = sent;
+  back = labels;
 }
+
+-- a number more may be given out
+later-facts : (n a b : ℕ) (g : Leg) → a ≤ b → LegFacts n a g → LegFacts n b g
+later-facts n a b g le facts =
+    altered-facts n a b g g.phase g.in_label g.out_label g.back_out le facts facts.held facts.phase facts.offered
+    facts.sent facts.back
 
 -- the leg that is found afterwards is the new one, or it was there
 pub found-after : (P : Type 0) (g h : Leg) (legs : List Leg) (m : Lsp) → find_leg m (with_leg g legs) ≡ Some h →

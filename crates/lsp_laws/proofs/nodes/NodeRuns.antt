@@ -23,7 +23,7 @@ use Rattle.mesh_rules.specs.Learnt.{on_link, on_row}
 use Rattle.mesh_rules.specs.LocalNodes.{LocalNode, local_node}
 use Rattle.mesh_rules.specs.State.{NodeState, new_node}
 use Rattle.mesh_rules.specs.Commands.{is_again, is_valid}
-use Rattle.mesh_rules.specs.Machine.{Mesh, commit, start, without_first, without_item}
+use Rattle.mesh_rules.specs.Machine.{Mesh, commit, start, with_item, without_first, without_item}
 use Rattle.mesh_rules.specs.Waits.{on_tick}
 use Rattle.mesh_rules.specs.Events.{IsRun, after, is_enabled, on_first, on_first_item, posted, step}
 use Rattle.ason_base.proofs.Ordered.{contains-none}
@@ -191,6 +191,16 @@ keeps-failed t s groups facts = record {
   learnt = facts.learnt;
 }
 
+-- an order that fits is put on the desk of its node
+keeps-ordered : (t : Network) (s : Mesh) (n : ℕ) (c : Command) → FitsDesk t n (Order c) → MeshFacts t s →
+    MeshFacts t (with_item s n (Order c))
+keeps-ordered t s n c fits facts = record {
+  node = facts.node;
+  desk = more-facts t s n (Order c) fits facts;
+  backed = facts.backed;
+  learnt = facts.learnt;
+}
+
 keeps-posted : (t : Network) (s : Mesh) (c : Command) → is_valid t c ≡ true → MeshFacts t s →
     MeshFacts t (posted t s c)
 keeps-posted t s (Setup n from to protected both via backup) valid facts = record {
@@ -199,30 +209,10 @@ keeps-posted t s (Setup n from to protected both via backup) valid facts = recor
   backed = facts.backed;
   learnt = facts.learnt;
 }
-keeps-posted t s (Release n from) valid facts = record {
-  node = facts.node;
-  desk = more-facts t s from.0 (Order (Release n from)) (valid, refl) facts;
-  backed = facts.backed;
-  learnt = facts.learnt;
-}
-keeps-posted t s (Protect n from) valid facts = record {
-  node = facts.node;
-  desk = more-facts t s from.0 (Order (Protect n from)) (valid, refl) facts;
-  backed = facts.backed;
-  learnt = facts.learnt;
-}
-keeps-posted t s (Retry n from) valid facts = record {
-  node = facts.node;
-  desk = more-facts t s from.0 (Order (Retry n from)) (valid, refl) facts;
-  backed = facts.backed;
-  learnt = facts.learnt;
-}
-keeps-posted t s (Revert n from) valid facts = record {
-  node = facts.node;
-  desk = more-facts t s from.0 (Order (Revert n from)) (valid, refl) facts;
-  backed = facts.backed;
-  learnt = facts.learnt;
-}
+keeps-posted t s (Release n from) valid facts = keeps-ordered t s from.0 (Release n from) (valid, refl) facts
+keeps-posted t s (Protect n from) valid facts = keeps-ordered t s from.0 (Protect n from) (valid, refl) facts
+keeps-posted t s (Retry n from) valid facts = keeps-ordered t s from.0 (Retry n from) (valid, refl) facts
+keeps-posted t s (Revert n from) valid facts = keeps-ordered t s from.0 (Revert n from) (valid, refl) facts
 keeps-posted t s (Fail g) valid facts = keeps-failed t s (with_group g s.failed) facts
 keeps-posted t s (Repair g) valid facts = keeps-failed t s (without_group g s.failed) facts
 

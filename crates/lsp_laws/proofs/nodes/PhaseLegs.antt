@@ -11,7 +11,7 @@ use Rattle.mesh_rules.specs.Legs.{find_leg, is_armed, is_beyond_asked, is_conten
 use Rattle.mesh_nodes.proofs.Cases.{both_right}
 use Rattle.lsp_laws.proofs.nodes.BackLabels.{back-kept, beyond-stands}
 use Rattle.lsp_laws.proofs.nodes.Facts.{FitsPhase, HasItsLabels, LegFacts}
-use Rattle.lsp_laws.proofs.nodes.LegParts.{LegPart, MayStand}
+use Rattle.lsp_laws.proofs.nodes.LegParts.{altered-facts, LegPart, MayStand}
 use Rattle.lsp_laws.proofs.nodes.Marks.{may-arm, may-keep}
 
 -- Phases
@@ -69,21 +69,11 @@ ingress-unlabelled n next g facts begins = go g.phase facts.phase
 
 pub phase-facts : (n next : ℕ) (f : Phase) (g : Leg) → LegFacts n next g → is_beyond_asked g.phase ≡ true →
     is_beyond_asked f ≡ true → g.role ≡ Back → LegFacts n next (with_phase f g)
-phase-facts n next f g facts beyond later back = record {
-  prev = facts.prev;
-  in_fibre = facts.in_fibre;
-  next_node = facts.next_node;
-  out_fibre = facts.out_fibre;
-  one_end = facts.one_end;
-  number = facts.number;
-  role = facts.role;
-  held = λ e. back;
-  phase = fits-phase f (with_phase f g) (labels-of g.phase g facts.phase beyond) later;
-  offered = facts.offered;
-  sent = facts.sent;
-  back = back-kept g (with_phase f g) refl refl refl refl
-      (beyond-stands g.phase beyond ∙ sym (beyond-stands f later)) facts.back;
-}
+phase-facts n next f g facts beyond later back =
+    altered-facts n next next g f g.in_label g.out_label g.back_out (omega arith) facts (λ e. back)
+    (fits-phase f (with_phase f g) (labels-of g.phase g facts.phase beyond) later) facts.offered facts.sent
+    (back-kept g (with_phase f g) refl refl refl refl (beyond-stands g.phase beyond ∙ sym (beyond-stands f later))
+    facts.back)
 
 module _ (n next : ℕ) (legs : List Leg) (f : Phase) (g : Leg) (part : LegPart n next legs)
     (found : find_leg g.lsp legs ≡ Some g) (beyond : is_beyond_asked g.phase ≡ true)
