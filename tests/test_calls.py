@@ -33,6 +33,12 @@ link = [
 ]
 """
 
+# Three nodes in a row.
+ROW = """
+node = [{ name = "a", id = 1 }, { name = "b", id = 2 }, { name = "c", id = 3 }]
+link = [{ id = 1, ends = ["a", "b"], labels = 2 }, { id = 2, ends = ["b", "c"], labels = 2 }]
+"""
+
 # The backups of calls from a and from b share wavelength 1 from c to d.
 SHARED = """
 node = [{ name = "a", id = 1 }, { name = "b", id = 2 }, { name = "c", id = 3 }, { name = "d", id = 4 }]
@@ -43,6 +49,34 @@ link = [
     { id = 4, ends = ["b", "c"], labels = 2 },
     { id = 5, ends = ["c", "d"], labels = 2 },
 ]
+"""
+
+# Two nodes without a link.
+APART = 'node = [{ name = "a", id = 1 }, { name = "b", id = 2 }]'
+
+# From a to b 26 links for working routes and one for backups, and a link from another node to b.
+BROAD = f"""
+node = [{{ name = "a", id = 1 }}, {{ name = "b", id = 2 }}, {{ name = "c", id = 3 }}]
+link = [
+    {"".join(f'{{ id = {link}, ends = ["a", "b"], labels = 80 }}, ' for link in range(1, 28))}
+    {{ id = 28, ends = ["b", "c"], labels = 80 }},
+]
+"""
+
+GUARDED = """\
+calls 1 legs 4
+call c1 a b guarded a.1.1 a.1.2 -
+leg a.1.1 a work live - 1/1
+leg a.1.1 b work live 1/1 -
+leg a.1.2 a back held - 2/1
+leg a.1.2 b back held 2/1 -
+"""
+
+# The egress has answered, and the ingress hasn't taken that yet.
+BOTH_CLOSING = """\
+calls 0 legs 2
+leg a.1.1 a work closing - 1/1
+leg a.1.2 a back closing - 2/1
 """
 
 # A round and a table, some times.
@@ -70,6 +104,11 @@ def changes(found: list[str]) -> list[str]:
     return [state for state, _ in groupby(found)]
 
 
+def closing(first: str, second: str) -> str:
+    """A table with the torn legs of the first two nodes of a row, which go out so, and the empty one at the end."""
+    return f"calls 0 legs 2\nleg a.1.1 a work closing - {first}\nleg a.1.1 b work closing 1/- {second}\ncalls 0 legs 0\n"
+
+
 def legs(text: str, lsp: str, node: str) -> list[str]:
     """The phases of the LSP's leg at the node in the tables."""
     return re.findall(rf"^leg {lsp} {node} \S+ (\S+)", text, re.MULTILINE)
@@ -92,6 +131,30 @@ class IngressTest(unittest.TestCase):
             self.assertEqual(states(PAIR, script, call), [state])
         self.assertIn("calls 3 legs 4\n", told(PAIR, script))
 
+    def test_no_route_leads_there(self) -> None:
+        self.assertEqual(states(APART, ["setup c1 a b unprotected"]), ["blocked noroute"])
+        self.assertEqual(states(ROW, ["setup c1 a b"]), ["bare nobackup"])
+
+    # The failure stands on b's desk when the Path comes.
+    def test_a_setup_over_a_cut_fibre_is_blocked(self) -> None:
+        self.assertEqual(states(PAIR, ["setup c1 a b unprotected via 1", "fail link 1"]), ["blocked down"])
+
+    def test_a_call_that_has_a_backup_is_not_protected_again(self) -> None:
+        script = ["setup c1 a b via 1 backup 2", "wait 2", "show", "protect c1", REST, "show", "protect c1", REST]
+        self.assertEqual(states(PAIR, script), ["pairing", "guarded", "guarded"])
+        self.assertTrue(told(PAIR, script).endswith(GUARDED))
+
+    # Both labels of link 2 are taken, and one of them is given up.
+    def test_a_refused_backup_is_asked_for_again(self) -> None:
+        script = ["setup c2 a b unprotected via 2", "setup c3 a b unprotected via 2", REST, "setup c1 a b via 1 backup 2"]
+        text = told(PAIR, [*script, REST, "show", "release c2", REST, "protect c1"])
+        lines = re.findall(r"^call c1 .*$", text, re.MULTILINE)
+        self.assertEqual(lines, ["call c1 a b bare a.3.3 - set", "call c1 a b guarded a.3.3 a.3.5 -"])
+
+    def test_both_lsps_of_a_released_call_are_torn(self) -> None:
+        text = told(PAIR, ["setup c1 a b via 1 backup 2", REST, "release c1", "wait 1", "show"])
+        self.assertEqual(text, BOTH_CLOSING + "calls 0 legs 0\n")
+
     def test_a_hit_call_turns_to_its_backup(self) -> None:
         script = ["setup c1 a b via 1 backup 2", REST, "fail link 1", *ROUNDS]
         self.assertEqual(changes(states(PAIR, script)), ["guarded", "turning", "turned"])
@@ -105,6 +168,34 @@ class IngressTest(unittest.TestCase):
     def test_a_hit_backup_is_not_turned_to(self) -> None:
         script = ["setup c1 a z via 1 backup 2,3,4,5", REST, "fail link 4", REST, "fail link 1", REST]
         self.assertEqual(states(RING, script), ["stuck backdown"])
+
+
+class TornTest(unittest.TestCase):
+    """Legs between the ends of a call that is released."""
+
+    def test_a_torn_leg_stands_until_the_next_node_has_let_go(self) -> None:
+        text = told(ROW, ["setup c1 a c unprotected", REST, "release c1", "wait 1", "show"])
+        self.assertEqual(text, closing("1/1", "2/1"))
+
+    # No label is known yet.
+    def test_a_leg_is_torn_while_it_waits(self) -> None:
+        text = told(ROW, ["setup c1 a c unprotected", "release c1", "wait 1", "show"])
+        self.assertEqual(text, closing("1/-", "2/-"))
+
+
+class FullTest(unittest.TestCase):
+    """Nodes with 4,096 legs."""
+
+    # Of the calls over one link each backup has a label of its own; calls over different links share it.
+    def test_a_full_node_takes_no_leg_more(self) -> None:
+        setups = [f"setup q{call} a b via {1 + call // 80} backup 27" for call in range(2047)]
+        setups += ["setup last-but-one a b unprotected via 26", "setup last a b via 26 backup 27"]
+        script = [line for place in range(0, len(setups), 32) for line in (*setups[place : place + 32], REST)]
+        text = told(BROAD, [*script, "setup own a b unprotected via 26", "setup other c b unprotected", REST])
+        self.assertTrue(text.startswith("calls 2051 legs 8192\n"))
+        found = re.findall(r"^call (\S+) \S+ b (\S+) \S+ \S+ (\S+)$", text, re.MULTILINE)
+        ends = [("last-but-one", "bare", "-"), ("last", "bare", "full"), ("own", "blocked", "full"), ("other", "blocked", "full")]
+        self.assertEqual(found, [(f"q{call}", "guarded", "-") for call in range(2047)] + ends)
 
 
 class RestoredTest(unittest.TestCase):

@@ -77,6 +77,16 @@ class TraceTest(unittest.TestCase):
                 frames = [taken[number] for number in range(1, max(taken) + 1)]
                 self.assertEqual(sorted(frames), sorted([times] + [1] * (len(frames) - 1)))
 
+    def test_each_end_of_a_link_is_told_once(self) -> None:
+        """It fails twice and is repaired. Each end handles its items at its next turn, behind the tick, and rests after that."""
+        script = ["fail link 1", "fail link 1", "wait 1", "repair link 1", "wait 1", "wait 1", "fail link 1", "repair link 1"]
+        lines = self.lines(ason_told("run", "--trace", given=replace(PAIR, script=script).text()).out)
+        behind = [line.split(" ")[1:] for line in lines[[" post " in line for line in lines].index(True) :]]
+        for node in "ab":
+            with self.subTest(node=node):
+                told = [kind for who, kind, *_ in behind if who == node and kind != "deliver"]
+                self.assertEqual(told, ["tick", "desk", "tick", "desk", "tick", "tick", "desk", "desk"])
+
     def test_posts_and_noise(self) -> None:
         lines = [line.split(" ", 1)[1] for line in self.lines(ason_told("run", "--trace", given=triangle(DISTURBED)).out)]
         self.assertEqual([line for line in lines if " noise " in line], ["b noise a 00"])
