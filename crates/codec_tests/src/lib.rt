@@ -10,10 +10,6 @@ mod floods;
 #[cfg(test)]
 mod hops;
 #[cfg(test)]
-mod link_tlvs;
-#[cfg(test)]
 mod messages;
 #[cfg(test)]
 mod objects;
-#[cfg(test)]
-mod recovery;
