@@ -3,11 +3,9 @@
 ghost use Rattle.std.specs.Prelude.{IfOk};
 ghost use Rattle.leg_table.specs.Fits.{TablesFit};
 
+use crate::networks::{A, B, C, row};
 use ason_base::codes::TORN;
-use ason_base::{
-    Label, LabelSet, LinkId, LinkSpec, Lsp, Msg, NodeId, NodeSpec, Numbers, PathRole, Step, Steps,
-    Topology,
-};
+use ason_base::{Label, LabelSet, LinkId, Lsp, Msg, PathRole, Step, Steps, Topology};
 use leg_table::NodeTables;
 use leg_table::laws::at_start;
 use link_owner::Owner;
@@ -17,32 +15,11 @@ use share_check::Shares;
 use std::alloc::Global;
 use std::test::Fail;
 
-const A: NodeId = NodeId(1);
-
-const B: NodeId = NodeId(2);
-
-const C: NodeId = NodeId(3);
-
 const LSP: Lsp = Lsp {
     ingress: A,
     tunnel: 1,
     lsp: 1,
 };
-
-fn line(alloc: Global) -> Result<Topology, Fail> {
-    let node = |id: NodeId| NodeSpec { id, convert: true };
-    let link = |id: u32, low: NodeId, high: NodeId| LinkSpec {
-        id: LinkId(id),
-        low,
-        high,
-        labels: 1,
-        metric: 1,
-        srlgs: Numbers::new(alloc),
-    };
-    let nodes = [node(A), node(B), node(C)];
-    let links = [link(1, A, B), link(2, B, C)];
-    Ok(Topology::new(alloc, 0, &nodes, &links)?)
-}
 
 fn path_of(alloc: Global) -> Result<Msg, Fail> {
     let mut route = Steps::new(alloc);
@@ -175,7 +152,7 @@ fn is_handled(
 }
 
 fn holds(alloc: Global) -> Result<bool, Fail> {
-    let t = line(alloc)?;
+    let t = row(alloc)?;
     let (mut tables, mut owner, mut shares) = parts_of(alloc, &t)?;
     is_handled(alloc, &mut tables, &mut owner, &mut shares)
 }

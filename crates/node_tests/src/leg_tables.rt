@@ -2,9 +2,10 @@
 
 ghost use Rattle.std.specs.Prelude.{◌≡◌, [], IfOk};
 
+use crate::networks::{A, B, C, row};
 use ason_base::{
-    CallNo, CallRec, CallState, Cause, Fibre, Fibres, LabelSet, Leg, LinkId, LinkSpec, Lsp, NodeId,
-    NodeSpec, Numbers, PathRole, Phase, RiskSet, Role, Srlgs, Steps, TeRow, Topology,
+    CallNo, CallRec, CallState, Cause, Fibre, Fibres, LabelSet, Leg, LinkId, Lsp, PathRole, Phase,
+    RiskSet, Role, Srlgs, Steps, TeRow,
 };
 use leg_table::{Calls, NodeTables};
 use std::alloc::Global;
@@ -18,11 +19,11 @@ const FIBRE: Fibre = Fibre {
 fn a_leg(alloc: Global) -> Leg {
     Leg {
         lsp: Lsp {
-            ingress: NodeId(1),
+            ingress: A,
             tunnel: 1,
             lsp: 1,
         },
-        egress: NodeId(2),
+        egress: B,
         role: Role::Work,
         prev: None,
         next: None,
@@ -44,32 +45,20 @@ fn a_leg(alloc: Global) -> Leg {
 // Of a link that the node doesn't know.
 fn a_row(alloc: Global) -> TeRow {
     TeRow {
-        link: LinkId(2),
-        low: NodeId(1),
-        high: NodeId(2),
+        link: LinkId(9),
+        low: A,
+        high: C,
         metric: 1,
         srlgs: Srlgs::new(alloc),
     }
 }
 
-// Of node 2 of two nodes with a link between them.
+// Of the node between.
 fn new_tables(alloc: Global) -> Result<NodeTables, Fail>
     ensures { IfOk result (λ t. t.legs ≡ []) }
 {
-    let node = |id: u32| NodeSpec {
-        id: NodeId(id),
-        convert: true,
-    };
-    let link = LinkSpec {
-        id: LinkId(1),
-        low: NodeId(1),
-        high: NodeId(2),
-        labels: 80,
-        metric: 1,
-        srlgs: Numbers::new(alloc),
-    };
-    let t = Topology::new(alloc, 0, &[node(1), node(2)], &[link])?;
-    Ok(NodeTables::new(alloc, &t, NodeId(2))?)
+    let t = row(alloc)?;
+    Ok(NodeTables::new(alloc, &t, B)?)
 }
 
 fn tables_take(alloc: Global) -> Result<bool, Fail> {
@@ -78,7 +67,7 @@ fn tables_take(alloc: Global) -> Result<bool, Fail> {
         tables.put(alloc, a_leg(alloc)).is_ok()
             && tables.learn(alloc, a_row(alloc)).is_ok()
             && tables.set_down(alloc, FIBRE).is_ok()
-            && tables.rows().len() == 2,
+            && tables.rows().len() == 4,
     )
 }
 
@@ -89,7 +78,7 @@ fn a_call(alloc: Global) -> CallRec
 {
     CallRec {
         call: CALL,
-        egress: NodeId(2),
+        egress: B,
         protected: true,
         backup: None,
         state: CallState::Asking,

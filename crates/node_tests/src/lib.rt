@@ -8,6 +8,8 @@ mod leg_tables;
 #[cfg(test)]
 mod meshes;
 #[cfg(test)]
+mod networks;
+#[cfg(test)]
 mod nodes;
 #[cfg(test)]
 mod routes;

@@ -1,8 +1,5 @@
-//! A node over inputs that are given to it by hand.
+//! A node over inputs that are given to it by hand, most of which no run of a mesh comes to.
 
 mod cases;
 mod driver;
 mod inputs;
-mod labels;
-mod outs;
-mod protected;

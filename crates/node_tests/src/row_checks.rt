@@ -5,9 +5,8 @@ ghost use Rattle.ason_base.specs.Walks.{HaveDistinctLinks, HaveFewEnds, HaveMetr
 
 use ason_base::ids::NodeId;
 use ason_base::network::TeRow;
-use ason_base::steps::Steps;
 use route_least::{Banned, Found, RouteFault, least};
-use route_pair::{BackupFault, Pair, PairFault, backup_for, pair};
+use route_pair::{Pair, PairFault, pair};
 use std::alloc::Global;
 
 fn has_few_ends(rows: &[TeRow]) -> bool
@@ -57,21 +56,6 @@ pub(crate) fn pair_over(
 ) -> Option<Result<Pair, PairFault>> {
     if has_few_ends(rows) && has_metrics(rows) && has_rising_links(rows) {
         Some(pair(alloc, rows, from, to))
-    } else {
-        None
-    }
-}
-
-/// What `backup_for` answers, if it may be asked.
-pub(crate) fn backup_over(
-    alloc: Global,
-    rows: &[TeRow],
-    primary: &Steps,
-    from: NodeId,
-    to: NodeId,
-) -> Option<Result<Found, BackupFault>> {
-    if has_few_ends(rows) && has_metrics(rows) && has_rising_links(rows) {
-        Some(backup_for(alloc, rows, primary, from, to))
     } else {
         None
     }

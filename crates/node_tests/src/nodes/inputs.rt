@@ -1,18 +1,13 @@
-//! Inputs of the nodes of a line.
+//! Inputs of the nodes of the row.
 
+use crate::networks::{A, B, C};
+use ason_base::codes::SET;
 use ason_base::{
-    CallNo, Command, DeskItem, ErrCode, Fibre, Label, LabelSet, LinkId, Lsp, Msg, NodeId, PathRole,
-    Step, Steps,
+    CallNo, Command, DeskItem, Label, LabelSet, LinkId, Lsp, Msg, NodeId, PathRole, Step, Steps,
 };
 use node_core::Input;
 use std::alloc::Global;
 use std::test::Fail;
-
-pub(super) const A: NodeId = NodeId(1);
-
-pub(super) const B: NodeId = NodeId(2);
-
-pub(super) const C: NodeId = NodeId(3);
 
 /// The way on from b to c.
 pub(super) const ON: &[(u32, u32)] = &[(2, 2)];
@@ -20,40 +15,22 @@ pub(super) const ON: &[(u32, u32)] = &[(2, 2)];
 /// What comes, of the call or the LSP of some number. All LSPs begin at a.
 #[derive(Clone, Copy, Drop)]
 pub(super) enum Said {
-    /// A call is set up from a over b to c.
+    /// A call is set up from a to b, without a given route.
     Setup,
-    /// A call is set up from a to this node, without a given route.
-    SetupTo(NodeId),
-    /// The same, and it is to be protected.
-    ProtectedTo(NodeId),
-    /// A protected call is set up from a to b over this link, with this one for its backup.
-    Guarded(u32, u32),
-    /// The call of this number is to be protected.
-    Protect(u16),
-    Release,
+    /// The first call is to be protected.
+    Protect,
     /// A Path from a over link 1: its egress, its steps, and how many labels it has.
     Path(NodeId, &'static [(u32, u32)], u8),
-    /// A Path of a backup from a over link 1 to b: the route of its primary, how many labels it has,
-    /// and whether it activates.
-    BackupPath(&'static [(u32, u32)], u8, bool),
-    /// A Path of a backup from a over b to c, whose primary goes over link 1: how many labels it has,
-    /// and whether it activates.
-    BackupOn(u8, bool),
+    /// A Path of a backup from a over b to c, whose primary goes over link 1, and whether it activates.
+    Backup(bool),
     /// A Resv from this node over this link with this label.
     Resv(NodeId, u32, u8),
-    /// The same for the backup in the tunnel of the first call.
-    BackupResv(NodeId, u32, u8),
-    /// A PathErr with Path_State_Removed that this node made.
-    PathErr(NodeId, ErrCode),
-    /// The same for the backup in the tunnel of the first call.
-    BackupErr(NodeId, ErrCode),
-    /// A PathErr without Path_State_Removed that this node made.
-    PathErrAlone(NodeId, ErrCode),
+    /// A PathErr that this node made, and whether it has Path_State_Removed.
+    PathErr(NodeId, bool),
+    /// One of b that has it, for the backup in the tunnel of the first call.
+    BackupErr,
     /// A PathTear from a over link 1.
     Tear,
-    /// An alarm of the fibre of link 1 from a to b.
-    Alarm,
-    Tick,
 }
 
 fn steps(alloc: Global, hops: &[(u32, u32)]) -> Result<Steps, Fail> {
@@ -79,33 +56,16 @@ fn order(command: Command) -> Input {
     Input::Desk(DeskItem::Order(command))
 }
 
-fn setup(
-    number: u16,
-    to: NodeId,
-    protected: bool,
-    via: Option<Steps>,
-    backup: Option<Steps>,
-) -> Input {
+fn setup(number: u16) -> Input {
     order(Command::Setup {
         call: CallNo(number),
         from: A,
-        to,
-        protected,
+        to: B,
+        protected: false,
         both: false,
-        via,
-        backup,
+        via: None,
+        backup: None,
     })
-}
-
-fn setup_over_b(alloc: Global, number: u16) -> Result<Input, Fail> {
-    let via = steps(alloc, &[(1, 1), (2, 2)])?;
-    Ok(setup(number, C, false, Some(via), None))
-}
-
-fn guarded(alloc: Global, number: u16, via: u32, backup: u32) -> Result<Input, Fail> {
-    let via = steps(alloc, &[(1, via)])?;
-    let backup = steps(alloc, &[(1, backup)])?;
-    Ok(setup(number, B, true, Some(via), Some(backup)))
 }
 
 fn labels(count: u8) -> LabelSet {
@@ -137,38 +97,24 @@ fn working_path(
     count: u8,
 ) -> Result<Input, Fail> {
     let route = steps(alloc, hops)?;
-    Ok(path(
-        number,
-        egress,
-        route,
-        count,
-        PathRole::Work { guard: false },
-    ))
-}
-
-// The path goes on over these hops, and its primary went over those.
-fn backup_path(
-    alloc: Global,
-    number: u16,
-    hops: &[(u32, u32)],
-    primary: &[(u32, u32)],
-    count: u8,
-    active: bool,
-) -> Result<Input, Fail> {
-    let route = steps(alloc, hops)?;
-    let role = PathRole::Back {
-        active,
-        work: 1,
-        primary: steps(alloc, primary)?,
-    };
-    let egress = if hops.is_empty() { B } else { C };
+    let role = PathRole::Work { guard: false };
     Ok(path(number, egress, route, count, role))
 }
 
-fn resv(lsp: Lsp, from: NodeId, link: u32, label: u8) -> Result<Input, Fail> {
+fn backup_path(alloc: Global, number: u16, active: bool) -> Result<Input, Fail> {
+    let route = steps(alloc, ON)?;
+    let role = PathRole::Back {
+        active,
+        work: 1,
+        primary: steps(alloc, &[(1, 1)])?,
+    };
+    Ok(path(number, C, route, 1, role))
+}
+
+fn resv(number: u16, from: NodeId, link: u32, label: u8) -> Result<Input, Fail> {
     let label = Label::new(label).ok_or("a label")?;
     let msg = Msg::Resv {
-        lsp,
+        lsp: lsp(number, number),
         egress: C,
         link: LinkId(link),
         label,
@@ -176,13 +122,13 @@ fn resv(lsp: Lsp, from: NodeId, link: u32, label: u8) -> Result<Input, Fail> {
     Ok(Input::Message { from, msg })
 }
 
-fn path_err(lsp: Lsp, from: NodeId, removed: bool, code: ErrCode) -> Input {
+fn path_err(lsp: Lsp, from: NodeId, removed: bool) -> Input {
     let msg = Msg::PathErr {
         lsp,
         egress: C,
         at: from,
         removed,
-        code,
+        code: SET,
     };
     Input::Message { from, msg }
 }
@@ -198,36 +144,17 @@ fn tear(number: u16) -> Input {
 
 /// The input.
 pub(super) fn input(alloc: Global, number: u16, said: Said) -> Result<Input, Fail> {
-    let call = CallNo(number);
-    let own = lsp(number, number);
-    let backup = lsp(1, number);
     match said {
-        Said::Setup => setup_over_b(alloc, number),
-        Said::SetupTo(to) => Ok(setup(number, to, false, None, None)),
-        Said::ProtectedTo(to) => Ok(setup(number, to, true, None, None)),
-        Said::Guarded(via, backup) => guarded(alloc, number, via, backup),
-        Said::Protect(call) => Ok(order(Command::Protect {
-            call: CallNo(call),
+        Said::Setup => Ok(setup(number)),
+        Said::Protect => Ok(order(Command::Protect {
+            call: CallNo(1),
             from: A,
         })),
-        Said::Release => Ok(order(Command::Release { call, from: A })),
         Said::Path(egress, hops, count) => working_path(alloc, number, egress, hops, count),
-        Said::BackupPath(primary, count, active) => {
-            backup_path(alloc, number, &[], primary, count, active)
-        }
-        Said::BackupOn(count, active) => {
-            backup_path(alloc, number, ON, &[(1, 1)], count, active)
-        }
-        Said::Resv(from, link, label) => resv(own, from, link, label),
-        Said::BackupResv(from, link, label) => resv(backup, from, link, label),
-        Said::PathErr(from, code) => Ok(path_err(own, from, true, code)),
-        Said::BackupErr(from, code) => Ok(path_err(backup, from, true, code)),
-        Said::PathErrAlone(from, code) => Ok(path_err(own, from, false, code)),
+        Said::Backup(active) => backup_path(alloc, number, active),
+        Said::Resv(from, link, label) => resv(number, from, link, label),
+        Said::PathErr(from, removed) => Ok(path_err(lsp(number, number), from, removed)),
+        Said::BackupErr => Ok(path_err(lsp(1, number), B, true)),
         Said::Tear => Ok(tear(number)),
-        Said::Alarm => Ok(Input::Desk(DeskItem::Alarm(Fibre {
-            link: LinkId(1),
-            forward: true,
-        }))),
-        Said::Tick => Ok(Input::Tick),
     }
 }
