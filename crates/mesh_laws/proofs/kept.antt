@@ -1,4 +1,5 @@
 pub mod Calls
+pub mod Ended
 pub mod Items
 pub mod KeptRuns
 pub mod Messages

@@ -21,13 +21,11 @@ use Rattle.mesh_rules.specs.Quiet.{IsQuiet}
 use Rattle.mesh_rules.proofs.Conjunctions.{and_first}
 use Rattle.mesh_rules.proofs.Topologies.{topology_searchable}
 use Rattle.mesh_nodes.proofs.LegList.{all-then, found-lsp}
-use Rattle.lsp_laws.specs.HopLaw.{LspFits, leg_at}
+use Rattle.lsp_laws.specs.HopLaw.{leg_at}
 use Rattle.lsp_laws.specs.LabelLaw.{MayShare}
 use Rattle.lsp_laws.specs.RiskLaw.{rows_of}
-use Rattle.lsp_laws.proofs.hops.HopLaws.{every_hop, follows}
-use Rattle.lsp_laws.proofs.nodes.Facts.{MeshFacts}
+use Rattle.lsp_laws.proofs.hops.HopLaws.{follows}
 use Rattle.lsp_laws.proofs.nodes.Marks.{other}
-use Rattle.lsp_laws.proofs.nodes.NodeRuns.{facts-hold}
 use Rattle.mesh_laws.specs.AloneLaw.{risk_of}
 use Rattle.mesh_laws.specs.ContendLaw.{Contend, GoesOnWith, NoContend, NoneContend}
 use Rattle.mesh_laws.specs.HeardLaw.{primary_of}
@@ -36,8 +34,7 @@ use Rattle.mesh_laws.proofs.alone.Groups.{FailsOnly, has_one}
 use Rattle.mesh_laws.proofs.alone.Law.{each-knows}
 use Rattle.mesh_laws.proofs.alone.Legs.{Apart}
 use Rattle.mesh_laws.proofs.alone.AloneRuns.{from-calm, run-first}
-use Rattle.mesh_laws.proofs.kept.Phases.{LegsUp}
-use Rattle.mesh_laws.proofs.kept.Places.{legs-are-up}
+use Rattle.mesh_laws.proofs.kept.Ended.{ended}
 use Rattle.mesh_laws.proofs.kept.KeptRuns.{fails-only, stay-apart}
 use Rattle.mesh_laws.proofs.contends.MayTurn.{may-turn}
 use Rattle.mesh_laws.proofs.sent.Run.{sound}
@@ -65,14 +62,7 @@ module _ (t : Network) (events : List MeshEvent) (g h : Group) (valid : IsTopolo
   abbrev o : Routes
   o = route_of t start events
 
-  facts : MeshFacts t s
-  facts = facts-hold t events run
-
-  hops : (l : Lsp) → LspFits t s l (o l)
-  hops = (every_hop t events run).1
-
-  up : (n : ℕ) → LegsUp (s.nodes n).legs
-  up n = legs-are-up t s quiet o hops n (facts.node n).legs_rise
+  open ended t events run quiet use {facts, hops, up}
 
   -- two different backups are of different calls
   differ : (at at' : NodeId) (c d : CallRec) (l m : Lsp) → find_call c.call (s.nodes at.0).calls ≡ Some c →
@@ -209,5 +199,5 @@ no_contend t events valid run g h two none =
     let first = run-first t start before since parted in
     let only = all-then (GoesOnWith both) (FailsOnly both) since (fails-only both) two.only in
     let apart = stay-apart t both before since parted two.only two.quiet
-    (up t before g h valid first two.quiet none) (are-apart t before g h valid first two.quiet none) in
+    (ended t before first two.quiet).up (are-apart t before g h valid first two.quiet none) in
     (from-calm t both distinct (each-knows t valid) before since parted only apart two.calm).none_refused

@@ -1,53 +1,25 @@
 -- A Notify comes to the ingress: what it tells is then reported there.
-use Rattle.std.proofs.Common.{◌≡◌, ◌<◌, ℕ, suc, Bool, cond, List, ◌∷◌, ◌++◌, refl, sym, ap, ◌∙◌, subst, arith, inl, inr}
+use Rattle.std.proofs.Common.{◌≡◌, ◌<◌, ℕ, suc, Bool, cond, ◌++◌, refl, sym, ap, ◌∙◌, subst, arith, inl, inr}
 use Rattle.ason_base.specs.Lsps.{has_fibre, same_fibre}
 use Rattle.ason_base.specs.Network.{Network}
-use Rattle.ason_base.specs.declared.codes.ErrCode.{ErrCode}
-use Rattle.ason_base.specs.declared.ids.LinkId.{LinkId}
-use Rattle.ason_base.specs.declared.ids.Lsp.{Lsp}
 use Rattle.ason_base.specs.declared.ids.NodeId.{NodeId}
-use Rattle.ason_base.specs.declared.messages.Msg.{Msg}
-use Rattle.ason_base.specs.declared.messages.Msg.TheVariants.{Notify}
 use Rattle.ason_base.specs.declared.tables.CallRec.{CallRec}
-use Rattle.mesh_rules.specs.Machine.{Mesh, without_first}
+use Rattle.mesh_rules.specs.Machine.{Mesh}
 use Rattle.lsp_laws.specs.HopLaw.{notices_between}
-use Rattle.lsp_laws.specs.ReportLaw.{on_the_way, reports_of, told, told_by, told_by_all}
+use Rattle.lsp_laws.specs.ReportLaw.{on_the_way, reports_of, told, told_by_all}
 use Rattle.lsp_laws.proofs.hops.Chain.{is_or_not}
-use Rattle.lsp_laws.proofs.hops.Planned.{Planned, Routes}
-use Rattle.lsp_laws.proofs.hops.Plans.{Plan, fibre_at, hops, link_at, node_at}
-use Rattle.lsp_laws.proofs.hops.Purposes.{Purpose}
-use Rattle.lsp_laws.proofs.hops.Notices.{ComesUp}
+use Rattle.lsp_laws.proofs.hops.Planned.{Routes}
+use Rattle.lsp_laws.proofs.hops.Plans.{fibre_at, hops, link_at, node_at}
 use Rattle.mesh_laws.proofs.reports.GentleWords.{CallOf, RouteTold, Still, line_at, still-then}
 use Rattle.mesh_laws.proofs.reports.Gentle.{taken-still}
 use Rattle.mesh_laws.proofs.reports.KnownFibres.{same_fibre-refl}
 use Rattle.mesh_laws.proofs.reports.OnTheWay.{taken_first, told-append}
 use Rattle.mesh_laws.proofs.reports.Reported.{fibres-apart}
-use Rattle.mesh_laws.proofs.reports.NoticeTaken.{line-else, line-taken, none-before, says-none, says-own, up}
+use Rattle.mesh_laws.proofs.reports.NoticeTaken.{NoticeCame, line-else, line-taken, none-before, read, says-none, says-own}
 
-module _ (t : Network) (s : Mesh) (o : Routes) (d u : NodeId) (l : Lsp) (e : NodeId) (at : NodeId) (k : LinkId)
-    (code : ErrCode) (rest : List Msg) (was : s.mail u.0 d.0 ≡ Notify l e at k code ∷ rest) (q : Purpose) (p : Plan)
-    (pl : Planned t s o l q p) (r : RouteTold t s l p) where
-  abbrev m : Msg
-  m = Notify l e at k code
-
-  abbrev taken : Mesh
-  taken = without_first s u.0 d.0
-
-  -- The Notify comes up the route.
-  abbrev comes : ComesUp p u d (Notify l e at k code)
-  comes = up t s o d u l e at k code rest was q p pl r
-
-  abbrev j : ℕ
-  j = comes.place
-
-  abbrev z : ℕ
-  z = comes.names.place
-
-  -- What it tells
-
-  -- the fibre of this place
-  abbrev says : ℕ → List Bool
-  says i = told_by (node_at p (suc i)) (link_at p i) m
+module _ (t : Network) (s : Mesh) (o : Routes) (came : NoticeCame t s o) where
+  open came use {d, u, l, rest, was, p, pl, r}
+  open read t s o came use {m, taken, comes, z, says}
 
   -- It comes to the ingress
 
@@ -66,7 +38,7 @@ module _ (t : Network) (s : Mesh) (o : Routes) (d u : NodeId) (l : Lsp) (e : Nod
     first-line : (i : ℕ) → line_at (notices_between s l) p i 0 ≡ says i ++ line_at (notices_between s' l) p i 0
     first-line i =
         subst (λ x. line_at (notices_between s l) p i x ≡ says i ++ line_at (notices_between taken l) p i x) place
-        (line-taken t s o d u l e at k code rest was q p pl r i) ∙ ap (λ xs. says i ++ xs) (sym (line-later i 0))
+        (line-taken t s o came i) ∙ ap (λ xs. says i ++ xs) (sym (line-later i 0))
 
     -- what is reported now is what this one tells
     report-told : (i : ℕ) → i < hops p → (known : Bool) →
@@ -74,10 +46,10 @@ module _ (t : Network) (s : Mesh) (o : Routes) (d u : NodeId) (l : Lsp) (e : Nod
     report-told i small known = elim (is_or_not i z) [
       | inl is ↦ subst (λ x. cond (same_fibre (fibre_at t p x) (fibre_at t p z)) comes.names.down known
           ≡ told known (says x)) (sym is)
-          (rw (same_fibre-refl (fibre_at t p z), says-own t s o d u l e at k code rest was q p pl r) refl)
+          (rw (same_fibre-refl (fibre_at t p z), says-own t s o came) refl)
       | inr apart ↦ rw (
         fibres-apart t l.ingress p pl.route i z small comes.names.within apart,
-        says-none t s o d u l e at k code rest was q p pl r i small
+        says-none t s o came i small
             apart,
       ) refl
     ]
@@ -91,7 +63,7 @@ module _ (t : Network) (s : Mesh) (o : Routes) (d u : NodeId) (l : Lsp) (e : Nod
           let split : on_the_way (line_at (notices_between s l) p i) (suc i) ≡ says i ++ way =
           taken_first (line_at (notices_between s l) p i) (line_at (notices_between s' l) p i) i (says i)
           (first-line i)
-          (λ x apart most. line-later i x ∙ line-else t s o d u l e at k code rest was q p pl r i x (omega arith)
+          (λ x apart most. line-later i x ∙ line-else t s o came i x (omega arith)
           (omega arith)) in
           ap (λ b. told b way) (was'.2 i small ∙ report-told i small known)
           ∙ sym (told-append known (says i) way) ∙ ap (told known) (sym split)
@@ -104,12 +76,12 @@ module _ (t : Network) (s : Mesh) (o : Routes) (d u : NodeId) (l : Lsp) (e : Nod
             gone = λ x after below. all-still.gone (node_at p (suc x)) (was'.gone x after below);
             untold = λ x after below. record {
               notices = λ a b. ap (told_by_all (node_at p (suc x)) (link_at p x)) (notices a b)
-                  ∙ (none-before t s o d u l e at k code rest was q p pl r x (was'.untold x after below)).1 a b;
+                  ∙ (none-before t s o came x (was'.untold x after below)).1 a b;
               report = λ c of. (
                   let before = calls c of in
                   before.2 x below
                   ∙ report-told x below (has_fibre (reports_of l before.0) (fibre_at t p x))
-                  ∙ rw ((none-before t s o d u l e at k code rest was q p pl r x (was'.untold x after below)).0)
+                  ∙ rw ((none-before t s o came x (was'.untold x after below)).0)
                   ((was'.untold x after below).report before.0 before.1));
             };
           });

@@ -1,60 +1,32 @@
 -- A Notify of an LSP is taken: what its reports tell stays.
-use Rattle.std.proofs.Common.{◌≡◌, ◌≢◌, ◌≤◌, ◌<◌, ℕ, suc, Bool, true, false, cond, nat_eq, List, [], ◌∷◌, ◌++◌, refl, sym, ap, ◌∙◌, subst, arith, inl, inr, append-nil}
+use Rattle.std.proofs.Common.{◌≡◌, ◌≢◌, ◌≤◌, ◌<◌, ℕ, suc, Bool, true, false, cond, nat_eq, [], ◌∷◌, ◌++◌, refl, sym, ap, ◌∙◌, subst, arith, inl, inr, append-nil}
 use Rattle.std.specs.Prelude.{◌&&◌, ◌⊎◌, map, Some}
 use Rattle.std.proofs.lemmas.List.Elements.{filter-append}
 use Rattle.ason_base.specs.Lsps.{has_fibre}
 use Rattle.ason_base.specs.Network.{Network}
-use Rattle.ason_base.specs.declared.codes.ErrCode.{ErrCode}
-use Rattle.ason_base.specs.declared.ids.LinkId.{LinkId}
-use Rattle.ason_base.specs.declared.ids.Lsp.{Lsp}
 use Rattle.ason_base.specs.declared.ids.NodeId.{NodeId}
-use Rattle.ason_base.specs.declared.messages.Msg.{Msg}
-use Rattle.ason_base.specs.declared.messages.Msg.TheVariants.{Notify}
 use Rattle.ason_base.specs.declared.tables.CallRec.{CallRec}
 use Rattle.ason_base.specs.declared.tables.Out.{Out}
 use Rattle.mesh_rules.specs.Calls.{find_call}
 use Rattle.mesh_rules.specs.Changes.{changed, sends, to_node}
 use Rattle.mesh_rules.specs.Legs.{find_leg}
-use Rattle.mesh_rules.specs.Machine.{Mesh, commit, sent_to, without_first}
+use Rattle.mesh_rules.specs.Machine.{Mesh, commit, sent_to}
 use Rattle.mesh_nodes.proofs.LegList.{same_lsp-refl}
 use Rattle.lsp_laws.specs.HopLaw.{leg_at, mail_between, messages_of, notices_between, notices_of}
-use Rattle.lsp_laws.specs.ReportLaw.{is_standing, on_the_way, reports_of, told, told_by, told_by_all}
+use Rattle.lsp_laws.specs.ReportLaw.{is_standing, on_the_way, reports_of, told, told_by_all}
 use Rattle.lsp_laws.proofs.hops.Chain.{below_or_not, is_or_not}
-use Rattle.lsp_laws.proofs.hops.Planned.{Planned, Routes}
-use Rattle.lsp_laws.proofs.hops.Plans.{Plan, distinct, fibre_at, hops, link_at, node_at, same, same_node}
-use Rattle.lsp_laws.proofs.hops.Purposes.{Purpose}
+use Rattle.lsp_laws.proofs.hops.Planned.{Routes}
+use Rattle.lsp_laws.proofs.hops.Plans.{distinct, fibre_at, hops, link_at, node_at, same, same_node}
 use Rattle.lsp_laws.proofs.hops.Views.{notices-else, notices-from}
-use Rattle.lsp_laws.proofs.hops.Notices.{ComesUp}
 use Rattle.mesh_laws.proofs.reports.Alarmed.{told-all-append}
 use Rattle.mesh_laws.proofs.reports.GentleWords.{CallOf, RouteTold, Still, Untold, has_plain, is_waiting, line_at, still-then}
 use Rattle.mesh_laws.proofs.reports.Gentle.{taken-still}
 use Rattle.mesh_laws.proofs.reports.OnTheWay.{passed_on, same_lines}
-use Rattle.mesh_laws.proofs.reports.NoticeTaken.{line-else, line-taken, none-before, says-none, up}
+use Rattle.mesh_laws.proofs.reports.NoticeTaken.{NoticeCame, line-else, line-taken, none-before, read, says-none}
 
-module _ (t : Network) (s : Mesh) (o : Routes) (d u : NodeId) (l : Lsp) (e : NodeId) (at : NodeId) (k : LinkId)
-    (code : ErrCode) (rest : List Msg) (was : s.mail u.0 d.0 ≡ Notify l e at k code ∷ rest) (q : Purpose) (p : Plan)
-    (pl : Planned t s o l q p) (r : RouteTold t s l p) where
-  abbrev m : Msg
-  m = Notify l e at k code
-
-  abbrev taken : Mesh
-  taken = without_first s u.0 d.0
-
-  -- The Notify comes up the route.
-  abbrev comes : ComesUp p u d (Notify l e at k code)
-  comes = up t s o d u l e at k code rest was q p pl r
-
-  abbrev j : ℕ
-  j = comes.place
-
-  abbrev z : ℕ
-  z = comes.names.place
-
-  -- What it tells
-
-  -- the fibre of this place
-  abbrev says : ℕ → List Bool
-  says i = told_by (node_at p (suc i)) (link_at p i) m
+module _ (t : Network) (s : Mesh) (o : Routes) (came : NoticeCame t s o) where
+  open came use {d, u, l, rest, was, p, pl, r}
+  open read t s o came use {m, taken, comes, says}
 
   -- It is passed back to the node before
 
@@ -106,7 +78,7 @@ module _ (t : Network) (s : Mesh) (o : Routes) (d u : NodeId) (l : Lsp) (e : Nod
         (same_node d (node_at p (suc j')) d-at)
         (passed-from i (node_at p j') ∙ ap (λ xs. told_by_all (node_at p (suc i)) (link_at p i)
         (notices_between taken l d (node_at p j')) ++ xs) (sent-here i))
-        ∙ ap (λ xs. xs ++ says i) (line-else t s o d u l e at k code rest was q p pl r i j' small' (omega arith))
+        ∙ ap (λ xs. xs ++ says i) (line-else t s o came i j' small' (omega arith))
 
     far-line : (i x : ℕ) → x < hops p → x ≢ j' →
         line_at (notices_between passed l) p i x ≡ line_at (notices_between taken l) p i x
@@ -121,13 +93,13 @@ module _ (t : Network) (s : Mesh) (o : Routes) (d u : NodeId) (l : Lsp) (e : Nod
         ≡ says i ++ line_at (notices_between passed l) p i (suc j')
     beyond i =
         subst (λ x. line_at (notices_between s l) p i x ≡ says i ++ line_at (notices_between taken l) p i x) place
-        (line-taken t s o d u l e at k code rest was q p pl r i)
+        (line-taken t s o came i)
         ∙ ap (λ xs. says i ++ xs) (sym (far-line i (suc j') (let below = comes.below in omega arith) (omega arith)))
 
     far-both : (i x : ℕ) → x < hops p → x ≢ j' → x ≢ suc j' →
         line_at (notices_between passed l) p i x ≡ line_at (notices_between s l) p i x
     far-both i x small one two =
-        far-line i x small one ∙ line-else t s o d u l e at k code rest was q p pl r i x small (omega arith)
+        far-line i x small one ∙ line-else t s o came i x small (omega arith)
 
     way-same : (i : ℕ) → i < hops p →
         on_the_way (line_at (notices_between passed l) p i) (suc i)
@@ -150,7 +122,7 @@ module _ (t : Network) (s : Mesh) (o : Routes) (d u : NodeId) (l : Lsp) (e : Nod
         near i small most x less (inl is) =
             let beyond' = comes.names.beyond in
             subst (λ y. line_at (notices_between passed l) p i y ≡ line_at (notices_between s l) p i y) (sym is)
-            (nearer i ∙ rw (says-none t s o d u l e at k code rest was q p pl r i small (omega arith)) (append-nil _))
+            (nearer i ∙ rw (says-none t s o came i small (omega arith)) (append-nil _))
 
     call-passed : (c : CallRec) → CallOf passed l c → CallOf s l c
     call-passed c of = record { found = go (nat_eq l.ingress.0 d.0) of.found; named = of.named }
@@ -213,11 +185,11 @@ module _ (t : Network) (s : Mesh) (o : Routes) (d u : NodeId) (l : Lsp) (e : Nod
         told_by_all (node_at p (suc i)) (link_at p i) (notices_between passed l a b) ≡ []
     passed-none i untold a b = elim (is_or_not a.0 d.0) [
       | inr apart ↦ ap (told_by_all (node_at p (suc i)) (link_at p i)) (passed-else a b apart)
-          ∙ (none-before t s o d u l e at k code rest was q p pl r i untold).1 a b
+          ∙ (none-before t s o came i untold).1 a b
       | inl here ↦ subst (λ (x : NodeId). told_by_all (node_at p (suc i)) (link_at p i)
           (notices_between passed l x b) ≡ []) (sym (same_node a d here))
-          (passed-from i b ∙ rw ((none-before t s o d u l e at k code rest was q p pl r i untold).1 d b)
-          (sent-any i (none-before t s o d u l e at k code rest was q p pl r i untold).0 b))
+          (passed-from i b ∙ rw ((none-before t s o came i untold).1 d b)
+          (sent-any i (none-before t s o came i untold).0 b))
     ]
 
     pub passed-told : RouteTold t passed l p

@@ -27,9 +27,35 @@ none-left : (xs ys : List Bool) → xs ++ ys ≡ [] → (xs ≡ []) × (ys ≡ [
 none-left [] ys e = (refl, e)
 none-left (x ∷ xs) ys e = absurd (cc e)
 
-module _ (t : Network) (s : Mesh) (o : Routes) (d u : NodeId) (l : Lsp) (e : NodeId) (at : NodeId) (k : LinkId)
-    (code : ErrCode) (rest : List Msg) (was : s.mail u.0 d.0 ≡ Notify l e at k code ∷ rest) (q : Purpose) (p : Plan)
-    (pl : Planned t s o l q p) (r : RouteTold t s l p) where
+-- A Notify is the first message from u to d, and what is told of its LSP's route is true.
+pub record NoticeCame (t : Network) (s : Mesh) (o : Routes) : Type 0 where
+  pub d : NodeId
+  pub u : NodeId
+  pub l : Lsp
+  pub e : NodeId
+  pub at : NodeId
+  pub k : LinkId
+  pub code : ErrCode
+  pub rest : List Msg
+  pub was : s.mail u.0 d.0 ≡ Notify l e at k code ∷ rest
+  pub q : Purpose
+  pub p : Plan
+  pub pl : Planned t s o l q p
+  pub r : RouteTold t s l p
+
+-- The Notify, the mesh without it, from which place it comes up the route, of which place it tells, and what it tells of
+-- each.
+pub record NoticeRead (c : NodeId × NodeId) (p : Plan) : Type 0 where
+  pub m : Msg
+  pub taken : Mesh
+  pub comes : ComesUp p c.0 c.1 m
+  pub j : ℕ
+  pub z : ℕ
+  pub says : ℕ → List Bool
+
+module _ (t : Network) (s : Mesh) (o : Routes) (came : NoticeCame t s o) where
+  open came use {d, u, l, e, at, k, code, rest, was, p, pl, r}
+
   abbrev m : Msg
   m = Notify l e at k code
 
@@ -59,6 +85,9 @@ module _ (t : Network) (s : Mesh) (o : Routes) (d u : NodeId) (l : Lsp) (e : Nod
   -- the fibre of this place
   abbrev says : ℕ → List Bool
   says i = told_by (node_at p (suc i)) (link_at p i) m
+
+  abbrev pub read : NoticeRead (u, d) p
+  read = record { m = m; taken = taken; comes = up; j = j; z = z; says = says }
 
   pub says-own : says z ≡ up.names.down ∷ []
   says-own =

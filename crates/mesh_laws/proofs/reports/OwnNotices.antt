@@ -40,7 +40,7 @@ use Rattle.mesh_laws.proofs.reports.Gentle.{commit-gentle, commit-still, notices
 use Rattle.mesh_laws.proofs.reports.AnswerParts.{nothing-gentle}
 use Rattle.mesh_laws.proofs.reports.GentleAnswers.{IfStands, decide-gentle}
 use Rattle.mesh_laws.proofs.reports.StandingCalls.{leg-stands}
-use Rattle.mesh_laws.proofs.reports.NoticeTaken.{dropped-told, up}
+use Rattle.mesh_laws.proofs.reports.NoticeTaken.{NoticeCame, dropped-told, up}
 use Rattle.mesh_laws.proofs.reports.NoticeArrives.{here-told}
 use Rattle.mesh_laws.proofs.reports.NoticeSteps.{passed-told}
 use Rattle.mesh_laws.proofs.reports.Reported.{Puts, decide-puts, fibres-after, forward-is, into-found, into-is, into_at, low-first, report-after, report-call}
@@ -56,6 +56,23 @@ module _ (t : Network) (low : LowFirst t) (s : Mesh) (o : Routes) (d u : NodeId)
   abbrev p : Plan
   p = plan route end
 
+  abbrev came : NoticeCame t s o
+  came = record {
+    d = d;
+    u = u;
+    l = l;
+    e = e;
+    at = at;
+    k = k;
+    code = code;
+    rest = rest;
+    was = was;
+    q = q;
+    p = p;
+    pl = pl;
+    r = r;
+  }
+
   abbrev taken : Mesh
   taken = without_first s u.0 d.0
 
@@ -66,7 +83,7 @@ module _ (t : Network) (low : LowFirst t) (s : Mesh) (o : Routes) (d u : NodeId)
   Stays a = RouteTold t (commit (without_first s u.0 d.0) d.0 a) l (plan route end)
 
   abbrev up-here : ComesUp (plan route end) u d (Notify l e at k code)
-  up-here = up t s o d u l e at k code rest was q (plan route end) pl r
+  up-here = up t s o came
 
   d-is : d ≡ node_at (plan route end) up-here.place
   d-is = same_node d (node_at (plan route end) up-here.place) up-here.to
@@ -76,7 +93,7 @@ module _ (t : Network) (low : LowFirst t) (s : Mesh) (o : Routes) (d u : NodeId)
   torn-stays torn =
       gentle-told t taken (commit taken d.0 nothing) l p
       (commit-gentle taken d l nothing (nothing-gentle (taken.nodes d.0) l))
-      (dropped-told t s o d u l e at k code rest was q p pl r
+      (dropped-told t s o came
       (λ i stands reached. torn (subst (λ n. is_standing (leg_at s l n)
       ≡ true) (sym d-is) (stands up-here.place reached))))
 
@@ -221,12 +238,12 @@ module _ (t : Network) (low : LowFirst t) (s : Mesh) (o : Routes) (d u : NodeId)
 
         told-stays : Stays answer
         told-stays =
-            here-told t s o d u l e at k code rest was q p pl r place (commit taken d.0 answer) still
+            here-told t s o came place (commit taken d.0 answer) still
             (notices-after taken d l answer gentle.legs gentle.sent gentle.active gentle.down) calls
 
       uncalled-stays : call_with l (s.nodes d.0).calls ≡ None → Stays nothing
       uncalled-stays none =
-          here-told t s o d u l e at k code rest was q p pl r place (commit taken d.0 nothing)
+          here-told t s o came place (commit taken d.0 nothing)
           (commit-still taken d l nothing (nothing-gentle (taken.nodes d.0) l).legs tt (λ waits. tt) refl)
           (notices-after taken d l nothing (nothing-gentle (taken.nodes d.0) l).legs tt (λ waits. tt) refl)
           (λ x of. absurd (never x of))
@@ -257,7 +274,7 @@ module _ (t : Network) (low : LowFirst t) (s : Mesh) (o : Routes) (d u : NodeId)
         rw (previous_none t q l (plan route end) g (first-fits place)) (report-stays place)
     passes (suc j) place =
         rw (previous_is t q l (plan route end) j g (subst (λ x. LegFits t q l (plan route end) x g) place fits))
-        (passed-told t s o d u l e at k code rest was q p pl r j place (node_at p j) refl)
+        (passed-told t s o came j place (node_at p j) refl)
 
     stays-standing : (b : Bool) → is_closing g.phase ≡ b →
         Stays (notify_with (local_node t d) (s.nodes d.0) u notice (Some g))

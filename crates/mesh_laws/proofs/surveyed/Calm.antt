@@ -34,14 +34,11 @@ use Rattle.mesh_nodes.proofs.LegList.{all-found, found-all, same_lsp-refl}
 use Rattle.mesh_nodes.proofs.routes.Lists.{contains-unkept}
 use Rattle.mesh_nodes.proofs.routes.Nodes.{find-there}
 use Rattle.lsp_laws.specs.CallLaw.{FitsLegs, IsNamed, fits, fits_reports, phase_of}
-use Rattle.lsp_laws.specs.HopLaw.{LspFits, leg_at}
+use Rattle.lsp_laws.specs.HopLaw.{leg_at}
 use Rattle.lsp_laws.specs.ReportLaw.{AreOf, IsOfRoute, reports_of}
-use Rattle.lsp_laws.proofs.hops.HopLaws.{every_hop}
 use Rattle.lsp_laws.proofs.hops.ReportedFibres.{every_report_of_route}
 use Rattle.lsp_laws.proofs.nodes.CallParts.{named-lsp}
-use Rattle.lsp_laws.proofs.nodes.Facts.{MeshFacts}
 use Rattle.lsp_laws.proofs.nodes.NodeLaws.{every_call}
-use Rattle.lsp_laws.proofs.nodes.NodeRuns.{facts-hold}
 use Rattle.mesh_laws.specs.AloneLaw.{CallIsCalm, Calm, LegIsCalm, is_idle}
 use Rattle.mesh_laws.specs.KnownLaw.{ComesIn}
 use Rattle.mesh_laws.specs.SurveyLaw.{CalmIsShown, IsShownCalm, ShowsAll, is_reserved_row}
@@ -53,8 +50,8 @@ use Rattle.mesh_laws.proofs.reports.Desks.{every_desk_tells}
 use Rattle.mesh_laws.proofs.reports.KnownFibres.{same_bool-is, same_fibre-refl}
 use Rattle.mesh_laws.proofs.restoration.Called.{call-is}
 use Rattle.mesh_laws.proofs.restoration.Calls.{none-reported}
-use Rattle.mesh_laws.proofs.kept.Phases.{IsUp, LegsUp}
-use Rattle.mesh_laws.proofs.kept.Places.{legs-are-up}
+use Rattle.mesh_laws.proofs.kept.Ended.{ended}
+use Rattle.mesh_laws.proofs.kept.Phases.{IsUp}
 use Rattle.mesh_laws.proofs.contends.MayTurn.{up-not_closing}
 use Rattle.mesh_laws.proofs.surveyed.Rows.{leg-row-there}
 use Rattle.mesh_laws.proofs.surveyed.Stands.{all-here}
@@ -98,14 +95,7 @@ module _ (t : Network) (events : List MeshEvent) (valid : IsTopology t) (run : I
   abbrev o : Routes
   o = route_of t start events
 
-  facts : MeshFacts t s
-  facts = facts-hold t events run
-
-  hops : (l : Lsp) → LspFits t s l (o l)
-  hops = (every_hop t events run).1
-
-  up : (n : ℕ) → LegsUp (s.nodes n).legs
-  up n = legs-are-up t s shown.quiet o hops n (facts.node n).legs_rise
+  open ended t events run shown.quiet use {facts, hops, up}
 
   -- Known fibres
 

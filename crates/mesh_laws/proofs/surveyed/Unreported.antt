@@ -27,11 +27,8 @@ use Rattle.lsp_laws.specs.HopLaw.{LspFits, RouteFits, leg_at}
 use Rattle.lsp_laws.specs.HopShapes.{leg_kind, phase_kind}
 use Rattle.lsp_laws.specs.ReportLaw.{IsOfRoute, StandsTo, is_reported, is_standing, place_at}
 use Rattle.lsp_laws.proofs.hops.Law.{step_at}
-use Rattle.lsp_laws.proofs.hops.HopLaws.{every_hop}
 use Rattle.lsp_laws.proofs.hops.Plans.{IsRoute, link_at, node_at, plan, route_made}
 use Rattle.lsp_laws.proofs.hops.RowStates.{ArmedStands, HeldStands, LiveStands, Stands}
-use Rattle.lsp_laws.proofs.nodes.Facts.{MeshFacts}
-use Rattle.lsp_laws.proofs.nodes.NodeRuns.{facts-hold}
 use Rattle.mesh_laws.proofs.alone.Facts.{Routes}
 use Rattle.mesh_laws.proofs.reports.Desks.{every_desk_tells}
 use Rattle.mesh_laws.proofs.reports.ReportLaws.{every_report_tells, place-is}
@@ -39,8 +36,8 @@ use Rattle.mesh_laws.proofs.reports.Reported.{first-is, low-first}
 use Rattle.mesh_laws.proofs.restoration.Reported.{reported-cut}
 use Rattle.mesh_laws.proofs.restoration.Settled.{all-alike, kind_at, leg-in}
 use Rattle.mesh_laws.proofs.restoration.Steps.{begins-at, ends-at, goes-on}
-use Rattle.mesh_laws.proofs.kept.Phases.{IsUp, LegsUp}
-use Rattle.mesh_laws.proofs.kept.Places.{legs-are-up}
+use Rattle.mesh_laws.proofs.kept.Ended.{ended}
+use Rattle.mesh_laws.proofs.kept.Phases.{IsUp}
 use Rattle.mesh_laws.proofs.contends.MayTurn.{up-not_closing}
 use Rattle.mesh_laws.proofs.reports.ReportLaws.{low-first as low-end}
 
@@ -118,14 +115,7 @@ module _ (t : Network) (events : List MeshEvent) (valid : IsTopology t) (run : I
   abbrev o : Routes
   o = route_of t start events
 
-  facts : MeshFacts t s
-  facts = facts-hold t events run
-
-  hops : (l : Lsp) → LspFits t s l (o l)
-  hops = (every_hop t events run).1
-
-  up : (n : ℕ) → LegsUp (s.nodes n).legs
-  up n = legs-are-up t s quiet o hops n (facts.node n).legs_rise
+  open ended t events run quiet use {hops, up}
 
   -- an LSP with a leg at its ingress stands along its route
   along : (l : Lsp) (g : Leg) → leg_at s l l.ingress ≡ Some g → (r : Role) (route : List Step) (e : NodeId) →
