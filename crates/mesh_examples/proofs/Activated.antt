@@ -15,7 +15,9 @@ events = both_armed.events ++ takes 2 5 ∷ []
 
 abbrev as_reached : Seen
 as_reached = record both_armed.as_reached {
-  legs = changed_at 2 (leg 1 1 Live (Some 1) None 1 0 0 ∷ leg 1 2 Live (Some 1) None 1 0 0 ∷ []) both_armed.as_reached.legs;
+  legs =
+      changed_at 2 (leg 1 1 Live (Some 1) None 1 0 0 ∷ leg 1 2 Live (Some 1) None 1 0 0 ∷ [])
+      both_armed.as_reached.legs;
   mail = mail_on 7 ((4, (1, 0)) ∷ []);
 }
 

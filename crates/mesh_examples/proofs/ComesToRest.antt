@@ -52,7 +52,11 @@ turned = record (still 3 3) {
 }
 
 abbrev back : Seen
-back = record turned { legs = by_node_3 1 Held; calls = (called 1 Guarded Unset ∷ []) ∷ [] ∷ [] ∷ []; down = down_at 3 [] }
+back = record turned {
+  legs = by_node_3 1 Held;
+  calls = (called 1 Guarded Unset ∷ []) ∷ [] ∷ [] ∷ [];
+  down = down_at 3 [];
+}
 
 enabled : all_enabled network start (set_up ++ cut ++ way_back) ≡ true
 unfolding labels.numbers_from

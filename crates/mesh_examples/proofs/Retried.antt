@@ -28,7 +28,9 @@ events = until_stuck ++ retries 2 3 ∷ desk 3 ∷ []
 -- to node 5
 abbrev with_second : Phase → CallState → Cause → ℕ → Seen
 with_second phase state cause sent = record contended.as_reached {
-  legs = changed_at 3 (leg 3 1 Live None (Some 1) 0 1 0 ∷ leg 3 2 phase None (Some 1) 0 2 2 ∷ []) contended.as_reached.legs;
+  legs =
+      changed_at 3 (leg 3 1 Live None (Some 1) 0 1 0 ∷ leg 3 2 phase None (Some 1) 0 2 2 ∷ [])
+      contended.as_reached.legs;
   calls = changed_at 3 (reported 2 state cause 1 0 ∷ []) contended.as_reached.calls;
   down = down_at 6 ((2, 1) ∷ (3, 1) ∷ (4, 1) ∷ []);
   mail = mail_on 7 ((5, (1, 0)) ∷ (6, (sent, 0)) ∷ []);

@@ -54,7 +54,7 @@ triangle first others labels = record {
   links = joins 1 1 2 labels [] ∷ joins 2 1 3 labels [] ∷ joins 3 2 3 labels [] ∷ [];
 }
 
--- three nodes that don't convert in a ring, in which links 1 and 2 go from node 1 by node 2 to node 3, and link 3 closes it
+-- three nodes that don't convert, in a ring: links 1 and 2 go from node 1 by node 2 to node 3, and link 3 closes it
 abbrev pub ring : ℕ → Network
 ring labels = record {
   wait = 0;
@@ -289,8 +289,8 @@ pub record Reaches (t : Network) (events : List MeshEvent) (shown : Seen) : Type
   pub reached : seen t (after t start events) ≡ shown
 
 -- the run reaches this, and there the hop from one node to the next is in its row of the table
-pub record ReachesRow (t : Network) (events : List MeshEvent) (shown : Seen) (r : Role) (l : Lsp) (u d : NodeId) : Type 0
+pub record ReachesRow (t : Network) (es : List MeshEvent) (shown : Seen) (r : Role) (l : Lsp) (u d : NodeId) : Type 0
   where
-    pub enabled : all_enabled t start events ≡ true
-    pub reached : seen t (after t start events) ≡ shown
-    pub in_row : HasShape (after t start events) r l u d
+    pub enabled : all_enabled t start es ≡ true
+    pub reached : seen t (after t start es) ≡ shown
+    pub in_row : HasShape (after t start es) r l u d

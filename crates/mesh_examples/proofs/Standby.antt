@@ -17,7 +17,9 @@ events = reserved.events ++ takes 6 3 ∷ []
 
 abbrev as_reached : Seen
 as_reached = record reserved.as_reached {
-  legs = changed_at 6 (leg 6 1 Live None (Some 1) 0 1 1 ∷ leg 6 2 Held None (Some 1) 0 1 0 ∷ []) reserved.as_reached.legs;
+  legs =
+      changed_at 6 (leg 6 1 Live None (Some 1) 0 1 1 ∷ leg 6 2 Held None (Some 1) 0 1 0 ∷ [])
+      reserved.as_reached.legs;
   calls = alone 6 6 (called 1 Guarded Unset ∷ []);
   mail = mail_on 7 [];
 }

@@ -20,7 +20,9 @@ events = contended.events ++ releases 2 3 ∷ desk 3 ∷ desk 3 ∷ []
 -- on link 6 the PathTear meets the refusal; another is on link 2
 abbrev pub as_reached : Seen
 as_reached = record contended.as_reached {
-  legs = changed_at 3 (leg 3 1 Closing None (Some 1) 0 1 0 ∷ leg 3 2 Falling None (Some 1) 0 2 2 ∷ []) contended.as_reached.legs;
+  legs =
+      changed_at 3 (leg 3 1 Closing None (Some 1) 0 1 0 ∷ leg 3 2 Falling None (Some 1) 0 2 2 ∷ [])
+      contended.as_reached.legs;
   calls = alone 6 1 (reported 1 Turning Unset 1 0 ∷ []);
   down = down_at 6 ((2, 1) ∷ (3, 1) ∷ (4, 1) ∷ []);
   mail = mail_on 7 ((2, (1, 0)) ∷ (5, (1, 0)) ∷ (6, (1, 1)) ∷ []);

@@ -15,7 +15,9 @@ events = reactivating.events ++ releases 1 3 ∷ desk 3 ∷ []
 
 abbrev as_reached : Seen
 as_reached = record reactivating.as_reached {
-  legs = changed_at 3 (leg 3 1 Closing None (Some 1) 0 3 1 ∷ leg 3 2 Falling None (Some 1) 0 2 2 ∷ []) reactivating.as_reached.legs;
+  legs =
+      changed_at 3 (leg 3 1 Closing None (Some 1) 0 3 1 ∷ leg 3 2 Falling None (Some 1) 0 2 2 ∷ [])
+      reactivating.as_reached.legs;
   calls = among 6 [];
   mail = mail_on 9 ((6, (1, 0)) ∷ (7, (3, 0)) ∷ []);
 }
