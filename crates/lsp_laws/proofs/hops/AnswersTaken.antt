@@ -2,7 +2,7 @@
 use Rattle.std.proofs.Common.{◌≡◌, List, [], ◌∷◌, refl, inl, inr}
 use Rattle.std.specs.Prelude.{◌⊎◌}
 use Rattle.ason_base.specs.declared.calls.Role.{Role}
-use Rattle.ason_base.specs.declared.calls.Role.TheVariants.{Work, Back}
+use Rattle.ason_base.specs.declared.calls.Role.TheVariants.{Back}
 use Rattle.lsp_laws.specs.HopShapes.{LegKind, NoLeg, AskedLeg, HeldLeg, ArmedLeg, LiveLeg, ClosingLeg, FallingLeg}
 use Rattle.lsp_laws.specs.HopShapes.{MsgKind, Tear, Label, Removal, Contention}
 use Rattle.lsp_laws.specs.HopShapes.{IsTorn, Closes, Falls, HasLetGo, NothingLeft}
@@ -13,7 +13,7 @@ use Rattle.lsp_laws.specs.HopShapes.{Shape, Idle, Asking, Passed, Refused, Answe
 use Rattle.lsp_laws.specs.HopShapes.{Activating, BothArmed, Activated, Contended, Deactivating, Reactivating}
 use Rattle.lsp_laws.specs.HopShapes.{TornAsking, TornPassed, TornRefused, TornConnected, TornStandby, TornActivating}
 use Rattle.lsp_laws.specs.HopShapes.{TornArmed, TornDeactivating, TornReactivating, LetGo, Left, Ahead}
-use Rattle.lsp_laws.proofs.hops.RowStates.{ArmedStands, AskedStands, HeldStands, LiveStands, left_behind, no_torn, not_let_go, reserved_leg, was_torn}
+use Rattle.lsp_laws.proofs.hops.RowStates.{ArmedStands, AskedStands, HeldStands, LiveStands, label_back, label_torn, left_behind, no_torn, not_let_go, reserved_leg, was_torn}
 
 -- An Asked leg answers with its label, or lets go.
 pub record AskedAnswers (r : Role) (u : LegKind) (down up : List MsgKind) : Type 0 where
@@ -26,32 +26,18 @@ pub record AskedAnswers (r : Role) (u : LegKind) (down up : List MsgKind) : Type
 
 pub asked_answers : (r : Role) (u : LegKind) (down up : List MsgKind) → Shape r u AskedLeg down up →
     AskedAnswers r u down up
-asked_answers Work _ _ _ Passed = record {
+asked_answers r _ _ _ Passed = record {
   bare = inl refl;
   quiet = refl;
   down_is = inl refl;
-  answered = Answered;
+  answered = label_back r;
   let_go = λ d gone. Refused gone;
 }
-asked_answers Back _ _ _ Passed = record {
-  bare = inl refl;
-  quiet = refl;
-  down_is = inl refl;
-  answered = Reserved;
-  let_go = λ d gone. Refused gone;
-}
-asked_answers Work _ _ _ TornPassed = record {
+asked_answers r _ _ _ TornPassed = record {
   bare = inr refl;
   quiet = refl;
   down_is = inr refl;
-  answered = TornConnected WorkCloses OneResv;
-  let_go = λ d gone. TornRefused gone;
-}
-asked_answers Back _ _ _ TornPassed = record {
-  bare = inr refl;
-  quiet = refl;
-  down_is = inr refl;
-  answered = TornStandby Closes ResvAnswer;
+  answered = label_torn r;
   let_go = λ d gone. TornRefused gone;
 }
 asked_answers r u _ _ (Refused gone) = absurd (not_let_go r AskedLeg AskedStands gone)

@@ -2,18 +2,18 @@
 use Rattle.std.proofs.Common.{◌≡◌, List, [], ◌∷◌, ◌++◌, refl, inl, inr}
 use Rattle.std.specs.Prelude.{◌⊎◌}
 use Rattle.ason_base.specs.declared.calls.Role.{Role}
-use Rattle.ason_base.specs.declared.calls.Role.TheVariants.{Work, Back}
+use Rattle.ason_base.specs.declared.calls.Role.TheVariants.{Back}
 use Rattle.lsp_laws.specs.HopShapes.{LegKind, NoLeg, AskedLeg, HeldLeg, ArmedLeg, LiveLeg, ClosingLeg, FallingLeg}
 use Rattle.lsp_laws.specs.HopShapes.{MsgKind, PlainPath, ActivePath, Tear, Label, Removal, Contention}
 use Rattle.lsp_laws.specs.HopShapes.{Closes, Falls, HasLetGo, NothingLeft}
-use Rattle.lsp_laws.specs.HopShapes.{WorkCloses, BackFalls, OneResv}
-use Rattle.lsp_laws.specs.HopShapes.{NoAnswer, ResvAnswer, ContentionAnswer}
+use Rattle.lsp_laws.specs.HopShapes.{BackFalls, OneResv}
+use Rattle.lsp_laws.specs.HopShapes.{NoAnswer, ContentionAnswer}
 use Rattle.lsp_laws.specs.HopShapes.{AtOnce}
-use Rattle.lsp_laws.specs.HopShapes.{Shape, Asking, Passed, Refused, Answered, Reserved, Standby}
+use Rattle.lsp_laws.specs.HopShapes.{Shape, Asking, Passed, Refused, Standby}
 use Rattle.lsp_laws.specs.HopShapes.{Activating, BothArmed, Activated, Contended, Deactivating, Reactivating}
 use Rattle.lsp_laws.specs.HopShapes.{TornAsking, TornPassed, TornRefused, TornConnected, TornStandby, TornActivating}
 use Rattle.lsp_laws.specs.HopShapes.{TornArmed, TornDeactivating, TornReactivating, LetGo, Left}
-use Rattle.lsp_laws.proofs.hops.RowStates.{ArmedStands, AskedStands, HeldStands, LiveStands, Stands, answer_confirms, left_behind, not_let_go, reserved_leg, resv_confirms, was_torn}
+use Rattle.lsp_laws.proofs.hops.RowStates.{ArmedStands, AskedStands, HeldStands, LiveStands, Stands, answer_confirms, label_back, label_torn, left_behind, not_let_go, reserved_leg, resv_confirms, was_torn}
 
 -- A step at the downstream node
 
@@ -30,36 +30,20 @@ pub record FirstTaken (r : Role) (u : LegKind) (down up : List MsgKind) : Type 0
 
 pub first_taken : (r : Role) (u : LegKind) (down up : List MsgKind) → Shape r u NoLeg (PlainPath ∷ down) up →
     FirstTaken r u down up
-first_taken Work _ _ _ Asking = record {
+first_taken r _ _ _ Asking = record {
   quiet = refl;
   last = inl refl;
   bare = inl refl;
   passed = Passed;
-  answered = Answered;
+  answered = label_back r;
   refused = Refused NothingLeft;
 }
-first_taken Back _ _ _ Asking = record {
-  quiet = refl;
-  last = inl refl;
-  bare = inl refl;
-  passed = Passed;
-  answered = Reserved;
-  refused = Refused NothingLeft;
-}
-first_taken Work _ _ _ TornAsking = record {
+first_taken r _ _ _ TornAsking = record {
   quiet = refl;
   last = inr refl;
   bare = inr refl;
   passed = TornPassed;
-  answered = TornConnected WorkCloses OneResv;
-  refused = TornRefused NothingLeft;
-}
-first_taken Back _ _ _ TornAsking = record {
-  quiet = refl;
-  last = inr refl;
-  bare = inr refl;
-  passed = TornPassed;
-  answered = TornStandby Closes ResvAnswer;
+  answered = label_torn r;
   refused = TornRefused NothingLeft;
 }
 

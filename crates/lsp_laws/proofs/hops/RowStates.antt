@@ -3,12 +3,12 @@ use Rattle.std.proofs.Common.{◌≡◌, Bool, true, false, List, [], ◌∷◌,
 use Rattle.ason_base.specs.declared.calls.Role.{Role}
 use Rattle.ason_base.specs.declared.calls.Role.TheVariants.{Work, Back}
 use Rattle.lsp_laws.specs.HopShapes.{LegKind, NoLeg, AskedLeg, HeldLeg, ArmedLeg, LiveLeg, ClosingLeg, FallingLeg}
-use Rattle.lsp_laws.specs.HopShapes.{MsgKind, Removal}
+use Rattle.lsp_laws.specs.HopShapes.{MsgKind, Label, Removal, Tear}
 use Rattle.lsp_laws.specs.HopShapes.{IsTorn, Closes, Falls, HasLetGo, NothingLeft, StillWaits}
 use Rattle.lsp_laws.specs.HopShapes.{WasConnected, WorkCloses, BackFalls, MayBeResv, NoResv, OneResv}
 use Rattle.lsp_laws.specs.HopShapes.{MayBeAnswer, NoAnswer, ResvAnswer, ContentionAnswer}
 use Rattle.lsp_laws.specs.HopShapes.{Confirms, AtOnce, AfterResv, AfterContention}
-use Rattle.lsp_laws.specs.HopShapes.{Shape, Idle}
+use Rattle.lsp_laws.specs.HopShapes.{Shape, Answered, Idle, Reserved, TornConnected, TornStandby}
 use Rattle.lsp_laws.specs.HopShapes.{Ahead}
 
 -- Legs
@@ -79,3 +79,12 @@ answer_confirms _ ContentionAnswer = AfterContention
 pub left_behind : (r : Role) (d : LegKind) → HasLetGo r d → Shape r NoLeg d [] []
 left_behind r _ NothingLeft = Idle
 left_behind r d (StillWaits torn) = Ahead torn
+
+-- A label goes back from a leg that has its labels, to one that is Asked, and to one that is torn.
+pub label_back : (r : Role) → Shape r AskedLeg (reserved_leg r) [] (Label ∷ [])
+label_back Work = Answered
+label_back Back = Reserved
+
+pub label_torn : (r : Role) → Shape r ClosingLeg (reserved_leg r) (Tear ∷ []) (Label ∷ [])
+label_torn Work = TornConnected WorkCloses OneResv
+label_torn Back = TornStandby Closes ResvAnswer

@@ -31,22 +31,13 @@ asking-is _ e = absurd (cc e)
 
 pub asking-lone : (f : CallState) → is_asking f ≡ true → has_backup f ≡ true → ⊥
 asking-lone Asking e h = cc h
-asking-lone Bare e h = cc h
-asking-lone Blocked e h = cc h
-asking-lone Pairing e h = cc h
 asking-lone _ e h = cc e
 
 pub bare-lone : (f : CallState) → is_bare f ≡ true → has_backup f ≡ true → ⊥
-bare-lone Asking e h = cc h
 bare-lone Bare e h = cc h
-bare-lone Blocked e h = cc h
-bare-lone Pairing e h = cc h
 bare-lone _ e h = cc e
 
 pub pairing-lone : (f : CallState) → is_pairing f ≡ true → has_backup f ≡ true → ⊥
-pairing-lone Asking e h = cc h
-pairing-lone Bare e h = cc h
-pairing-lone Blocked e h = cc h
 pairing-lone Pairing e h = cc h
 pairing-lone _ e h = cc e
 
