@@ -4,7 +4,7 @@ use Rattle.std.specs.Prelude.{◌&&◌, ◌||◌, Option, Some, None}
 use Rattle.ason_base.specs.Lsps.{has_fibre, is_lsp, same_fibre}
 use Rattle.ason_base.specs.Network.{Network, find_link, other_end}
 use Rattle.ason_base.specs.declared.calls.CallState.{CallState}
-use Rattle.ason_base.specs.declared.calls.CallState.TheVariants.{Asking, Bare, Blocked, Guarded, Pairing, Stuck, Turned, Turning}
+use Rattle.ason_base.specs.declared.calls.CallState.TheVariants.{Guarded, Stuck, Turned}
 use Rattle.ason_base.specs.Codes.{busy_code}
 use Rattle.ason_base.specs.declared.calls.Cause.TheVariants.{BackDown, Code}
 use Rattle.ason_base.specs.declared.ids.Fibre.{Fibre}
@@ -107,26 +107,10 @@ decided-puts : (l : Lsp) (legs : List Leg) (d : CallRec) (o : Option Leg) (state
 decided-puts l legs d o Guarded true false = turn-puts l legs d o
 decided-puts l legs d o Guarded true true = record
     { put = stuck d BackDown; calls = refl; number = refl; reports = refl; same_names = refl }
-decided-puts l legs d o Guarded false backs = record
-    { put = d; calls = refl; number = refl; reports = refl; same_names = refl }
 decided-puts l legs d o Stuck false backs = record
     { put = guarded d; calls = refl; number = refl; reports = refl; same_names = refl }
-decided-puts l legs d o Stuck true backs = record
-    { put = d; calls = refl; number = refl; reports = refl; same_names = refl }
-decided-puts l legs d o Asking works backs = record
-    { put = d; calls = refl; number = refl; reports = refl; same_names = refl }
-decided-puts l legs d o Bare works backs = record
-    { put = d; calls = refl; number = refl; reports = refl; same_names = refl }
-decided-puts l legs d o Blocked works backs = record
-    { put = d; calls = refl; number = refl; reports = refl; same_names = refl }
-decided-puts l legs d o Pairing works backs = record
-    { put = d; calls = refl; number = refl; reports = refl; same_names = refl }
-decided-puts l legs d o Turning works backs = record
-    { put = d; calls = refl; number = refl; reports = refl; same_names = refl }
 decided-puts l legs d o Turned false true = go_back-puts l d o
-decided-puts l legs d o Turned false false = record
-    { put = d; calls = refl; number = refl; reports = refl; same_names = refl }
-decided-puts l legs d o Turned true backs = record
+decided-puts l legs d o _ works backs = record
     { put = d; calls = refl; number = refl; reports = refl; same_names = refl }
 
 pub decide-puts : (l : Lsp) (legs : List Leg) (d : CallRec) (o : Option Leg) → Puts l d (decide legs d o)

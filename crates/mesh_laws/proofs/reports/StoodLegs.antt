@@ -6,7 +6,7 @@ use Rattle.ason_base.specs.Lsps.{is_lsp, same_lsp}
 use Rattle.ason_base.specs.declared.calls.Cause.{Cause}
 use Rattle.ason_base.specs.declared.calls.Cause.TheVariants.{Code}
 use Rattle.ason_base.specs.declared.calls.Phase.{Phase}
-use Rattle.ason_base.specs.declared.calls.Phase.TheVariants.{Armed, Asked, Closing, Falling, Held, Live}
+use Rattle.ason_base.specs.declared.calls.Phase.TheVariants.{Armed, Asked, Held}
 use Rattle.ason_base.specs.declared.calls.Role.{Role}
 use Rattle.ason_base.specs.declared.calls.Role.TheVariants as role
 use Rattle.ason_base.specs.declared.codes.ErrCode.{ErrCode}
@@ -55,17 +55,9 @@ armed-stands _ e = absurd (cc e)
 
 pub closing-done : (f : Phase) (r : Role) → is_asked (closing_phase f r) ≡ false
 closing-done Armed role.Back = refl
-closing-done Live role.Back = refl
 closing-done Armed role.Work = refl
-closing-done Live role.Work = refl
-closing-done Asked role.Work = refl
-closing-done Asked role.Back = refl
-closing-done Held role.Work = refl
-closing-done Held role.Back = refl
-closing-done Closing role.Work = refl
-closing-done Closing role.Back = refl
-closing-done Falling role.Work = refl
-closing-done Falling role.Back = refl
+closing-done _ role.Work = refl
+closing-done _ role.Back = refl
 
 pub reserved-done : (r : Role) → is_asked (reserved r) ≡ false
 reserved-done role.Work = refl

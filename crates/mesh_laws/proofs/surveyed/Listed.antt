@@ -76,6 +76,17 @@ either-order t calls legs (k ∷ groups) g h at_g at_h apart =
         Contains-append_right (flat_map (between t calls legs k) groups) (all_between t calls legs groups) c
         (f c there))
 
+-- the two calls, for this label of a fibre of the link, where both groups fail
+abbrev pub would_contend : Group → Group → LinkSpec → Bool → ℕ → CallRow → CallRow → Contend
+would_contend g h l forward x a b = record {
+  first = g;
+  second = h;
+  fibre = record { link = l.id; forward = forward };
+  label = x;
+  one = a.call;
+  two = b.call;
+}
+
 -- two calls that would contend are listed
 pub between-has : (t : Network) (calls : List CallRow) (legs : List LegRow) (g h : Group) (l : LinkSpec)
     (forward : Bool) (x : ℕ) (a b : CallRow) → Contains t.links l →
@@ -83,23 +94,9 @@ pub between-has : (t : Network) (calls : List CallRow) (legs : List LegRow) (g h
     Contains calls a → Contains calls b → may_turn_to t legs g (end_of l forward) l.id x a ≡ true →
     may_turn_to t legs h (end_of l forward) l.id x b ≡ true →
     (nat_eq a.call.0 b.call.0 && nat_eq a.ingress.0 b.ingress.0) ≡ false →
-    Contains (between t calls legs g h) (record {
-      first = g;
-      second = h;
-      fibre = record { link = l.id; forward = forward };
-      label = x;
-      one = a.call;
-      two = b.call;
-    })
+    Contains (between t calls legs g h) (would_contend g h l forward x a b)
 between-has t calls legs g h l forward x a b link label at_a at_b turns_a turns_b differ =
-    let c : Contend = record {
-      first = g;
-      second = h;
-      fibre = record { link = l.id; forward = forward };
-      label = x;
-      one = a.call;
-      two = b.call;
-    } in
+    let c = would_contend g h l forward x a b in
     let pair : Contains (of_two g h l.id forward x a b) c = rw differ (contains-head c []) in
     contains-flat (over_link t calls legs g h) t.links l c link
     (contains-flat (over_fibre t calls legs g h l) (true ∷ false ∷ []) forward c (either forward)
