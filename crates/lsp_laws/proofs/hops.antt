@@ -33,6 +33,7 @@ pub mod ResvRule
 pub mod Sending
 pub mod Upstream
 pub mod Tables
+pub mod PathComes
 pub mod Taken
 pub mod TakenBackRule
 pub mod TearRule

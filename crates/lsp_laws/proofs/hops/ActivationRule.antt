@@ -1,5 +1,5 @@
 -- A Path that activates a backup is taken at a node of its route.
-use Rattle.std.proofs.Common.{◌≡◌, ◌<◌, ◌≤◌, ℕ, suc, true, false, List, [], ◌∷◌, refl, sym, ◌∙◌, subst, arith, inl, inr, append-nil, drop, ap, zero}
+use Rattle.std.proofs.Common.{◌≡◌, ◌<◌, ◌≤◌, ℕ, suc, true, false, List, [], ◌∷◌, refl, sym, ◌∙◌, subst, arith, inl, inr, append-nil, drop}
 use Rattle.std.specs.Prelude.{◌⊎◌, Option, Some, None}
 use Rattle.ason_base.specs.Codes.{busy_code}
 use Rattle.ason_base.specs.Lsps.{same_lsp}
@@ -16,16 +16,15 @@ use Rattle.ason_base.specs.declared.messages.Msg.TheVariants.{Path, Resv, PathEr
 use Rattle.ason_base.specs.declared.tables.Leg.{Leg}
 use Rattle.mesh_rules.specs.declared.neighbours.Neighbour.{Neighbour}
 use Rattle.mesh_rules.specs.Activations.{armed_on, busy_to, resv_to}
-use Rattle.mesh_rules.specs.Changes.{Answer, puts, sends, to_node}
+use Rattle.mesh_rules.specs.Changes.{puts, sends, to_node}
 use Rattle.mesh_rules.specs.LocalNodes.{local_node}
 use Rattle.mesh_rules.specs.Legs.{following, is_contended, previous, with_phase}
 use Rattle.mesh_rules.specs.Machine.{Mesh}
 use Rattle.mesh_rules.specs.Messages.{arrival}
-use Rattle.mesh_rules.specs.Paths.{PathRequest, path_with}
+use Rattle.mesh_rules.specs.Paths.{path_with}
 use Rattle.lsp_laws.specs.HopShapes.{NoLeg, HeldLeg, leg_kind}
-use Rattle.lsp_laws.specs.HopLaw.{is_message_of, messages_of, leg_at, mail_between}
+use Rattle.lsp_laws.specs.HopLaw.{messages_of, leg_at, mail_between}
 use Rattle.mesh_nodes.proofs.Cases.{if_cases}
-use Rattle.mesh_nodes.proofs.LegList.{same_lsp-refl}
 use Rattle.lsp_laws.proofs.hops.Activation.{arms, arms_on, connects, contends}
 use Rattle.lsp_laws.proofs.hops.Chain.{Chain, Hop, LegFits, below_or_not}
 use Rattle.lsp_laws.proofs.hops.LegKinds.{held_leg}
@@ -33,11 +32,12 @@ use Rattle.lsp_laws.proofs.hops.LegChanges.{armed_fits, following_is, following_
 use Rattle.lsp_laws.proofs.hops.LegKinds.{same_of}
 use Rattle.lsp_laws.proofs.hops.LegChanges.{in_label_is, in_use_out, previous_is}
 use Rattle.lsp_laws.proofs.hops.Plans.{Plan, hops, node_at, link_at, fibre_at, IsRoute, same}
-use Rattle.lsp_laws.proofs.hops.Purposes.{Purpose, Tells, role_of}
+use Rattle.lsp_laws.proofs.hops.Purposes.{Purpose, role_of}
 use Rattle.lsp_laws.proofs.hops.PathTaken.{active_taken}
 use Rattle.lsp_laws.proofs.hops.Rows.{leg_downstream}
 use Rattle.lsp_laws.proofs.hops.Sending.{sends_back, sends_on}
-use Rattle.lsp_laws.proofs.hops.Taken.{ahead, KeepsDown, down_hop, down_taken}
+use Rattle.lsp_laws.proofs.hops.PathComes.{path-comes}
+use Rattle.lsp_laws.proofs.hops.Taken.{ahead, down_taken}
 
 -- the Resv that a leg sends back
 pub resv-is : (g : Leg) (h : Neighbour) (y : ℕ) (o : Option Neighbour) (label : Option ℕ) → o ≡ Some h →
@@ -45,13 +45,6 @@ pub resv-is : (g : Leg) (h : Neighbour) (y : ℕ) (o : Option Neighbour) (label 
 resv-is g h y None label before is = absurd (cc before)
 resv-is g h y (Some k) None before is = absurd (cc is)
 resv-is g h y (Some k) (Some z) before is = let a : k ≡ h = cc before in let b : z ≡ y = cc is in rw (a, b) refl
-
--- the rest of a route, from the next step on
-pub drop-next : {X : Type 0} (j : ℕ) (xs : List X) → drop 1 (drop j xs) ≡ drop (suc j) xs
-drop-next zero [] = refl
-drop-next zero (x ∷ xs) = refl
-drop-next (suc j) [] = refl
-drop-next (suc j) (x ∷ xs) = drop-next j xs
 
 module _ (t : Network) (q : Purpose) (s : Mesh) (l : Lsp) (p : Plan) (i : ℕ) (route : IsRoute t l.ingress p)
     (chain : Chain t q l p (leg_at s l) (mail_between s l)) (below : i < hops p)
@@ -67,27 +60,7 @@ module _ (t : Network) (q : Purpose) (s : Mesh) (l : Lsp) (p : Plan) (i : ℕ) (
     abbrev message : Msg
     message = Path l e k r set label (Back true work primary)
 
-    abbrev asks : PathRequest
-    asks = record { arrival = arrival l e u k; route = r; set = set; upstream = label; role = role }
-
-    pub own : is_message_of l message ≡ true
-    own = same_lsp-refl l
-
-    abbrev Keeps : Answer → Type 0
-    Keeps a = KeepsDown t q s l p i route chain below message rest was own a
-
-    hop : Hop q p i (leg_at s l u) (leg_at s l d) (message ∷ messages_of l rest) (mail_between s l d u)
-    hop = down_hop t q s l p i route chain below message rest was own
-
-    over : k ≡ link_at p i
-    over = hop.rest.going_down.0.1
-
-    -- the steps that are left from the next node on
-    left : drop 1 r ≡ drop (suc (suc i)) p.route
-    left = ap (drop 1) hop.rest.going_down.0.2 ∙ drop-next (suc i) p.route
-
-    tells : Tells q (Back true work primary)
-    tells = hop.rest.going_down.0.3
+    open path-comes t q s l p i route chain below e k r set label role rest was use {asks, own, Keeps, hop, over, left, tells}
 
     module _ (g : Leg) (here : leg_at s l (node_at p (suc i)) ≡ Some g) (fits : LegFits t q l p (suc i) g)
         (held : g.phase ≡ Held) where

@@ -13,19 +13,19 @@ use Rattle.ason_base.specs.declared.risks.Risk.{Risk}
 use Rattle.ason_base.specs.declared.messages.Msg.{Msg}
 use Rattle.ason_base.specs.declared.messages.Msg.TheVariants.{Path, Resv, PathErr}
 use Rattle.ason_base.specs.declared.tables.Leg.{Leg}
-use Rattle.mesh_rules.specs.Changes.{Answer, sends}
+use Rattle.mesh_rules.specs.Changes.{sends}
 use Rattle.mesh_rules.specs.LocalNodes.{labels_of, own_link, fibre_in}
 use Rattle.mesh_rules.specs.KnownRows.{known_rows}
 use Rattle.mesh_rules.specs.Legs.{reserved}
-use Rattle.mesh_rules.specs.Paths.{PathRequest, back_label, is_none, is_primary_unknown, first_failure, checks}
+use Rattle.mesh_rules.specs.Paths.{back_label, is_none, is_primary_unknown, first_failure, checks}
 use Rattle.mesh_rules.specs.Paths.{error_to, egress_leg, set_on, transit_leg}
 use Rattle.mesh_rules.specs.Paths.{offered_labels, risks_here, at_egress, in_transit, admitted, judged}
 use Rattle.mesh_rules.specs.Paths.{role_of as asked_role}
-use Rattle.mesh_rules.specs.Messages.{arrival, on_message}
+use Rattle.mesh_rules.specs.Messages.{on_message}
 use Rattle.mesh_rules.specs.Machine.{Mesh}
 use Rattle.mesh_nodes.proofs.ChosenLabels.{has-left, least-has}
 use Rattle.lsp_laws.specs.HopShapes.{PlainPath, path_kind, phase_kind}
-use Rattle.lsp_laws.specs.HopLaw.{is_message_of, messages_of, leg_at, mail_between}
+use Rattle.lsp_laws.specs.HopLaw.{messages_of, leg_at, mail_between}
 use Rattle.lsp_laws.proofs.hops.Plans.{Plan, hops, node_at, link_at, fibre_at, IsRoute, Leads, distinct, other, lt_true, lt_false, joined, own_near, own_far, fibre_in_is, fibre_out_is}
 use Rattle.lsp_laws.proofs.hops.Labels.{back_label_of_link, back_label_same, left_of_link}
 use Rattle.mesh_nodes.proofs.LegList.{same_lsp-refl}
@@ -39,7 +39,8 @@ use Rattle.lsp_laws.proofs.hops.Sending.{sends_back, sends_on}
 use Rattle.lsp_laws.proofs.hops.LegKinds.{reserved_kind}
 use Rattle.lsp_laws.proofs.hops.Downstream.{path_last, path_passed, path_answered, path_refused}
 use Rattle.lsp_laws.proofs.hops.Upstream.{hop_idle, hop_asks}
-use Rattle.lsp_laws.proofs.hops.Taken.{ahead, KeepsDown, down_hop, down_mine, down_taken}
+use Rattle.lsp_laws.proofs.hops.PathComes.{path-comes}
+use Rattle.lsp_laws.proofs.hops.Taken.{ahead, down_mine, down_taken}
 use Rattle.lsp_laws.proofs.hops.PathLabels.{drop-further, drop-none, drop-some, primary_known, some_label}
 
 module _ (t : Network) (q : Purpose) (s : Mesh) (l : Lsp) (p : Plan) (i : ℕ) (route : IsRoute t l.ingress p)
@@ -52,17 +53,7 @@ module _ (t : Network) (q : Purpose) (s : Mesh) (l : Lsp) (p : Plan) (i : ℕ) (
   abbrev message : Msg
   message = Path l e k r set label purpose
 
-  abbrev asks : PathRequest
-  asks = record { arrival = arrival l e u k; route = r; set = set; upstream = label; role = purpose }
-
-  pub own : is_message_of l message ≡ true
-  own = same_lsp-refl l
-
-  abbrev Keeps : Answer → Type 0
-  Keeps a = KeepsDown t q s l p i route chain below message rest was own a
-
-  hop : Hop q p i (leg_at s l u) (leg_at s l d) (message ∷ messages_of l rest) (mail_between s l d u)
-  hop = down_hop t q s l p i route chain below message rest was own
+  open path-comes t q s l p i route chain below e k r set label purpose rest was use {asks, own, Keeps, hop}
 
   what : (e ≡ p.egress) × (k ≡ link_at p i) × (r ≡ drop (suc i) p.route) × Tells q purpose
   what = hop.rest.going_down.0

@@ -1,6 +1,6 @@
 -- A Path that doesn't activate is taken at a node of its route: a first one, or one that takes back the activation of a
 -- backup.
-use Rattle.std.proofs.Common.{◌≡◌, ◌<◌, ◌≤◌, ℕ, suc, true, false, List, [], ◌∷◌, refl, sym, ◌∙◌, subst, arith, inl, inr, append-nil, drop, ap}
+use Rattle.std.proofs.Common.{◌≡◌, ◌<◌, ◌≤◌, ℕ, suc, true, false, List, [], ◌∷◌, refl, sym, ◌∙◌, subst, arith, inl, inr, append-nil, drop}
 use Rattle.std.specs.Prelude.{◌⊎◌, Option, Some}
 use Rattle.ason_base.specs.Lsps.{same_lsp}
 use Rattle.ason_base.specs.Network.{Network}
@@ -16,18 +16,17 @@ use Rattle.ason_base.specs.declared.messages.Msg.{Msg}
 use Rattle.ason_base.specs.declared.messages.Msg.TheVariants.{Path}
 use Rattle.ason_base.specs.declared.tables.Leg.{Leg}
 use Rattle.mesh_rules.specs.Activations.{taken_back}
-use Rattle.mesh_rules.specs.Changes.{Answer, puts, to_node}
+use Rattle.mesh_rules.specs.Changes.{puts, to_node}
 use Rattle.mesh_rules.specs.LocalNodes.{local_node}
 use Rattle.mesh_rules.specs.Legs.{with_phase}
 use Rattle.mesh_rules.specs.Machine.{Mesh}
-use Rattle.mesh_rules.specs.Messages.{arrival, on_message}
-use Rattle.mesh_rules.specs.Paths.{PathRequest, path_with}
+use Rattle.mesh_rules.specs.Messages.{on_message}
+use Rattle.mesh_rules.specs.Paths.{path_with}
 use Rattle.lsp_laws.specs.HopShapes.{NoLeg, LiveLeg, PlainPath, leg_kind, path_kind}
-use Rattle.lsp_laws.specs.HopLaw.{is_message_of, messages_of, leg_at, mail_between}
+use Rattle.lsp_laws.specs.HopLaw.{messages_of, leg_at, mail_between}
 use Rattle.mesh_nodes.specs.Routes.{AreRowsOf}
 use Rattle.mesh_nodes.proofs.LegList.{same_lsp-refl}
 use Rattle.lsp_laws.proofs.hops.Activation.{takes_back, takes_back_on}
-use Rattle.lsp_laws.proofs.hops.ActivationRule.{drop-next}
 use Rattle.lsp_laws.proofs.hops.Chain.{Chain, Hop, LegFits, below_or_not}
 use Rattle.lsp_laws.proofs.hops.LegKinds.{gone_none, live_leg}
 use Rattle.lsp_laws.proofs.hops.LegChanges.{following_is, following_none, live_held_fits}
@@ -39,6 +38,7 @@ use Rattle.lsp_laws.proofs.hops.Purposes.{Purpose, Tells, role_of, tells_role}
 use Rattle.lsp_laws.proofs.hops.PathTaken.{plain_taken}
 use Rattle.lsp_laws.proofs.hops.Rows.{leg_downstream}
 use Rattle.lsp_laws.proofs.hops.Sending.{sends_none, sends_on}
+use Rattle.lsp_laws.proofs.hops.PathComes.{path-comes}
 use Rattle.lsp_laws.proofs.hops.Taken.{ahead, KeepsDown, down_hop, down_taken}
 
 module _ (t : Network) (q : Purpose) (s : Mesh) (l : Lsp) (p : Plan) (i : ℕ) (route : IsRoute t l.ingress p)
@@ -57,27 +57,7 @@ module _ (t : Network) (q : Purpose) (s : Mesh) (l : Lsp) (p : Plan) (i : ℕ) (
       abbrev message : Msg
       message = Path l e k r set label (Back false work primary)
 
-      abbrev asks : PathRequest
-      asks = record { arrival = arrival l e u k; route = r; set = set; upstream = label; role = purpose }
-
-      own : is_message_of l message ≡ true
-      own = same_lsp-refl l
-
-      abbrev Keeps : Answer → Type 0
-      Keeps a = KeepsDown t q s l p i route chain below message rest was own a
-
-      hop : Hop q p i (leg_at s l u) (leg_at s l d) (message ∷ messages_of l rest) (mail_between s l d u)
-      hop = down_hop t q s l p i route chain below message rest was own
-
-      over : k ≡ link_at p i
-      over = hop.rest.going_down.0.1
-
-      -- the steps that are left from the next node on
-      left : drop 1 r ≡ drop (suc (suc i)) p.route
-      left = ap (drop 1) hop.rest.going_down.0.2 ∙ drop-next (suc i) p.route
-
-      tells : Tells q (Back false work primary)
-      tells = hop.rest.going_down.0.3
+      open path-comes t q s l p i route chain below e k r set label purpose rest was use {asks, own, Keeps, hop, over, left, tells}
 
       -- the LSP is a backup
       backup : role_of q ≡ role.Back
