@@ -1,9 +1,7 @@
 //! That stations run at the same time, and that a frame passes within a round: what no contract says.
 
-ghost use Rattle.std.specs.Prelude.{◌≤◌};
-
-use crate::networks::{A, B, row, search_to};
-use ason_base::{Entry, Event, NodeId};
+use crate::networks::{A, B, LINK, pair};
+use ason_base::{Command, Entry, Event, Group, NodeId};
 use ason_io::{Gate, MemSink, MemSource};
 use ason_main::{Status, ason};
 use fleet::Fleet;
@@ -98,32 +96,6 @@ impl Gate for Handing {
     }
 }
 
-// A fleet of two nodes that a link joins, where a call between them was posted.
-fn fleet_of_two<R: Wait>(rt: &R, alloc: Global) -> Result<Fleet, Fail> {
-    let t = row(alloc, 2, 1)?;
-    let mut fleet = Fleet::new(alloc, &t)?;
-    match fleet.post(&search_to(0, B)) {
-        Ok(()) => Ok(fleet),
-        Err(refused) => {
-            fleet.end(rt);
-            Err(Fail::from(refused))
-        }
-    }
-}
-
-// How many nodes waited for the other in vain, in the first round on so many workers.
-fn waits_in_vain<R: Threads + Wait + Sync>(
-    rt: &R,
-    fleet: &mut Fleet,
-    workers: usize,
-) -> Result<u64, Fail>
-    requires { (1 ≤ workers) × (workers ≤ 16) }
-{
-    let gate = Meeting::new();
-    fleet.round(rt, workers, 1, &gate)?;
-    Ok(gate.in_vain())
-}
-
 // The first frame of a comes to b.
 fn is_first_frame(entry: &Entry) -> bool {
     match &entry.event {
@@ -132,12 +104,15 @@ fn is_first_frame(entry: &Entry) -> bool {
     }
 }
 
-// Whether b waited in vain for a's second line, and whether a's first frame came to it in the same round.
+// How often b waited in vain for a's second line, which is of the item on its desk, and whether a's first frame came to it
+// in the same round.
 fn hands_over<R: Threads + Wait + Sync>(
     rt: &R,
     alloc: Global,
     fleet: &mut Fleet,
 ) -> Result<(u64, bool), Fail> {
+    let group = Group::Link(LINK);
+    fleet.post(&Command::Fail { group })?;
     let gate = Handing {
         second: AtomicU64::new(0),
         gave_up: AtomicU64::new(0),
@@ -150,24 +125,16 @@ fn hands_over<R: Threads + Wait + Sync>(
     Ok((gate.gave_up.load(Ordering::SeqCst), came))
 }
 
-#[test]
-fn two_workers_meet(rt: HostRuntime) -> Result<(), Fail> {
-    let mut fleet = fleet_of_two(&rt, rt.alloc())?;
-    let in_vain = waits_in_vain(&rt, &mut fleet, 2);
-    fleet.end(&rt);
-    assert_eq!(rt; in_vain?, 0);
-    Ok(())
-}
-
-// What `ason` comes to with the plan on two workers, what it writes, and how many nodes waited for the other in vain.
-fn meet_in_a_run<R: Threads + Wait + Sync>(
+// Whether `ason` prints the table of the plan on so many workers, and how many nodes waited for the other in vain.
+fn meet<R: Threads + Wait + Sync>(
     rt: &R,
     alloc: Global,
-) -> Result<(Status, Vec<u8>, u64), Fail> {
+    workers: &str,
+) -> Result<(bool, u64), Fail> {
     let words = [
         String::from_str(alloc, "run")?,
         String::from_str(alloc, "--workers")?,
-        String::from_str(alloc, "2")?,
+        String::from_str(alloc, workers)?,
     ];
     let mut src = MemSource::new(PLAN.as_bytes().to_vec(alloc)?, Vec::new(alloc));
     let mut out = MemSink::new(alloc, TABLE.len(), Vec::new(alloc));
@@ -178,30 +145,26 @@ fn meet_in_a_run<R: Threads + Wait + Sync>(
     if let Some(fleet) = kept {
         fleet.end(rt);
     }
-    Ok((status, out.written().to_vec(alloc)?, gate.in_vain()))
+    let told = status == Status::Done && out.written() == TABLE.as_bytes();
+    Ok((told, gate.in_vain()))
 }
 
 #[test]
-fn two_workers_meet_in_a_run(rt: HostRuntime) -> Result<(), Fail> {
-    let (status, written, in_vain) = meet_in_a_run(&rt, rt.alloc())?;
-    assert!(rt; status == Status::Done);
-    assert!(rt; written.as_slice() == TABLE.as_bytes());
-    assert_eq!(rt; in_vain, 0);
+fn two_workers_meet(rt: HostRuntime) -> Result<(), Fail> {
+    assert_eq!(rt; meet(&rt, rt.alloc(), "2")?, (true, 0));
     Ok(())
 }
 
 #[test]
 fn one_worker_waits_in_vain(rt: HostRuntime) -> Result<(), Fail> {
-    let mut fleet = fleet_of_two(&rt, rt.alloc())?;
-    let in_vain = waits_in_vain(&rt, &mut fleet, 1);
-    fleet.end(&rt);
-    assert_eq!(rt; in_vain?, 1);
+    assert_eq!(rt; meet(&rt, rt.alloc(), "1")?, (true, 1));
     Ok(())
 }
 
 #[test]
 fn a_frame_passes_within_a_round(rt: HostRuntime) -> Result<(), Fail> {
-    let mut fleet = fleet_of_two(&rt, rt.alloc())?;
+    let t = pair(rt.alloc())?;
+    let mut fleet = Fleet::new(rt.alloc(), &t)?;
     let handed = hands_over(&rt, rt.alloc(), &mut fleet);
     fleet.end(&rt);
     assert_eq!(rt; handed?, (0, true));

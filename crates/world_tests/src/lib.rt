@@ -1,19 +1,11 @@
-//! Tests of controllers over channels, of stations and of fleets, over the public calls of their crates.
+//! Tests of fleets and of runs on threads, and of a source and a sink that fail: what no command shows.
 #![tactic(auto)]
 
 #[cfg(test)]
 mod faults;
 #[cfg(test)]
-mod fleets;
-#[cfg(test)]
 mod gates;
 #[cfg(test)]
 mod networks;
-#[cfg(test)]
-mod replays;
-#[cfg(test)]
-mod stations;
-#[cfg(test)]
-mod two_way;
 #[cfg(test)]
 mod views;

@@ -1,7 +1,7 @@
 //! That a viewer reads a published table while a round goes on: what no contract says.
 
 use crate::gates::{LOOKS, hold};
-use crate::networks::{A, row};
+use crate::networks::{A, pair};
 use ason_base::NodeId;
 use ason_io::{Gate, NoGate};
 use fleet::{Fleet, RoundFault};
@@ -91,7 +91,7 @@ fn reads_beside<R: Threads + Wait + Sync>(
 
 #[test]
 fn a_viewer_reads_within_a_round(rt: HostRuntime) -> Result<(), Fail> {
-    let t = row(rt.alloc(), 2, 1)?;
+    let t = pair(rt.alloc())?;
     let mut fleet = Fleet::new(rt.alloc(), &t)?;
     let in_vain = reads_beside(&rt, rt.alloc(), &mut fleet);
     fleet.end(&rt);
