@@ -24,8 +24,9 @@ use Rattle.mesh_rules.specs.PathErrs.{PathFailure}
 use Rattle.mesh_rules.specs.Pairs.{route_from}
 use Rattle.mesh_rules.specs.Reports.{call_reported, fibre_into, report_here, reported, reported_on, with_report}
 use Rattle.mesh_rules.specs.Resvs.{is_expected}
-use Rattle.mesh_rules.specs.LocalNodes.{local_node}
-use Rattle.mesh_rules.specs.Legs.{connected, following, is_armed, is_asked, is_closing, is_node, is_work, leg_of, previous, with_phase}
+use Rattle.mesh_rules.specs.LocalNodes.{LocalNode, local_node}
+use Rattle.mesh_rules.specs.State.{NodeState}
+use Rattle.mesh_rules.specs.Legs.{connected, find_leg, following, is_armed, is_asked, is_closing, is_node, is_work, leg_of, previous, with_phase}
 use Rattle.mesh_rules.specs.Messages.{arrival, on_message}
 use Rattle.mesh_rules.specs.Machine.{Mesh, without_first}
 use Rattle.mesh_rules.specs.Events.{has_first, on_first}
@@ -43,6 +44,20 @@ use Rattle.lsp_laws.proofs.hops.Stepped.{EachStepped, stepped_quiet, stepped_the
 use Rattle.lsp_laws.proofs.hops.Paired.{CallsMayPair, MayPair, answered_stepped, armed_backup, refused_stepped, no_previous, whole-route}
 use Rattle.lsp_laws.proofs.hops.Turned.{BackStands, contended_stepped, decide_stepped, turned_stepped}
 use Rattle.lsp_laws.proofs.hops.TakenSteps.{CallsBackHere, after_leg, reported_state, take_begins_none, take_follows, take_next}
+
+-- At a Resv that its leg expects at the ingress, the leg is connected.
+pub resv-connects : (p : LocalNode) (s : NodeState) (u : NodeId) (m : Msg) (l : Lsp) (e : NodeId) (k : LinkId) (x : ℕ)
+    (g : Leg) → m ≡ Resv l e k x → find_leg l s.legs ≡ Some g → is_expected (arrival l e u k) x g ≡ true →
+    previous g ≡ None → leg_part p s u m ≡ puts (connected g None x) []
+resv-connects p s u m l e k x g is here expected first =
+    ap (leg_part p s u) is ∙ ap (leg_of_resv p s (arrival l e u k) x) here ∙ rw (expected, first) refl
+
+-- At a Resv that confirms its activation there, the leg is Live.
+pub resv-confirms : (p : LocalNode) (s : NodeState) (u : NodeId) (m : Msg) (l : Lsp) (e : NodeId) (k : LinkId) (x : ℕ)
+    (g : Leg) → m ≡ Resv l e k x → find_leg l s.legs ≡ Some g → is_expected (arrival l e u k) x g ≡ false →
+    is_confirmed (arrival l e u k) x g ≡ true → previous g ≡ None → leg_part p s u m ≡ puts (with_phase Live g) []
+resv-confirms p s u m l e k x g is here other c first =
+    ap (leg_part p s u) is ∙ ap (leg_of_resv p s (arrival l e u k) x) here ∙ rw (other, c, first) refl
 
 module _ (t : Network) (s : Mesh) (o : Routes) (d u : NodeId) (m : Msg) (rest : List Msg)
     (was : s.mail u.0 d.0 ≡ m ∷ rest) (learnt : AreRowsOf t (s.nodes d.0).learnt) where
@@ -141,25 +156,12 @@ module _ (t : Network) (s : Mesh) (o : Routes) (d u : NodeId) (m : Msg) (rest : 
     resv_call l e k x is None here = quiet
     resv_call l e k x is (Some g) here =
         if_cases Steps (is_expected (arrival l e u k) x g) _ _
-        (λ expected. answered_here l g here x (previous g) refl (λ first. part expected first))
+        (λ expected. answered_here l g here x (previous g) refl (λ first.
+        resv-connects (local_node t d) (s.nodes d.0) u m l e k x g is here expected first))
         (λ other. if_cases Steps (is_confirmed (arrival l e u k) x g) _ _
         (λ c. turned_here l g here (armed-is g.phase (both_left (is_armed g.phase) _ c)) (previous g) refl
-        (λ first. confirmed other c first))
+        (λ first. resv-confirms (local_node t d) (s.nodes d.0) u m l e k x g is here other c first))
         (λ c. quiet))
-      where
-        part : is_expected (arrival l e u k) x g ≡ true → previous g ≡ None →
-            leg_part (local_node t d) (s.nodes d.0) u m ≡ puts (connected g None x) []
-        part expected first =
-            ap (leg_part (local_node t d) (s.nodes d.0) u) is ∙
-            ap (leg_of_resv (local_node t d) (s.nodes d.0) (arrival l e u k) x) here ∙
-            rw (expected, first) refl
-
-        confirmed : is_expected (arrival l e u k) x g ≡ false → is_confirmed (arrival l e u k) x g ≡ true →
-            previous g ≡ None → leg_part (local_node t d) (s.nodes d.0) u m ≡ puts (with_phase Live g) []
-        confirmed other c first =
-            ap (leg_part (local_node t d) (s.nodes d.0) u) is ∙
-            ap (leg_of_resv (local_node t d) (s.nodes d.0) (arrival l e u k) x) here ∙
-            rw (other, c, first) refl
 
     err_call : (l : Lsp) (failure : PathFailure) (h : Option Leg) → leg_at s l d ≡ h →
         Steps (call_of_err (s.nodes d.0) u failure h)
