@@ -28,14 +28,14 @@ use Rattle.mesh_nodes.specs.Routes.{AreRowsOf}
 use Rattle.mesh_nodes.proofs.Cases.{both_left, if_cases}
 use Rattle.mesh_nodes.proofs.LegList.{found-lsp, same_lsp-refl}
 use Rattle.lsp_laws.proofs.nodes.PhaseLegs.{armed-is}
-use Rattle.lsp_laws.proofs.hops.InParts.{at_ingress, call_of_err, call_of_failure, call_of_resv, leg_of_resv, leg_part}
+use Rattle.lsp_laws.proofs.hops.InParts.{at_ingress, call_of_err, call_of_failure, call_of_resv, leg_part}
 use Rattle.lsp_laws.proofs.hops.NoticeRule.{notice_only}
 use Rattle.lsp_laws.proofs.hops.Paired.{CallsMayPair, armed_backup, no_previous}
 use Rattle.lsp_laws.proofs.hops.Planned.{EachFollows, next_same}
 use Rattle.lsp_laws.proofs.hops.Own.{own-leg_part}
 use Rattle.lsp_laws.proofs.hops.Tables.{leg_after}
 use Rattle.lsp_laws.proofs.hops.TakenSteps.{CallsBackHere, after_leg}
-use Rattle.lsp_laws.proofs.hops.Traced.{leg_follows}
+use Rattle.lsp_laws.proofs.hops.Traced.{leg_follows, resv-confirms, resv-connects}
 use Rattle.lsp_laws.proofs.hops.Views.{leg-here}
 use Rattle.mesh_laws.specs.Weights.{Routes, hops_back, phase_weight, weight}
 use Rattle.mesh_laws.proofs.rest.CallRests.{answered-expand, contended-expand, none-expand, refused-expand, turned-expand}
@@ -197,28 +197,14 @@ module _ (t : Network) (s : Mesh) (o : Routes) (d u : NodeId) (m : Msg) (rest : 
       if_cases Less (is_expected (arrival l e u k) x g) _ _
       (λ expected. answered l g here x (previous g) refl
       (asked-phase g.phase (both_left (is_asked g.phase) _ expected)) weighs
-      (λ first. part expected first))
+      (λ first. resv-connects place state u m l e k x g is here expected first))
       (λ other. if_cases Less (is_confirmed (arrival l e u k) x g) _ _
       (λ c. turned l g here (previous g) refl (armed-is g.phase (both_left (is_armed g.phase) _ c)) weighs
-      (λ first. confirmed other c first))
+      (λ first. resv-confirms place state u m l e k x g is here other c first))
       (λ c. quiet))
     where
       weighs : weight o s u.0 d.0 m ≡ phase_weight g.phase g.role (suc (hops_back o l d.0))
       weighs = ap (weight o s u.0 d.0) is ∙ rw here refl
-
-      part : is_expected (arrival l e u k) x g ≡ true → previous g ≡ None →
-          leg_part (local_node t d) (s.nodes d.0) u m ≡ puts (connected g None x) []
-      part expected first =
-          ap (leg_part (local_node t d) (s.nodes d.0) u) is ∙
-          ap (leg_of_resv (local_node t d) (s.nodes d.0) (arrival l e u k) x) here ∙
-          rw (expected, first) refl
-
-      confirmed : is_expected (arrival l e u k) x g ≡ false → is_confirmed (arrival l e u k) x g ≡ true →
-          previous g ≡ None → leg_part (local_node t d) (s.nodes d.0) u m ≡ puts (with_phase Live g) []
-      confirmed other c first =
-          ap (leg_part (local_node t d) (s.nodes d.0) u) is ∙
-          ap (leg_of_resv (local_node t d) (s.nodes d.0) (arrival l e u k) x) here ∙
-          rw (other, c, first) refl
 
   -- A PathErr: the call is refused, or its backup is contended.
   pub err_call : (l : Lsp) (failure : PathFailure) (h : Option Leg) → leg_at s l d ≡ h →
