@@ -31,7 +31,7 @@ use Rattle.lsp_laws.proofs.hops.Activation.{contention_passes, disarms}
 use Rattle.lsp_laws.proofs.hops.Downstream.{asked_lets_go, torn_goes}
 use Rattle.lsp_laws.proofs.hops.Upstream.{contention_kept, removal_leaves}
 use Rattle.lsp_laws.proofs.hops.InParts.{leg_contended, leg_disarmed, leg_of_err, leg_refused, leg_removed}
-use Rattle.lsp_laws.proofs.hops.Taken.{KeepsUp, up_hop, up_taken}
+use Rattle.lsp_laws.proofs.hops.Taken.{before-place, KeepsUp, up_hop, up_taken}
 
 module _ (t : Network) (q : Purpose) (s : Mesh) (l : Lsp) (p : Plan) (i : ℕ) (route : IsRoute t l.ingress p)
     (chain : Chain t q l p (leg_at s l) (mail_between s l)) (below : i < hops p)
@@ -65,24 +65,16 @@ module _ (t : Network) (q : Purpose) (s : Mesh) (l : Lsp) (p : Plan) (i : ℕ) (
         (messages_of l rest)
     leaves = removal_leaves q p i _ _ _ g l e at code (rw (here, removes_it) at hop)
 
-    hop_before : (k : ℕ) → suc k ≡ i →
-        Hop q p k (leg_at s l (node_at p k)) (Some g) (mail_between s l (node_at p k) n)
-        (mail_between s l n (node_at p k))
-    hop_before k eq =
-        let before : Hop q p k (leg_at s l (node_at p k)) (leg_at s l n) (mail_between s l (node_at p k) n)
-        (mail_between s l n (node_at p k)) =
-        rw (← eq) (chain.each k (omega arith)) in
-        rw here at before
-
     -- a torn leg goes
     torn : IsTorn (role_of q) (leg_kind (Some g)) → Keeps (removes g.lsp [])
     torn is_torn =
         up_taken t q s l p i route chain below message rest was own (removes g.lsp []) None [] []
         (rw mine refl) (sends_none l p i) tt
-        (λ k eq. torn_goes q p k _ _ _ g (hop_before k eq) is_torn)
+        (λ k eq. torn_goes q p k _ _ _ g (before-place t q s l p i chain below g here k eq) is_torn)
         leaves
         (λ k eq _ path. let none =
-        no_path_down _ (torn_leaves (role_of q) _ _ _ _ is_torn (hop_before k eq).shape).down_is in cc (none, path))
+        no_path_down _ (torn_leaves (role_of q) _ _ _ _ is_torn
+        (before-place t q s l p i chain below g here k eq).shape).down_is in cc (none, path))
         refl
 
     first_goes : i ≡ 0 → Keeps (removes g.lsp [])
@@ -100,11 +92,13 @@ module _ (t : Network) (q : Purpose) (s : Mesh) (l : Lsp) (p : Plan) (i : ℕ) (
         (subst (λ i. Sends p i (sent_by l (to_node (node_at p j) message ∷ [])) (message ∷ []) []) before
         (sends_back t l l.ingress p route j message (omega arith) own)) tt
         (λ k eq. rw removes_it
-        (asked_lets_go q p k _ _ _ g (hop_before k eq) None l e at code asked NothingLeft refl))
+        (asked_lets_go q p k _ _ _ g
+        (before-place t q s l p i chain below g here k eq) None l e at code asked NothingLeft refl))
         leaves
         (λ k eq _ path.
         let none =
-        no_path_down _ (asked_answers (role_of q) _ _ _ (rw asked at (hop_before k eq).shape)).down_is in
+        no_path_down _ (asked_answers (role_of q) _ _ _ (rw asked at
+        (before-place t q s l p i chain below g here k eq).shape)).down_is in
         cc (none, path))
         refl
 
@@ -136,15 +130,6 @@ module _ (t : Network) (q : Purpose) (s : Mesh) (l : Lsp) (p : Plan) (i : ℕ) (
         disarms q p i g (leg_at s l (node_at p (suc i))) (PathErr l e at false code) _ _ armed refl
         (rw (here, removes_none) at hop)
 
-    again_before : (k : ℕ) → suc k ≡ i →
-        Hop q p k (leg_at s l (node_at p k)) (Some g) (mail_between s l (node_at p k) n)
-        (mail_between s l n (node_at p k))
-    again_before k eq =
-        let before : Hop q p k (leg_at s l (node_at p k)) (leg_at s l n) (mail_between s l (node_at p k) n)
-        (mail_between s l n (node_at p k)) =
-        rw (← eq) (chain.each k (omega arith)) in
-        rw here at before
-
     first_again : i ≡ 0 → Keeps (leg_disarmed g message None)
     first_again first =
         up_taken t q s l p i route chain below message rest was own
@@ -163,7 +148,8 @@ module _ (t : Network) (q : Purpose) (s : Mesh) (l : Lsp) (p : Plan) (i : ℕ) (
         (sends_back t l l.ingress p route j message (omega arith) own))
         (held_fits t q l p i g fits armed)
         (λ k eq. rw removes_none
-        (contention_passes q p k (leg_at s l (node_at p k)) g l e at code _ _ armed (again_before k eq)))
+        (contention_passes q p k (leg_at s l (node_at p k)) g l e at code _ _ armed
+        (before-place t q s l p i chain below g here k eq)))
         again_after (λ k eq none. absurd cc) refl
 
     armed_test : is_armed g.phase ≡ true

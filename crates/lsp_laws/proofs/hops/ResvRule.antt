@@ -42,7 +42,7 @@ use Rattle.lsp_laws.proofs.hops.ActivationRule.{resv-is}
 use Rattle.lsp_laws.proofs.hops.Downstream.{asked_reserved, asked_lets_go}
 use Rattle.lsp_laws.proofs.hops.Upstream.{resv_connects, resv_closes, resv_kept, resv_sent}
 use Rattle.lsp_laws.proofs.hops.InParts.{leg_answers, leg_confirmed, leg_of_resv}
-use Rattle.lsp_laws.proofs.hops.Taken.{KeepsUp, up_hop, up_taken}
+use Rattle.lsp_laws.proofs.hops.Taken.{before-place, KeepsUp, up_hop, up_taken}
 
 module _ (t : Network) (q : Purpose) (s : Mesh) (l : Lsp) (p : Plan) (i : ℕ) (route : IsRoute t l.ingress p)
     (chain : Chain t q l p (leg_at s l) (mail_between s l)) (below : i < hops p)
@@ -85,21 +85,12 @@ module _ (t : Network) (q : Purpose) (s : Mesh) (l : Lsp) (p : Plan) (i : ℕ) (
     hop_of : Hop q p i (Some g) (leg_at s l far) (mail_between s l n far) (Resv l e k x ∷ messages_of l rest)
     hop_of = rw here at hop
 
-    hop_before : (j : ℕ) → suc j ≡ i →
-        Hop q p j (leg_at s l (node_at p j)) (Some g) (mail_between s l (node_at p j) n)
-        (mail_between s l n (node_at p j))
-    hop_before j eq =
-        let before : Hop q p j (leg_at s l (node_at p j)) (leg_at s l n) (mail_between s l (node_at p j) n)
-        (mail_between s l n (node_at p j)) =
-        rw (← eq) (chain.each j (omega arith)) in
-        rw here at before
-
     -- a torn leg changes nothing
     kept : IsTorn (role_of q) (leg_kind (Some g)) → Keeps nothing
     kept torn =
         up_taken t q s l p i route chain below (Resv l e k x) rest was own nothing (Some g) [] [] here
         (sends_none l p i) fits
-        (λ j eq. rw append-nil (hop_before j eq))
+        (λ j eq. rw append-nil (before-place t q s l p i chain below g here j eq))
         (resv_kept q p i _ _ _ g l e k x torn hop_of) (λ j eq gone. absurd cc) refl
 
     module _ (asked : g.phase ≡ Asked) where
@@ -130,7 +121,8 @@ module _ (t : Network) (q : Purpose) (s : Mesh) (l : Lsp) (p : Plan) (i : ℕ) (
           (err ∷ []) (tear ∷ [])) before
           (sends_on_back t l l.ingress p route j tear err (omega arith) mine mine))
           (closed_fits t q l p i g fits below)
-          (λ m eq. asked_lets_go q p m _ _ _ g (hop_before m eq) (Some (closed g)) g.lsp g.egress n label_code asked
+          (λ m eq. asked_lets_go q p m _ _ _ g
+          (before-place t q s l p i chain below g here m eq) (Some (closed g)) g.lsp g.egress n label_code asked
           (StillWaits (closed_torn t q l p i g fits)) refl)
           (resv_closes q p i _ _ _ g l e k x asked hop_of (closed g) g.lsp g.egress k (rw asked refl) refl refl refl
           over)
@@ -162,7 +154,8 @@ module _ (t : Network) (q : Purpose) (s : Mesh) (l : Lsp) (p : Plan) (i : ℕ) (
             back_of_link = fits.labels.back_of_link;
           }))
           (λ m eq. let at_j : m ≡ j = omega arith in
-          asked_reserved q p m _ _ _ g (hop_before m eq) (connected g (Some y) x) g.lsp g.egress (link_at p j) y
+          asked_reserved q p m _ _ _ g
+          (before-place t q s l p i chain below g here m eq) (connected g (Some y) x) g.lsp g.egress (link_at p j) y
           asked (kind (Some y)) refl refl offered (rw at_j refl))
           (resv_connects q p i _ _ _ g l e k x asked hop_of (connected g (Some y) x)
           (kind (Some y)) refl refl refl)
@@ -239,7 +232,7 @@ module _ (t : Network) (q : Purpose) (s : Mesh) (l : Lsp) (p : Plan) (i : ℕ) (
           (λ m eq. let at_j : m ≡ j = omega arith in
           live_answers q p m (leg_at s l (node_at p m)) g g.lsp g.egress (link_at p j) into.0 _ _ armed (rw at_j refl)
           into.1 (in_use_out t q l p m (leg_at s l (node_at p m)) (chain.fits m (omega arith)) (omega arith))
-          (hop_before m eq))
+          (before-place t q s l p i chain below g here m eq))
           far_has (λ m eq gone. absurd cc) refl)
 
       confirmed_at : Before i → Keeps (leg_confirmed g (previous g))

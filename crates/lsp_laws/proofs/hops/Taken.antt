@@ -1,6 +1,6 @@
 -- A message of an LSP is taken at a place of its route: what is left of the whole route.
 use Rattle.std.proofs.Common.{◌≡◌, ◌≢◌, ◌<◌, ◌≤◌, ℕ, suc, true, false, List, [], ◌∷◌, ◌++◌, refl, sym, ◌∙◌, arith, inl, inr}
-use Rattle.std.specs.Prelude.{◌⊎◌, Option, None}
+use Rattle.std.specs.Prelude.{◌⊎◌, Option, None, Some}
 use Rattle.ason_base.specs.Network.{Network}
 use Rattle.ason_base.specs.declared.ids.Lsp.{Lsp}
 use Rattle.ason_base.specs.declared.ids.NodeId.{NodeId}
@@ -52,6 +52,18 @@ ahead t s p i = record {
   place = local_node t (node_at p (suc i));
   state = s.nodes (node_at p (suc i)).0;
 }
+
+-- The hop before a place of a route, where this leg stands at the place.
+pub before-place : (t : Network) (q : Purpose) (s : Mesh) (l : Lsp) (p : Plan) (i : ℕ) →
+    Chain t q l p (leg_at s l) (mail_between s l) → i < hops p → (g : Leg) → leg_at s l (node_at p i) ≡ Some g →
+    (k : ℕ) → suc k ≡ i →
+    Hop q p k (leg_at s l (node_at p k)) (Some g) (mail_between s l (node_at p k) (node_at p i))
+    (mail_between s l (node_at p i) (node_at p k))
+before-place t q s l p i chain below g here k eq =
+    let before : Hop q p k (leg_at s l (node_at p k)) (leg_at s l (node_at p i))
+    (mail_between s l (node_at p k) (node_at p i)) (mail_between s l (node_at p i) (node_at p k)) =
+    rw (← eq) (chain.each k (omega arith)) in
+    rw here at before
 
 -- a message that came down from place i
 module _ (t : Network) (q : Purpose) (s : Mesh) (l : Lsp) (p : Plan) (i : ℕ) (route : IsRoute t l.ingress p)

@@ -2,6 +2,7 @@
 use Rattle.std.specs.Prelude.{◌≡◌, ◌<◌, ◌==◌, ◌||◌, ◌⊎◌, ℕ, false, not, List, Some, None, IsTrue, IfSome, is_some}
 use Rattle.ason_base.specs.declared.ids.CallNo.{CallNo}
 use Rattle.ason_base.specs.declared.ids.Fibre.{Fibre}
+use Rattle.ason_base.specs.declared.network.TeRow.{TeRow}
 use Rattle.ason_base.specs.declared.ids.Lsp.{Lsp}
 use Rattle.ason_base.specs.declared.calls.Phase.{Phase}
 use Rattle.ason_base.specs.declared.calls.Phase.TheVariants.{Asked, Closing, Falling}
@@ -104,6 +105,20 @@ pub record NodeFacts (n : ℕ) (s : NodeState) : Type 0 where
   -- the LSP of a leg that begins here and isn't torn has a call
   pub has_call : (l : Lsp) (g : Leg) → find_leg l s.legs ≡ Some g → l.ingress.0 ≡ n → is_closing g.phase ≡ false →
       HasCall s.calls l
+
+-- What a node keeps but for legs and calls doesn't matter to them.
+pub same-facts : (n : ℕ) (s : NodeState) (learnt : List TeRow) (down : List Fibre) → NodeFacts n s →
+    NodeFacts n (record s { learnt = learnt; down = down })
+same-facts n s learnt down facts = record {
+  legs_rise = facts.legs_rise;
+  leg = facts.leg;
+  labels = facts.labels;
+  marks = facts.marks;
+  calls_rise = facts.calls_rise;
+  call = facts.call;
+  one_call = facts.one_call;
+  has_call = facts.has_call;
+}
 
 -- Every node
 

@@ -32,7 +32,7 @@ use Rattle.mesh_nodes.proofs.Cases.{both_left, if_cases}
 use Rattle.mesh_nodes.proofs.LearnsNothing.{item-learns_nothing, message-learns_nothing, tick-learns_nothing}
 use Rattle.mesh_nodes.proofs.routes.Learnt.{found-row, learnt-stay_true, same-rows_true}
 use Rattle.lsp_laws.specs.NodeLaw.{DeskFits, FitsDesk}
-use Rattle.lsp_laws.proofs.nodes.Facts.{MeshFacts, NodeFacts}
+use Rattle.lsp_laws.proofs.nodes.Facts.{MeshFacts, NodeFacts, same-facts}
 use Rattle.lsp_laws.proofs.nodes.BackedCalls.{AreBacked, CallsBacked, backed-after, backs-item, backs-message, backs-tick}
 use Rattle.lsp_laws.proofs.nodes.PathKeeps.{Keeps}
 use Rattle.lsp_laws.proofs.nodes.MessageKeeps.{keeps-on_message}
@@ -220,16 +220,8 @@ keeps-posted t s (Repair g) valid facts = keeps-failed t s (without_group g s.fa
 
 pub keeps-row : (p : LocalNode) (s : NodeState) (row : TeRow) → NodeFacts p.id.0 s → Keeps p s (on_row p s row)
 keeps-row p s row facts =
-    if_cases (Keeps p s) (has_row (known_rows p s) row.link) nothing (learns row) (λ known. facts) (λ none. record {
-      legs_rise = facts.legs_rise;
-      leg = facts.leg;
-      labels = facts.labels;
-      marks = facts.marks;
-      calls_rise = facts.calls_rise;
-      call = facts.call;
-      one_call = facts.one_call;
-      has_call = facts.has_call;
-    })
+    if_cases (Keeps p s) (has_row (known_rows p s) row.link) nothing (learns row) (λ known. facts)
+    (λ none. same-facts p.id.0 s (s.learnt ++ row ∷ []) s.down facts)
 
 keeps-link : (p : LocalNode) (s : NodeState) (o : Option LinkSpec) → NodeFacts p.id.0 s → Keeps p s (on_link p s o)
 keeps-link p s None facts = facts

@@ -28,7 +28,7 @@ use Rattle.mesh_nodes.proofs.Cases.{both_left, both_right, if_cases}
 use Rattle.mesh_nodes.proofs.CallList.{called-found, called-names, found-number}
 use Rattle.mesh_nodes.proofs.LegList.{found-lsp}
 use Rattle.lsp_laws.specs.CallLaw.{FitsLegs, phase_of}
-use Rattle.lsp_laws.proofs.nodes.Facts.{NodeFacts}
+use Rattle.lsp_laws.proofs.nodes.Facts.{NodeFacts, same-facts}
 use Rattle.lsp_laws.proofs.nodes.CallParts.{lsp-is, named-by, is-lsp}
 use Rattle.lsp_laws.proofs.nodes.Decides.{backup-row, decide-after, decide-alone, revised, turn-after}
 use Rattle.lsp_laws.proofs.nodes.CallTouched.{same-leg}
@@ -170,16 +170,7 @@ keeps-retry p s n from (Some c) is facts =
 
 keeps-knows : (p : LocalNode) (s : NodeState) (f : Fibre) (code : ErrCode) (fibres : List Fibre) →
     NodeFacts p.id.0 s → Keeps p s (knows_down p s f code fibres)
-keeps-knows p s f code fibres facts = record {
-  legs_rise = facts.legs_rise;
-  leg = facts.leg;
-  labels = facts.labels;
-  marks = facts.marks;
-  calls_rise = facts.calls_rise;
-  call = facts.call;
-  one_call = facts.one_call;
-  has_call = facts.has_call;
-}
+keeps-knows p s f code fibres facts = same-facts p.id.0 s s.learnt fibres facts
 
 pub keeps-alarm : (p : LocalNode) (s : NodeState) (f : Fibre) → NodeFacts p.id.0 s → Keeps p s (on_alarm p s f)
 keeps-alarm p s f facts =
