@@ -1,5 +1,5 @@
 -- The one's complement sum, word by word.
-use Rattle.std.proofs.Common.{◌≡◌, ℕ, zero, suc, ◌+◌, ◌-◌, ◌*◌, ◌%◌, ◌<◌, ◌≤◌, List, [], ◌∷◌, ◌++◌, length, drop, refl}
+use Rattle.std.proofs.Common.{◌≡◌, ℕ, zero, suc, ◌+◌, ◌-◌, ◌*◌, ◌%◌, ◌^◌, ◌<◌, ◌≤◌, List, [], ◌∷◌, ◌++◌, length, drop, refl}
 use Rattle.std.proofs.Common.{ap, ◌∙◌, arith, cond, length-drop, ltb, true, false}
 use Rattle.std.specs.Prelude.{◌↔◌, sum, All}
 use Rattle.std.proofs.lemmas.Bool.{ltb-true, ltb-false}
@@ -12,7 +12,7 @@ use Rattle.wire_buf.specs.Checksum.{words, ones_of, ones_add}
 -- what was added up so far, and what is still to come: with it the sum is the whole one in one's complement
 pub record SumsTo (bytes left : List ℕ) (so_far : ℕ) : Type 0 where
   pub whole : ones_of (so_far + sum (words left)) ≡ ones_of (sum (words bytes))
-  pub few : so_far + 4294967296 * length left ≤ 4294967296 * length bytes
+  pub few : so_far + 2 ^ 61 * length left ≤ 2 ^ 61 * length bytes
 
 read_two : (a b : ℕ) (left : List ℕ) → big_number 2 (a ∷ b ∷ left) ≡ a * 256 + b
 read_two a b left = omega arith
@@ -80,12 +80,47 @@ pair_wraps n (a ∷ b ∷ c ∷ d ∷ left) h =
     let whole : ℕ = n + sum (words (a ∷ b ∷ c ∷ d ∷ left)) in
     ap ones_of (omega (arith, read, front)) ∙ wraps whole high (λ none. omega (arith, front, none))
 
+eight_bytes : (a b c d : ℕ) (rest : List ℕ) → 4 ≤ length rest →
+    big_number 8 (a ∷ b ∷ c ∷ d ∷ rest) ≡ big_number 4 (a ∷ b ∷ c ∷ d ∷ rest) * 4294967296 + big_number 4 rest
+eight_bytes a b c d [] h = absurd (omega arith)
+eight_bytes a b c d (e ∷ []) h = absurd (omega arith)
+eight_bytes a b c d (e ∷ f ∷ []) h = absurd (omega arith)
+eight_bytes a b c d (e ∷ f ∷ g ∷ []) h = absurd (omega arith)
+eight_bytes a b c d (e ∷ f ∷ g ∷ k ∷ rest) h = omega arith
+
+-- and a number of eight bytes for its four words
+four_wraps : (n : ℕ) (left : List ℕ) → 8 ≤ length left →
+    ones_of (n + big_number 8 left + sum (words (drop 8 left))) ≡ ones_of (n + sum (words left))
+four_wraps n [] h = absurd (omega arith)
+four_wraps n (a ∷ []) h = absurd (omega arith)
+four_wraps n (a ∷ b ∷ []) h = absurd (omega arith)
+four_wraps n (a ∷ b ∷ c ∷ []) h = absurd (omega arith)
+four_wraps n (a ∷ b ∷ c ∷ d ∷ rest) h =
+    let long : 4 ≤ length rest = omega arith in
+    let first : ℕ = big_number 4 (a ∷ b ∷ c ∷ d ∷ rest) in
+    let last : ℕ = big_number 4 rest in
+    let others : ℕ = sum (words (drop 4 rest)) in
+    let read : big_number 8 (a ∷ b ∷ c ∷ d ∷ rest) ≡ first * 4294967296 + last = eight_bytes a b c d rest long in
+    let shape : n + (first * 4294967296 + last) + others ≡ n + first + last + others + 65535 * (65537 * first) =
+    omega arith in
+    ap (λ (m : ℕ). ones_of (n + m + others)) read ∙ ap ones_of shape
+    ∙ wraps (n + first + last + others) (65537 * first) (λ none. omega (arith, none))
+    ∙ pair_wraps (n + first) rest long ∙ pair_wraps n (a ∷ b ∷ c ∷ d ∷ rest) (omega arith)
+
 pub adds_pair : (bytes left after : List ℕ) (so_far pair new : ℕ) → 4 ≤ length left → pair ≡ big_number 4 left →
     pair < 4294967296 → after ≡ drop 4 left → new ≡ so_far + pair → SumsTo bytes left so_far → SumsTo bytes after new
 adds_pair bytes left after so_far pair new long is_pair fits is_after is_new sums = record {
   whole =
       rw (is_after, is_new, is_pair) (pair_wraps so_far left long ∙ sums.whole);
   few = rw is_after (omega (arith, sums.few, length-drop 4 left));
+}
+
+pub adds_four : (bytes left after : List ℕ) (so_far four new : ℕ) → 8 ≤ length left → four ≡ big_number 8 left →
+    four < 2 ^ 64 → after ≡ drop 8 left → new ≡ so_far + four → SumsTo bytes left so_far → SumsTo bytes after new
+adds_four bytes left after so_far four new long is_four fits is_after is_new sums = record {
+  whole =
+      rw (is_after, is_new, is_four) (four_wraps so_far left long ∙ sums.whole);
+  few = rw is_after (omega (arith, sums.few, length-drop 8 left));
 }
 
 pub sums_all : (bytes left : List ℕ) (so_far last new : ℕ) → last ≡ sum (words left) → new ≡ so_far + last →

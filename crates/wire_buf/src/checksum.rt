@@ -60,13 +60,16 @@ fn last_words(cursor: &mut Cursor) -> u32
 }
 
 /// The one's complement of the one's complement sum of the 16-bit words. An odd last byte is the high byte of a word
-/// whose low byte is 0 (RFC 1071, sections 1 and 4.1). Two words are added at a time, as one number of four bytes, which
-/// is their sum in one's complement (section 2, C).
+/// whose low byte is 0 (RFC 1071, sections 1 and 4.1). Four words are added at a time, then two, as one number, which is
+/// their sum in one's complement (section 2, C).
 pub fn internet_checksum(bytes: &[u8]) -> u16
     ensures { result ≡ checksum_of bytes.now }
 {
     let mut cursor = Cursor::new(bytes);
     let mut sum = 0u128;
+    'fours: while let Some(four) = cursor.u64() {
+        sum += u128::from(four);
+    }
     'pairs: while let Some(pair) = cursor.u32() {
         sum += u128::from(pair);
     }

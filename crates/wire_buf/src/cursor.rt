@@ -72,6 +72,15 @@ impl<'a> Cursor<'a> {
         Some(BigEndian::read_u32(field))
     }
 
+    /// The next eight bytes. None, and the cursor unchanged, exactly where fewer are left.
+    pub fn u64(&mut self) -> Option<u64>
+        ensures value { SomeIff result (8 ≤ length self.old) (big_number 8 self.old) }
+        ensures left { self.new ≡ (if is_some result then drop 8 self.old else self.old) }
+    {
+        let field = self.take(8)?;
+        Some(BigEndian::read_u64(field))
+    }
+
     /// The next n bytes as they are. None, and the cursor unchanged, exactly where fewer are left.
     pub fn take(&mut self, n: usize) -> Option<&'a [u8]>
         ensures value { MatchOption result (length self.old < n)
