@@ -1,5 +1,8 @@
 //! Classes of objects.
 
+ghost use Rattle.std.specs.Prelude.{◌≡◌};
+ghost use Rattle.rsvp_messages.specs.Objects.{is_among, known_classes};
+
 pub(crate) const SESSION: u8 = 1;
 
 pub(crate) const RSVP_HOP: u8 = 3;
@@ -46,29 +49,34 @@ pub(crate) const NOTIFY_REQUEST: u8 = 195;
 
 pub(crate) const ASSOCIATION: u8 = 199;
 
-/// The classes that a message reads, or else carries. Others are ignored from 128 on.
-pub(crate) const KNOWN_CLASSES: [u8; 23] = [
-    SESSION,
-    RSVP_HOP,
-    TIME_VALUES,
-    ERROR_SPEC,
-    STYLE,
-    FLOWSPEC,
-    FILTER_SPEC,
-    SENDER_TEMPLATE,
-    SENDER_TSPEC,
-    ADSPEC,
-    POLICY_DATA,
-    LABEL,
-    LABEL_REQUEST,
-    EXPLICIT_ROUTE,
-    RECORD_ROUTE,
-    MESSAGE_ID,
-    MESSAGE_ID_ACK,
-    UPSTREAM_LABEL,
-    LABEL_SET,
-    PROTECTION,
-    PRIMARY_PATH_ROUTE,
-    NOTIFY_REQUEST,
-    ASSOCIATION,
-];
+/// Whether a message reads objects of this class, or else carries them. Others are ignored from 128 on.
+pub(crate) fn is_known(class: u8) -> bool
+    ensures { result ≡ is_among known_classes class }
+{
+    matches!(
+        class,
+        SESSION
+            | RSVP_HOP
+            | TIME_VALUES
+            | ERROR_SPEC
+            | STYLE
+            | FLOWSPEC
+            | FILTER_SPEC
+            | SENDER_TEMPLATE
+            | SENDER_TSPEC
+            | ADSPEC
+            | POLICY_DATA
+            | LABEL
+            | LABEL_REQUEST
+            | EXPLICIT_ROUTE
+            | RECORD_ROUTE
+            | MESSAGE_ID
+            | MESSAGE_ID_ACK
+            | UPSTREAM_LABEL
+            | LABEL_SET
+            | PROTECTION
+            | PRIMARY_PATH_ROUTE
+            | NOTIFY_REQUEST
+            | ASSOCIATION
+    )
+}

@@ -8,9 +8,9 @@ ghost use Rattle.rsvp_messages.specs.Packets.{SpelledBy};
 ghost use Rattle.rsvp_messages.specs.Seen.{all_seen, seen};
 
 use crate::classes::{
-    ASSOCIATION, ERROR_SPEC, EXPLICIT_ROUTE, FILTER_SPEC, KNOWN_CLASSES, LABEL, LABEL_REQUEST,
-    LABEL_SET, MESSAGE_ID, MESSAGE_ID_ACK, PRIMARY_PATH_ROUTE, PROTECTION, RSVP_HOP,
-    SENDER_TEMPLATE, SESSION, UPSTREAM_LABEL,
+    ASSOCIATION, ERROR_SPEC, EXPLICIT_ROUTE, FILTER_SPEC, LABEL, LABEL_REQUEST, LABEL_SET,
+    MESSAGE_ID, MESSAGE_ID_ACK, PRIMARY_PATH_ROUTE, PROTECTION, RSVP_HOP, SENDER_TEMPLATE, SESSION,
+    UPSTREAM_LABEL, is_known,
 };
 use crate::raw::{RawObject, is_among};
 use crate::reading::read_message;
@@ -121,7 +121,7 @@ fn fate_of(body: &Option<Msg>, class: u8) -> Fate
 {
     if is_read(body, class) {
         Fate::Read
-    } else if is_among(&KNOWN_CLASSES, class) {
+    } else if is_known(class) {
         Fate::Carried
     } else {
         Fate::Ignored

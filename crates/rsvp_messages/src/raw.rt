@@ -4,7 +4,7 @@ ghost use Rattle.std.specs.Prelude.{◌≡◌, ◌≤◌, List, length, drop, Al
 ghost use Rattle.rsvp_messages.specs.Objects.{AreObjects, BeginsWith, Object, is_among, may_stand, size_of};
 ghost use Rattle.rsvp_messages.specs.Seen.{all_seen, seen};
 
-use crate::classes::KNOWN_CLASSES;
+use crate::classes::is_known;
 use ason_base::DecodeError;
 use std::alloc::Global;
 use wire_buf::Cursor;
@@ -29,7 +29,7 @@ pub(crate) fn is_among(classes: &[u8], class: u8) -> bool
 fn may_stand(class: u8) -> bool
     ensures { result ≡ may_stand class }
 {
-    class >= 128 || is_among(&KNOWN_CLASSES, class)
+    class >= 128 || is_known(class)
 }
 
 // The object at the front. None exactly where there is none; then the cursor may be anywhere.
