@@ -1,6 +1,8 @@
 //! What a controller floods: the rows of its own links, and those that it learns.
 
-ghost use Rattle.std.specs.Prelude.{◌≡◌, ◌≤◌, ◌^◌, ℕ, IfOk, IsTrue, List, OnErr, OnOk, Some, length};
+ghost use Rattle.std.specs.Prelude.{◌≡◌, ◌≤◌, ◌^◌, ◌∷◌, ◌++◌, ℕ, [], IfOk, IfSome, IsTrue, List, OnErr, OnOk};
+ghost use Rattle.std.specs.Prelude.{None, Some, length};
+ghost use Rattle.flood.specs.declared.messages.FloodMsg.{FloodMsg};
 ghost use Rattle.flood.specs.Messages.{SpellsFlood};
 ghost use Rattle.flood.specs.State.{learnt_of, received, sends_after};
 ghost use Rattle.mesh_nodes.specs.Learnt.{MayLearn};
@@ -13,6 +15,7 @@ ghost use Rattle.control_channels.specs.Frames.{AllSpelled, frames_to};
 ghost use Rattle.control_channels.specs.ReadyControllers.{AllToNeighbours, FloodFits};
 
 use ason_base::{NodeId, OutOfMemory, TeRow};
+use channel_frames::Content;
 use control_channels::{Frame, FrameMaker, frame_floods};
 use flood::{Flood, FloodMsg, FloodOut};
 use node_core::{Input, Node};
@@ -82,7 +85,40 @@ fn take(
     }
 }
 
-/// A flood message of a neighbour: its acknowledgement, then the row, where it is new, to the other neighbours.
+// The number of a row whose link is known, if the message brings one.
+fn known_row(flood: &Flood, m: &FloodMsg) -> Option<u32>
+    ensures learnt { IfSome result (λ number. learnt_of flood.now m.now ≡ None) }
+    ensures sends { IfSome result (λ number. (from : NodeId) →
+        sends_after flood.now from m.now ≡ (from, FloodMsg.Ack number) ∷ []) }
+    ensures same { IfSome result (λ number. (from : NodeId) →
+        received flood.now from m.now ≡ flood.now) }
+{
+    match m {
+        FloodMsg::Row { number, row, .. } if flood.known(row.link) => Some(*number),
+        _ => None,
+    }
+}
+
+// The frame of a row's acknowledgement goes to the end of the list.
+fn frame_ack(
+    maker: &mut FrameMaker,
+    me: NodeId,
+    to: NodeId,
+    number: u32,
+    frames: &mut Vec<Frame>,
+) -> Result<(), OutOfMemory>
+    ensures frames { OnOk result (frames.new.items ≡ frames.old.items ++
+        frames_to me (floods_to ((to, FloodMsg.Ack number) ∷ []))) }
+    ensures spelled { OnOk result
+        (AllSpelled me (floods_to ((to, FloodMsg.Ack number) ∷ []))) }
+{
+    let frame = maker.frame(me, to, &Content::Flood(FloodMsg::Ack { number }))?;
+    frames.push(frame)?;
+    Ok(())
+}
+
+/// A flood message of a neighbour: its acknowledgement, then the row, where it is new, to the other neighbours. Most
+/// rows are known: then nothing else goes out, and nothing changes.
 pub(crate) fn take_flood(
     maker: &mut FrameMaker,
     node: &mut Node,
@@ -108,10 +144,15 @@ pub(crate) fn take_flood(
     ensures few { IfOk result (λ fs. length fs.items ≤ 2 ^ 40) }
 {
     flood.counts();
+    let me = node.id();
+    let mut frames = Vec::new(maker.alloc);
+    if let Some(number) = known_row(flood, m) {
+        frame_ack(maker, me, from, number, &mut frames)?;
+        return Ok(frames);
+    }
     let out = flood.answer(maker.alloc, from, m)?;
     let FloodOut { learnt, sends } = out;
-    let mut frames = Vec::new(maker.alloc);
-    frame_floods(maker, node.id(), sends, &mut frames)?;
+    frame_floods(maker, me, sends, &mut frames)?;
     take(maker, node, flood, from, m, learnt)?;
     Ok(frames)
 }

@@ -1,7 +1,8 @@
-use Rattle.std.proofs.Common.{◌∙◌, ap, sym, subst}
+use Rattle.std.proofs.Common.{List, [], ◌∷◌, ◌∙◌, ap, sym, subst}
 use Rattle.std.specs.List.{AllByRecursion}
 use Rattle.ason_base.specs.declared.ids.NodeId.{NodeId}
 use Rattle.flood.specs.declared.messages.FloodMsg.{FloodMsg}
+use Rattle.flood.specs.declared.messages.FloodMsg.TheVariants.{Ack}
 use Rattle.flood.specs.Messages.{CanBeWritten}
 use Rattle.flood.specs.State.{sends_after}
 use Rattle.control_channels.specs.Controllers.{floods_to, with_learnt}
@@ -24,22 +25,22 @@ returns-clause-node c =
 
 pub returns-clause-frames : goal.returns-clause-frames
 returns-clause-frames c =
-    answer-frames c.id.result c.args.node.now.place.id c.in_ok-out.out.sends
+    answer-frames c.id-me.result c.args.node.now.place.id c.in_ok-out.out.sends
     (sends_after c.args.flood.now c.args.from c.args.m.now) c.new-frames.result.items c.frame_floods.new.frames.items
-    c.new-frames.ensures.items c.id.ensures c.in_ok-out.ensures.sends c.in_ok-frame_floods.ensures.frames
+    c.new-frames.ensures.items c.id-me.ensures c.in_ok-out.ensures.sends c.in_ok-frame_floods.ensures.frames
 
 pub returns-clause-spelled : goal.returns-clause-spelled
 returns-clause-spelled c =
     subst (λ ss. AllSpelled c.args.node.now.place.id (floods_to ss)) c.in_ok-out.ensures.sends
-    (subst (λ n. AllSpelled n (floods_to c.in_ok-out.out.sends)) c.id.ensures c.in_ok-frame_floods.ensures.spelled)
+    (subst (λ n. AllSpelled n (floods_to c.in_ok-out.out.sends)) c.id-me.ensures c.in_ok-frame_floods.ensures.spelled)
 
 pub returns-clause-near : goal.returns-clause-near
 returns-clause-near c =
     let n = c.args.node.now in
     let sends = sends_after c.args.flood.now c.args.from c.args.m.now in
-    subst (AllToNeighbours n.place) (sym (answer-frames c.id.result n.place.id c.in_ok-out.out.sends sends
+    subst (AllToNeighbours n.place) (sym (answer-frames c.id-me.result n.place.id c.in_ok-out.out.sends sends
     c.new-frames.result.items c.frame_floods.new.frames.items
-    c.new-frames.ensures.items c.id.ensures c.in_ok-out.ensures.sends c.in_ok-frame_floods.ensures.frames))
+    c.new-frames.ensures.items c.id-me.ensures c.in_ok-out.ensures.sends c.in_ok-frame_floods.ensures.frames))
     (frames-near n.place n.place.id (floods_to sends)
     (answers-near n.place c.args.flood.now c.args.from c.args.m.now c.requires.fits.neighbours c.requires.from))
 
@@ -47,9 +48,9 @@ pub returns-clause-few : goal.returns-clause-few
 returns-clause-few c =
     answer-few c.args.node.now.place.id c.args.flood.now c.args.from c.args.m.now c.frame_floods.new.frames.items
     c.counts.ensures
-    (answer-frames c.id.result c.args.node.now.place.id c.in_ok-out.out.sends
+    (answer-frames c.id-me.result c.args.node.now.place.id c.in_ok-out.out.sends
     (sends_after c.args.flood.now c.args.from c.args.m.now) c.new-frames.result.items c.frame_floods.new.frames.items
-    c.new-frames.ensures.items c.id.ensures c.in_ok-out.ensures.sends c.in_ok-frame_floods.ensures.frames)
+    c.new-frames.ensures.items c.id-me.ensures c.in_ok-out.ensures.sends c.in_ok-frame_floods.ensures.frames)
 
 pub returns-clause-fits : goal.returns-clause-fits
 returns-clause-fits c =
@@ -58,3 +59,43 @@ returns-clause-fits c =
     (c.in_ok-take.ensures.node
     ∙ ap (with_learnt c.args.node.now.place c.args.node.now.state) c.in_ok-out.ensures.learnt)
     c.in_ok-take.ensures.flood
+
+pub returns-in-Some-clause-node : goal.returns-in-Some-clause-node
+returns-in-Some-clause-node c =
+    sym (ap (with_learnt c.args.node.now.place c.args.node.now.state) c.in-Some.ensures.learnt)
+
+pub returns-in-Some-clause-flood : goal.returns-in-Some-clause-flood
+returns-in-Some-clause-flood c = sym (c.in-Some.ensures.same c.args.from)
+
+pub returns-in-Some-clause-frames : goal.returns-in-Some-clause-frames
+returns-in-Some-clause-frames c =
+    answer-frames c.id-me.result c.args.node.now.place.id ((c.args.from, Ack c.in-Some.number) ∷ [])
+    (sends_after c.args.flood.now c.args.from c.args.m.now) c.new-frames.result.items c.frame_ack.new.frames.items
+    c.new-frames.ensures.items c.id-me.ensures (sym (c.in-Some.ensures.sends c.args.from))
+    c.in_ok-frame_ack.ensures.frames
+
+pub returns-in-Some-clause-spelled : goal.returns-in-Some-clause-spelled
+returns-in-Some-clause-spelled c =
+    let ack : List (NodeId × FloodMsg) = (c.args.from, Ack c.in-Some.number) ∷ [] in
+    subst (λ ss. AllSpelled c.args.node.now.place.id (floods_to ss)) (sym (c.in-Some.ensures.sends c.args.from))
+    (subst (λ n. AllSpelled n (floods_to ack)) c.id-me.ensures c.in_ok-frame_ack.ensures.spelled)
+
+pub returns-in-Some-clause-near : goal.returns-in-Some-clause-near
+returns-in-Some-clause-near c =
+    let n = c.args.node.now in
+    let sends = sends_after c.args.flood.now c.args.from c.args.m.now in
+    subst (AllToNeighbours n.place) (sym (answer-frames c.id-me.result n.place.id
+    ((c.args.from, Ack c.in-Some.number) ∷ []) sends c.new-frames.result.items c.frame_ack.new.frames.items
+    c.new-frames.ensures.items c.id-me.ensures (sym (c.in-Some.ensures.sends c.args.from))
+    c.in_ok-frame_ack.ensures.frames))
+    (frames-near n.place n.place.id (floods_to sends)
+    (answers-near n.place c.args.flood.now c.args.from c.args.m.now c.requires.fits.neighbours c.requires.from))
+
+pub returns-in-Some-clause-few : goal.returns-in-Some-clause-few
+returns-in-Some-clause-few c =
+    answer-few c.args.node.now.place.id c.args.flood.now c.args.from c.args.m.now c.frame_ack.new.frames.items
+    c.counts.ensures
+    (answer-frames c.id-me.result c.args.node.now.place.id ((c.args.from, Ack c.in-Some.number) ∷ [])
+    (sends_after c.args.flood.now c.args.from c.args.m.now) c.new-frames.result.items c.frame_ack.new.frames.items
+    c.new-frames.ensures.items c.id-me.ensures (sym (c.in-Some.ensures.sends c.args.from))
+    c.in_ok-frame_ack.ensures.frames)
