@@ -1,6 +1,6 @@
 -- What the lists stand for after a rule's answer, and without or with one thing more.
-use Rattle.std.proofs.Common.{◌≡◌, ℕ, true, false, cond, nat_eq, List, [], ◌∷◌, ◌++◌, get_or, refl, sym, ap, ◌∙◌, arith, append-nil}
-use Rattle.std.specs.Prelude.{remove, position, Option, Some, None}
+use Rattle.std.proofs.Common.{◌≡◌, ℕ, true, false, cond, nat_eq, List, [], ◌∷◌, ◌++◌, get_or, refl, sym, ap, subst, ◌∙◌, arith, append-nil}
+use Rattle.std.specs.Prelude.{remove, position, OnOk, Option, Some, None, Result, Ok, Err}
 use Rattle.std.specs.Option.{option_map}
 use Rattle.ason_base.specs.declared.ids.NodeId.{NodeId}
 use Rattle.ason_base.specs.declared.commands.Command.{Command}
@@ -9,6 +9,7 @@ use Rattle.ason_base.specs.declared.ids.LinkId.{LinkId}
 use Rattle.ason_base.specs.declared.network.LinkSpec.{LinkSpec}
 use Rattle.ason_base.specs.declared.network.TeRow.{TeRow}
 use Rattle.ason_base.specs.Network.{find_link, row_of}
+use Rattle.mesh_rules.specs.declared.events.MeshEvent.{MeshEvent}
 use Rattle.mesh_rules.specs.declared.events.MeshEvent.TheVariants.{Take, Desk, Tick, Learn, Post}
 use Rattle.node_rules.specs.declared.inputs.Input.{Input}
 use Rattle.node_rules.specs.declared.inputs.Input.TheVariants as inputs
@@ -24,15 +25,10 @@ use Rattle.mesh.specs.MeshLists.{IsStep, Kept, Seats, acted, desk_of, is_between
 use Rattle.mesh.proofs.Firsts.{none_of}
 use Rattle.mesh.proofs.MeshParts.{mesh_of-commit, mesh_of-take, mesh_of-handle, mesh_of-order, mesh_of-tick}
 
--- A rule's answer
-
--- Without the first message
-
--- Without the first item
-
--- With an item more
-
--- A tick
+-- What the parts show is the value, so a step from the one is a step from the other.
+pub step-seen : {parts value : Kept} {e : MeshEvent} {after : Kept} → parts ≡ value → IsStep parts e after →
+    IsStep value e after
+step-seen {e = e} {after = after} is stepped = subst (λ k. IsStep k e after) is stepped
 
 -- An order
 
@@ -45,6 +41,15 @@ is_ordered k desks n c does put = record {
       mesh_of-order k.seats.network n (Order c) k.seats.nodes k.desks k.mail k.posted k.failed ∙ sym does;
   network = refl;
 }
+
+-- An order that is put on a desk is a step.
+pub order-seen : {T E : Type 0} {parts value : Kept} (r : Result T E) (desks : List Waiting) (n : NodeId) (c : Command) →
+    parts ≡ value →
+    step parts.seats.network (mesh_of parts) (Post c) ≡ with_item (mesh_of parts) n.0 (Order c) →
+    OnOk r (desks ≡ parts.desks ++ record { node = n; item = Order c } ∷ []) →
+    OnOk r (IsStep value (Post c) (record parts { desks = desks }))
+order-seen {parts = parts} (Ok x) desks n c is does put = step-seen is (is_ordered parts desks n c does put)
+order-seen (Err e) desks n c is does put = put
 
 -- An input at a node, and what is taken off its list
 
