@@ -21,7 +21,8 @@ use Rattle.fleet.specs.declared.seats.Seat.{Seat}
 use Rattle.fleet.specs.Commands.{is_seat}
 use Rattle.fleet.specs.Noises.{sent_at, sent_by_link, sent_from, sent_of, sent_on}
 use Rattle.fleet.specs.Standing.{AreSeats, FleetState, StandsFor}
-use Rattle.fleet.proofs.Finding.{first-at, none-passes, seat-found, seat-lost}
+use Rattle.fleet.proofs.Finding.{first-at, seat-found, seat-lost}
+use Rattle.fleet.proofs.Firsts.{none-passes}
 use Rattle.fleet.proofs.Places.{map-get, zip-get}
 
 -- the link to a neighbour is found

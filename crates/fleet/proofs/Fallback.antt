@@ -31,26 +31,19 @@ some_producer alloc = record {
 }
 
 some_consumer : Global → Consumer Parcel Global Rising
-some_consumer alloc = record {
-  end = record {
-    words = null_ptr;
-    slots = null_ptr;
-    marker = record {};
-    names = (1, (0, 0));
-    heap = alloc;
-    role = 1;
-    past = [];
-    ahead = [];
-    limit = 1;
-  };
-  alloc = alloc;
-  capacity = 1;
-  cached_head = _;
-  cached_tail = _;
-  reads = (refl, refl, refl, omega arith);
-  counts = omega arith;
-  cached = (refl, refl);
-}
+unfolding some_producer
+some_consumer alloc =
+    let other = (some_producer alloc).end in
+    record {
+      end = record other { role = 1 };
+      alloc = alloc;
+      capacity = 1;
+      cached_head = _;
+      cached_tail = _;
+      reads = (refl, refl, refl, omega arith);
+      counts = omega arith;
+      cached = (refl, refl);
+    }
 
 -- the link, whatever memory it is of
 pub some-link : Global → LinkState

@@ -1,9 +1,9 @@
 -- The seat of a node.
-use Rattle.std.proofs.Common.{◌≡◌, ◌+◌, ◌<◌, ℕ, suc, Bool, true, false, cond, not, nat_eq, nat_lt, List, [], ◌∷◌}
+use Rattle.std.proofs.Common.{◌≡◌, ◌<◌, ℕ, Bool, true, false, nat_eq, List, [], ◌∷◌}
 use Rattle.std.proofs.Common.{get_or}
-use Rattle.std.proofs.Common.{length, refl, sym, ap, ◌∙◌, subst, arith}
+use Rattle.std.proofs.Common.{length, sym, ap, ◌∙◌, subst}
 use Rattle.std.specs.Prelude.{None, Some, position, slice_get}
-use Rattle.std.specs.List.{AllByRecursion, Contains, position_or_len}
+use Rattle.std.specs.List.{Contains}
 use Rattle.std.proofs.lemmas.List.Quantifiers.{position-Some}
 use Rattle.std.proofs.lemmas.Option.{slice_get-get_or}
 use Rattle.ason_base.specs.declared.ids.NodeId.{NodeId}
@@ -16,6 +16,7 @@ use Rattle.fleet.specs.declared.seats.Seat.{Seat}
 use Rattle.fleet.specs.Commands.{is_seat}
 use Rattle.fleet.specs.Standing.{AreSeats}
 use Rattle.fleet_rounds.proofs.Wired.{one-of}
+use Rattle.fleet.proofs.Firsts.{none-passes}
 use Rattle.fleet.proofs.Places.{get-map}
 
 -- the first that passes
@@ -47,33 +48,6 @@ seat-found t seats n place are at =
     let is = first-at (is_seat n) seats place at in
     ap (λ ids. slice_get ids place) (sym are.ids) ∙ get-map (λ (s : Seat). s.id) seats place is.item is.there
     ∙ ap Some (same-node is.item.id n is.passes)
-
-nowhere : {X : Type 0} (p : X → Bool) (xs : List X) → nat_lt (position_or_len p xs) (length xs) ≡ false →
-    AllByRecursion (λ x. p x ≡ false) xs
-nowhere p [] h = tt
-nowhere {X} p (x ∷ xs) h = go (nowhere p xs) (p x) refl h
-  where
-    nothing_below : (n : ℕ) → nat_lt 0 (suc n) ≡ false → ⊥
-    nothing_below n k = absurd (grind (arith, k))
-
-    farther : (a b : ℕ) → nat_lt (1 + a) (suc b) ≡ false → nat_lt a b ≡ false
-    farther a b k = grind (arith, k)
-
-    go : (nat_lt (position_or_len p xs) (length xs) ≡ false → AllByRecursion (λ y. p y ≡ false) xs) → (b : Bool) →
-        p x ≡ b → nat_lt (cond (not b) (1 + position_or_len p xs) 0) (suc (length xs)) ≡ false →
-        AllByRecursion (λ y. p y ≡ false) (x ∷ xs)
-    go rest true e k = absurd (nothing_below (length xs) k)
-    go rest false e k = (e, rest (farther (position_or_len p xs) (length xs) k))
-
--- where none is found none passes
-pub none-passes : {X : Type 0} (p : X → Bool) (xs : List X) → position p xs ≡ None →
-    AllByRecursion (λ x. p x ≡ false) xs
-none-passes p xs none = go (nat_lt (position_or_len p xs) (length xs)) refl none
-  where
-    go : (b : Bool) → nat_lt (position_or_len p xs) (length xs) ≡ b →
-        cond b (Some (position_or_len p xs)) None ≡ None → AllByRecursion (λ x. p x ≡ false) xs
-    go true e h = absurd (cc (h))
-    go false e h = nowhere p xs e
 
 -- each node of the network has a seat
 pub seat-lost : (t : Network) (seats : List Seat) (n : NodeId) → AreSeats t seats →

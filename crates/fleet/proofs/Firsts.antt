@@ -75,6 +75,7 @@ nowhere {X} p (x ∷ xs) h = go (nowhere p xs) (p x) refl h
     go rest true e k = absurd (nothing_below (length xs) k)
     go rest false e k = (e, rest (farther (position_or_len p xs) (length xs) k))
 
+-- where none is found none passes
 pub none-passes : {X : Type 0} (p : X → Bool) (xs : List X) → position p xs ≡ None →
     AllByRecursion (λ x. p x ≡ false) xs
 none-passes p xs none = go (nat_lt (position_or_len p xs) (length xs)) refl none

@@ -126,7 +126,7 @@ few-stations seats xs are =
     within a b p q = omega arith
 
 -- such a sum over the stations fits
-pub fits : (t : Network) (lines : List Disturb) (f : FleetState) (r : Record) → StandsFor t lines f r →
+fits : (t : Network) (lines : List Disturb) (f : FleetState) (r : Record) → StandsFor t lines f r →
     (g : StationState → ℕ) → AllFit g f.stations → sum_by g f.stations < 2 ^ 64
 fits t lines f r s g all =
     within (sum_by g f.stations) (length f.stations) (length t.nodes) (sum-fits g f.stations all)
@@ -135,6 +135,14 @@ fits t lines f r s g all =
   where
     within : (a n m : ℕ) → a ≤ n * 2 ^ 40 → n ≡ m → m ≤ 64 → a < 2 ^ 64
     within a n m p q r = omega arith
+
+-- so what is found where it fits is the sum over the stations
+pub sum-found : (t : Network) (lines : List Disturb) (f : FleetState) (r : Record) → StandsFor t lines f r →
+    (g : StationState → ℕ) (lent : List StationState) (found : ℕ) → lent ≡ f.stations → AllFit g lent →
+    (sum_by g lent < 2 ^ 64 → found ≡ sum_by g lent) → found ≡ sum_by g f.stations
+sum-found t lines f r s g lent found same all is =
+    is (subst (λ xs. sum_by g xs < 2 ^ 64) (sym same) (fits t lines f r s g (subst (AllFit g) same all)))
+    ∙ ap (sum_by g) same
 
 -- no desk has more than 256 items of each post
 pub items-fit : (t : Network) (lines : List Disturb) (f : FleetState) (r : Record) → StandsFor t lines f r →

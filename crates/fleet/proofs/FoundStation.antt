@@ -1,27 +1,66 @@
 -- The station of a node whose seat was found.
-use Rattle.std.proofs.Common.{◌≡◌, ◌<◌, ℕ, List, length, get_or, refl, sym, ap, arith}
-use Rattle.std.specs.Prelude.{Some, position, slice_get}
+use Rattle.std.proofs.Common.{◌≡◌, ◌<◌, ℕ, List, length, get_or, refl, sym, ap, ◌∙◌, arith}
+use Rattle.std.specs.Prelude.{Some, position, slice_get, slice_set}
 use Rattle.std.proofs.lemmas.Option.{slice_get_read}
 use Rattle.ason_base.specs.declared.ids.NodeId.{NodeId}
 use Rattle.station_doings.specs.States.{StationState}
 use Rattle.fleet.specs.declared.seats.Seat.{Seat}
-use Rattle.fleet.specs.Commands.{is_seat}
+use Rattle.fleet.specs.Commands.{is_seat, station_of, station_in}
 use Rattle.fleet.specs.Connections.{HaveSeats}
+use Rattle.fleet.specs.Standing.{FleetState}
 use Rattle.fleet.proofs.Finding.{place-within}
-use Rattle.fleet.proofs.KeptSeats.{seats-count}
+use Rattle.fleet.proofs.KeptSeats.{lent-same, seats-count, seats-kept, set-links, set-same}
 
-module _ (n : NodeId) (seen seats : List Seat) (stations : List StationState) (place : ℕ) (same : seen ≡ seats)
-    (have : HaveSeats seats stations) (at : Some place ≡ position (is_seat n) seen) where
-  -- there is a station at the place of the seat
-  pub station-within : place < length stations
-  station-within =
-      omega (
-        arith,
-        place-within (is_seat n) seen place (sym at),
-        ap length same,
-        seats-count seats stations have,
-      )
+-- There is a station at the place of the seat.
+pub station-within : {seen seats : List Seat} {stations : List StationState} {place len : ℕ} (n : NodeId) →
+    HaveSeats seats stations → seen ≡ seats → Some place ≡ position (is_seat n) seen →
+    len ≡ length stations → place < len
+station-within {seen = seen} {seats = seats} {stations = stations} {place = place} n have same at count =
+    omega (
+      arith,
+      place-within (is_seat n) seen place (sym at),
+      ap length same,
+      seats-count seats stations have,
+      count,
+    )
 
-  -- and what is read there is the station
-  pub station-read : (s : StationState) → s ≡ get_or stations place s → slice_get stations place ≡ Some s
-  station-read s read = slice_get_read stations (length stations) place s refl station-within read
+-- the station at this place is that of the node, in what the parts of the fleet show and in the fleet
+pub record IsFound (parts value : FleetState) (n : NodeId) (place : ℕ) (s : StationState) : Type 0 where
+  pub is : parts ≡ value
+  pub have : HaveSeats parts.seats parts.stations
+  pub at : slice_get parts.stations place ≡ Some s
+  pub there : slice_get value.stations place ≡ Some s
+  pub found : position (is_seat n) value.seats ≡ Some place
+
+-- What is read at the place of the seat is the station.
+pub station-found : {parts value : FleetState} {seen : List Seat} {place : ℕ} {s : StationState} (n : NodeId) →
+    parts ≡ value → HaveSeats parts.seats parts.stations → seen ≡ parts.seats →
+    Some place ≡ position (is_seat n) seen → s ≡ get_or parts.stations place s → IsFound parts value n place s
+station-found {parts = parts} {place = place} {s = s} n is have same at read =
+    let here : slice_get parts.stations place ≡ Some s =
+    slice_get_read parts.stations (length parts.stations) place s refl (station-within n have same at refl) read in
+    record {
+      is = is;
+      have = have;
+      at = here;
+      there = ap (λ (f : FleetState). slice_get f.stations place) (sym is) ∙ here;
+      found = ap (position (is_seat n)) (sym (same ∙ ap (λ (f : FleetState). f.seats) is)) ∙ sym at;
+    }
+
+module _ {parts value : FleetState} {n : NodeId} {place : ℕ} {s : StationState}
+    (is : IsFound parts value n place s) where
+  -- It is the fleet's station of the node.
+  pub found-station : station_of value n ≡ Some s
+  found-station = ap (station_in value) is.found ∙ is.there
+
+  -- Where it keeps its links the fleet stays connected.
+  pub found-kept : (new : StationState) → new.links ≡ s.links →
+      HaveSeats parts.seats (slice_set parts.stations place new)
+  found-kept new same =
+      seats-kept parts.seats parts.stations (slice_set parts.stations place new) is.have
+      (set-links parts.stations place s new is.at same)
+
+  -- Where it is as it was so is the fleet.
+  pub found-same : (new : StationState) → new ≡ s →
+      record parts { stations = slice_set parts.stations place new } ≡ value
+  found-same new same = lent-same is.is (set-same parts.stations place s new is.at same)

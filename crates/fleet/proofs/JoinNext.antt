@@ -125,29 +125,30 @@ module _ (t : Network) (xs ys : List StationState) (low high : ℕ) (n m : NodeI
   apart : nat_eq low high ≡ false
   apart = grind (arith, below)
 
+  -- the station of one of both nodes, whatever it is called
+  placed : (place spot : ℕ) (k u : NodeId) (x s : StationState) → place ≡ spot → u ≡ k → x ≡ s → (count : ℕ) →
+      joined_up_to high (low + 1) spot ≡ count → IsNewUpTo t v count k x →
+      IsNewUpTo t v (joined_up_to high (low + 1) place) u s
+  placed place spot k u x s same one it count is_count new =
+      subst (λ p. IsNewUpTo t v (joined_up_to high (low + 1) p) u s) (sym same)
+      (subst (λ p. IsNewUpTo t v p u s) (sym is_count)
+      (subst (λ (y : NodeId). IsNewUpTo t v count y s) (sym one) (subst (IsNewUpTo t v count k) it new)))
+
   each : (place : ℕ) (u : NodeId) (s : StationState) → slice_get (ids_of t) place ≡ Some u →
       slice_get (slice_set mid high is.there_now) place ≡ Some s → (a : Bool) → nat_eq place low ≡ a → (b : Bool) →
       nat_eq place high ≡ b → IsNewUpTo t v (joined_up_to high (low + 1) place) u s
   each place u s node station true p b q =
       let same : place ≡ low = same_number place low p in
-      let one : u ≡ n = cc (node, ap (slice_get (ids_of t)) same ∙ at) in
-      let it : is.here_now ≡ s =
-      set_there xs low is.here_now s (sym (get-set-elsewhere mid high low is.there_now apart)
-      ∙ subst (λ k. slice_get (slice_set mid high is.there_now) k ≡ Some s) same station) in
-      subst (λ k. IsNewUpTo t v (joined_up_to high (low + 1) k) u s) (sym same)
-      (subst (λ k. IsNewUpTo t v k u s) (sym (joined-low-next high low))
-      (subst (λ (k : NodeId). IsNewUpTo t v (high + 1) k s) (sym one)
-      (subst (IsNewUpTo t v (high + 1) n) it now_here)))
+      placed place low n u is.here_now s same (cc (node, ap (slice_get (ids_of t)) same ∙ at))
+      (set_there xs low is.here_now s (sym (get-set-elsewhere mid high low is.there_now apart)
+      ∙ subst (λ k. slice_get (slice_set mid high is.there_now) k ≡ Some s) same station)) (high + 1)
+      (joined-low-next high low) now_here
   each place u s node station false p true q =
       let same : place ≡ high = same_number place high q in
-      let one : u ≡ m = cc (node, ap (slice_get (ids_of t)) same ∙ there) in
-      let it : is.there_now ≡ s =
-      set_there mid high is.there_now s
-      (subst (λ k. slice_get (slice_set mid high is.there_now) k ≡ Some s) same station) in
-      subst (λ k. IsNewUpTo t v (joined_up_to high (low + 1) k) u s) (sym same)
-      (subst (λ k. IsNewUpTo t v k u s) (sym (joined-high-next high low below))
-      (subst (λ (k : NodeId). IsNewUpTo t v (low + 1) k s) (sym one)
-      (subst (IsNewUpTo t v (low + 1) m) it now_there)))
+      placed place high m u is.there_now s same (cc (node, ap (slice_get (ids_of t)) same ∙ there))
+      (set_there mid high is.there_now s
+      (subst (λ k. slice_get (slice_set mid high is.there_now) k ≡ Some s) same station)) (low + 1)
+      (joined-high-next high low below) now_there
   each place u s node station false p false q =
       as-before t w v (joined_up_to high low place) (joined_up_to high (low + 1) place) u s
       (all.each place u s node (sym (get-set-elsewhere mid high place is.there_now q
@@ -155,29 +156,27 @@ module _ (t : Network) (xs ys : List StationState) (low high : ℕ) (n m : NodeI
       (ap (λ k. near_among t k u) (joined-else-next high low place p q))
       (from_else u (same_test t valid place low u n node at ∙ p) (same_test t valid place high u m node there ∙ q))
 
+  -- the ring between two nodes, whatever they are called
+  ring_between : (k l u d : NodeId) (a b : LinkState) → k ≡ u → l ≡ d → v k.0 l.0 ≡ a → v l.0 k.0 ≡ b → AreEnds a b →
+      IsNew l a → IsNewRing v u d
+  ring_between k l u d a b one two is_a is_b ends new =
+      subst (λ (x : NodeId). IsNewRing v x d) one (subst (λ (x : NodeId). IsNewRing v k x) two (record {
+        ends = subst (λ x. AreEnds x (v l.0 k.0)) (sym is_a) (subst (λ x. AreEnds a x) (sym is_b) ends);
+        new = subst (IsNew l) (sym is_a) new;
+      }))
+
   ring : (p q : ℕ) (u d : NodeId) → slice_get (ids_of t) p ≡ Some u → slice_get (ids_of t) q ≡ Some d →
       is_channel t u d ≡ true → q < joined_up_to high (low + 1) p → (a : Bool) →
       (nat_eq p low && nat_eq q high) ≡ a → (b : Bool) → (nat_eq p high && nat_eq q low) ≡ b → IsNewRing v u d
   ring p q u d from to on less true f b g =
       let h = both-true (nat_eq p low) (nat_eq q high) f in
-      let one : n ≡ u = cc (from, ap (slice_get (ids_of t)) (same_number p low h.0) ∙ at) in
-      let two : m ≡ d = cc (to, ap (slice_get (ids_of t)) (same_number q high h.1) ∙ there) in
-      subst (λ (k : NodeId). IsNewRing v k d) one (subst (λ (k : NodeId). IsNewRing v n k) two (record {
-        ends =
-            subst (λ l. AreEnds l (v m.0 n.0)) (sym is_here)
-            (subst (λ l. AreEnds here l) (sym is_back) is.connected.ends);
-        new = subst (IsNew m) (sym is_here) first;
-      }))
+      ring_between n m u d here back (cc (from, ap (slice_get (ids_of t)) (same_number p low h.0) ∙ at))
+      (cc (to, ap (slice_get (ids_of t)) (same_number q high h.1) ∙ there)) is_here is_back is.connected.ends first
   ring p q u d from to on less false f true g =
       let h = both-true (nat_eq p high) (nat_eq q low) g in
-      let one : m ≡ u = cc (from, ap (slice_get (ids_of t)) (same_number p high h.0) ∙ there) in
-      let two : n ≡ d = cc (to, ap (slice_get (ids_of t)) (same_number q low h.1) ∙ at) in
-      subst (λ (k : NodeId). IsNewRing v k d) one (subst (λ (k : NodeId). IsNewRing v m k) two (record {
-        ends =
-            subst (λ l. AreEnds l (v n.0 m.0)) (sym is_back)
-            (subst (λ l. AreEnds back l) (sym is_here) (ends_back here back is.connected.ends));
-        new = subst (IsNew n) (sym is_back) second;
-      }))
+      ring_between m n u d back here (cc (from, ap (slice_get (ids_of t)) (same_number p high h.0) ∙ there))
+      (cc (to, ap (slice_get (ids_of t)) (same_number q low h.1) ∙ at)) is_back is_here
+      (ends_back here back is.connected.ends) second
     where
       ends_back : (a b : LinkState) → AreEnds a b → AreEnds b a
       ends_back a b e = record { there = e.back; back = e.there; wide = e.wide_back; wide_back = e.wide }

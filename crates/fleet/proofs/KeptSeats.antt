@@ -7,6 +7,7 @@ use Rattle.std.proofs.lemmas.List.{length-map}
 use Rattle.ason_base.specs.declared.ids.NodeId.{NodeId}
 use Rattle.ason_base.specs.declared.commands.DeskItem.{DeskItem}
 use Rattle.ason_base.specs.declared.commands.Disturb.{Disturb}
+use Rattle.ason_base.specs.declared.commands.Entry.{Entry}
 use Rattle.ason_base.specs.Network.{Network}
 use Rattle.station_rings.specs.LinkStates.{LinkState}
 use Rattle.round_rules.specs.OneWorker.{ids_of}
@@ -19,7 +20,7 @@ use Rattle.fleet.specs.Commands.{IsAsBefore, StandsOn, but_room}
 use Rattle.fleet.specs.Connections.{HaveSeats}
 use Rattle.fleet.specs.Noises.{HasLine}
 use Rattle.fleet.specs.Posting.{TakeItems, TakesOrder, with_clock}
-use Rattle.fleet.specs.Standing.{AreSeats, FleetState}
+use Rattle.fleet.specs.Standing.{AreSeats, FleetState, KeepsRest}
 use Rattle.fleet.proofs.Places.{map-back, set-back, zip-length}
 use Rattle.fleet.proofs.Taking.{same-places, there-at, within-at}
 
@@ -83,6 +84,13 @@ seats-roomed seats xs lent mid now are was same is =
     subst (HaveSeats seats) (sym is)
     (seats-kept seats lent mid (subst (HaveSeats seats) (sym was) are) (room-links lent mid same))
 
+-- a seat for each of them
+pub roomed-count : {seen seats : List Seat} {xs lent mid again : List StationState} → HaveSeats seats xs →
+    seen ≡ seats → lent ≡ xs → map but_room mid ≡ map but_room lent → again ≡ mid → length again ≡ length seen
+roomed-count {seats = seats} {xs = xs} {lent = lent} {mid = mid} are seen was same is =
+    ap length is ∙ sym (length-map mid but_room) ∙ ap length same ∙ length-map lent but_room ∙ ap length was
+    ∙ seats-count seats xs are ∙ sym (ap length seen)
+
 -- what holds in any case holds after an error
 pub on-any-err : {X E : Type 0} (r : Result X E) (P : Type 0) → P → OnErr r P
 on-any-err (Ok x) P p = tt
@@ -118,6 +126,34 @@ pub line-links : (d : Disturb) (place : ℕ) (xs ys : List StationState) → Has
 line-links d place xs ys has =
     ap (map links_of) has.stations
     ∙ set-links xs place has.before (record has.before { lines = has.before.lines ++ d ∷ [] }) has.there refl
+
+-- Where its stations are those that its parts show a fleet is as it was.
+pub lent-same : {parts value : FleetState} {xs : List StationState} → parts ≡ value → xs ≡ parts.stations →
+    record parts { stations = xs } ≡ value
+lent-same {parts = parts} is same = ap (λ (ys : List StationState). record parts { stations = ys }) same ∙ is
+
+-- The rest of a fleet is what its parts show of it.
+pub rest-kept : {parts value : FleetState} {xs : List StationState} → parts ≡ value →
+    KeepsRest value (record parts { stations = xs })
+rest-kept is = record {
+  posts = ap (λ (f : FleetState). f.posts) is;
+  network = ap (λ (f : FleetState). f.network) is;
+  failed = ap (λ (f : FleetState). f.failed) is;
+}
+
+-- With more room on desks and the posts that were a fleet is as before.
+pub roomed-same : {parts value : FleetState} {xs : List StationState} {posts : List Entry} → parts ≡ value →
+    map but_room xs ≡ map but_room parts.stations → posts ≡ parts.posts →
+    IsAsBefore value (record parts { stations = xs; posts = posts })
+roomed-same is room posts = record {
+  stations = room ∙ ap (λ (f : FleetState). map but_room f.stations) is;
+  seats = ap (λ (f : FleetState). f.seats) is;
+  rest = record {
+    posts = posts ∙ ap (λ (f : FleetState). f.posts) is;
+    network = ap (λ (f : FleetState). f.network) is;
+    failed = ap (λ (f : FleetState). f.failed) is;
+  };
+}
 
 -- Room
 

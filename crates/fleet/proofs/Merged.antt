@@ -1,5 +1,5 @@
 -- The merge of the logs and posts of a fleet is a run of a world.
-use Rattle.std.proofs.Common.{◌≡◌, ◌<◌, ◌+◌, ℕ, Bool, true, false, cond, not, nat_eq, List, [], ◌∷◌, filter}
+use Rattle.std.proofs.Common.{◌≡◌, ◌<◌, ◌≤◌, ◌+◌, ℕ, Bool, true, false, cond, not, nat_eq, List, [], ◌∷◌, filter}
 use Rattle.std.proofs.Common.{length, map, refl, sym}
 use Rattle.std.proofs.Common.{ap}
 use Rattle.std.proofs.Common.{◌∙◌, subst, arith, inl}
@@ -57,7 +57,7 @@ no_lines n (p ∷ posts) = no_lines n posts
 
 -- Stamps rise, so lists are sorted
 
-all_later : (p : Deed → Bool) (n : NodeId) (e : Entry) (s : ℕ) (ds : List Deed) → e.stamp < s → RisesAbove s ds →
+all_later : (p : Deed → Bool) (n : NodeId) (e : Entry) (s : ℕ) (ds : List Deed) → e.stamp ≤ s → RisesAbove s ds →
     AllByRecursion (IsBefore e) (map (line_of n) (filter p ds))
 all_later p n e s [] less up = tt
 all_later p n e s (d ∷ ds) less up = go (p d) (all_later p n e (stamp_of d) ds (omega (arith, less, first)) up.1)
@@ -70,19 +70,6 @@ all_later p n e s (d ∷ ds) less up = go (p d) (all_later p n e (stamp_of d) ds
     go true rest = (inl (let same = line-stamp n d in omega (arith, less, first, same)), rest)
     go false rest = rest
 
-after_stamp : (p : Deed → Bool) (n : NodeId) (e : Entry) (s : ℕ) (ds : List Deed) → e.stamp ≡ s → RisesAbove s ds →
-    AllByRecursion (IsBefore e) (map (line_of n) (filter p ds))
-after_stamp p n e s [] same up = tt
-after_stamp p n e s (d ∷ ds) same up = go (p d) (all_later p n e (stamp_of d) ds (omega (arith, same, first)) up.1)
-  where
-    first : s < stamp_of d
-    first = up.0
-
-    go : (b : Bool) → AllByRecursion (IsBefore e) (map (line_of n) (filter p ds)) →
-        AllByRecursion (IsBefore e) (map (line_of n) (cond b (d ∷ filter p ds) (filter p ds)))
-    go true rest = (inl (let line = line-stamp n d in omega (arith, same, first, line)), rest)
-    go false rest = rest
-
 sorted_lines : (p : Deed → Bool) (n : NodeId) (s : ℕ) (ds : List Deed) → RisesAbove s ds →
     IsSorted (map (line_of n) (filter p ds))
 sorted_lines p n s [] up = tt
@@ -90,7 +77,7 @@ sorted_lines p n s (d ∷ ds) up = go (p d) (sorted_lines p n (stamp_of d) ds up
   where
     go : (b : Bool) → IsSorted (map (line_of n) (filter p ds)) →
         IsSorted (map (line_of n) (cond b (d ∷ filter p ds) (filter p ds)))
-    go true rest = (after_stamp p n (line_of n d) (stamp_of d) ds (line-stamp n d) up.1, rest)
+    go true rest = (all_later p n (line_of n d) (stamp_of d) ds (omega (arith, line-stamp n d)) up.1, rest)
     go false rest = rest
 
 -- Nodes

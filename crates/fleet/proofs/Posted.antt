@@ -54,30 +54,23 @@ with_item w from n item = go (nat_eq n.0 from.0) (nat_eq from.0 n.0) (turned n.0
     go true false e = absurd (cc (e))
     go false true e = absurd (cc (e))
 
+-- the item stands on the desk of the ingress, whatever it is called
+at_ingress : (t : Network) (w : World) (c : Command) (from n m : NodeId) → Some from ≡ Some n →
+    (step t w (Post c)).desks m.0 ≡ w.desks m.0 ++ order_for from c m →
+    (step t w (Post c)).desks m.0 ≡ w.desks m.0 ++ order_for n c m
+at_ingress t w c from n m e is =
+    let same : from ≡ n = cc (e) in
+    subst (λ (x : NodeId). (step t w (Post c)).desks m.0 ≡ w.desks m.0 ++ order_for x c m) same is
+
 -- a command of a call goes to the desk of its ingress
 pub order-desks : (t : Network) (w : World) (c : Command) (n : NodeId) → ingress_of c ≡ Some n →
     Desks (order_for n c) t w c
 order-desks t w (Setup k from to protected both via backup) n e m =
-    let same : from ≡ n = cc (e) in
-    subst (λ (x : NodeId). (step t w (Post (Setup k from to protected both via backup))).desks m.0 ≡
-    w.desks m.0 ++ order_for x (Setup k from to protected both via backup) m) same
-    (with_item w from m (Order (Setup k from to protected both via backup)))
-order-desks t w (Release k from) n e m =
-    let same : from ≡ n = cc (e) in
-    subst (λ (x : NodeId). (step t w (Post (Release k from))).desks m.0 ≡
-    w.desks m.0 ++ order_for x (Release k from) m) same (with_item w from m (Order (Release k from)))
-order-desks t w (Protect k from) n e m =
-    let same : from ≡ n = cc (e) in
-    subst (λ (x : NodeId). (step t w (Post (Protect k from))).desks m.0 ≡
-    w.desks m.0 ++ order_for x (Protect k from) m) same (with_item w from m (Order (Protect k from)))
-order-desks t w (Retry k from) n e m =
-    let same : from ≡ n = cc (e) in
-    subst (λ (x : NodeId). (step t w (Post (Retry k from))).desks m.0 ≡
-    w.desks m.0 ++ order_for x (Retry k from) m) same (with_item w from m (Order (Retry k from)))
-order-desks t w (Revert k from) n e m =
-    let same : from ≡ n = cc (e) in
-    subst (λ (x : NodeId). (step t w (Post (Revert k from))).desks m.0 ≡
-    w.desks m.0 ++ order_for x (Revert k from) m) same (with_item w from m (Order (Revert k from)))
+    at_ingress t w _ from n m e (with_item w from m (Order (Setup k from to protected both via backup)))
+order-desks t w (Release k from) n e m = at_ingress t w _ from n m e (with_item w from m (Order (Release k from)))
+order-desks t w (Protect k from) n e m = at_ingress t w _ from n m e (with_item w from m (Order (Protect k from)))
+order-desks t w (Retry k from) n e m = at_ingress t w _ from n m e (with_item w from m (Order (Retry k from)))
+order-desks t w (Revert k from) n e m = at_ingress t w _ from n m e (with_item w from m (Order (Revert k from)))
 order-desks t w (Fail g) n e m = absurd (cc (e))
 order-desks t w (Repair g) n e m = absurd (cc (e))
 
@@ -215,24 +208,36 @@ module _ (t : Network) (lines : List Disturb) (r : Record) (items : NodeId → L
             (same-posts t lines r s.wires old.stations s.stations)));
       }
 
+-- there is room for a post more, and this is its stamp
+pub record IsNext (stamp : ℕ) (old : FleetState) : Type 0 where
+  pub room : length old.posts < 2 ^ 32
+  pub is : stamp ≡ greatest_of old.stations + 1
+
+-- What the parts of a fleet show of its posts and clocks holds of the fleet.
+pub next-post : {parts value : FleetState} {lent : List StationState} {greatest : ℕ} → parts ≡ value →
+    lent ≡ parts.stations → greatest ≡ greatest_of lent → length parts.posts < 2 ^ 32 → IsNext (greatest + 1) value
+next-post is same top room = record {
+  room = subst (λ (f : FleetState). length f.posts < 2 ^ 32) is room;
+  is = ap (λ k. k + 1) (top ∙ ap greatest_of (same ∙ ap (λ (f : FleetState). f.stations) is));
+}
+
 -- a command of a group
 pub groups-stand : (t : Network) (lines : List Disturb) (r : Record) (c : Command) (stamp : ℕ) (old new : FleetState) →
-    ingress_of c ≡ None → length old.posts < 2 ^ 32 → stamp ≡ greatest_of old.stations + 1 →
+    ingress_of c ≡ None → IsNext stamp old →
     HasPosted (news_for old.network old.failed (failed_after c old.failed)) c stamp old new →
     StandsFor t lines old r → IsEnabled t (world_of t r) (Post c) → StandsFor t lines new (posted t c r)
-groups-stand t lines r c stamp old new none room is_stamp done s on =
-    post-stands t lines r (news_for old.network old.failed (failed_after c old.failed)) c stamp old new s on is_stamp
-    done
+groups-stand t lines r c stamp old new none next done s on =
+    post-stands t lines r (news_for old.network old.failed (failed_after c old.failed)) c stamp old new s on
+    next.is done
     (λ w failed. subst (λ gs. Desks (news_for old.network gs (failed_after c gs)) t w c) failed
     (subst (λ (k : Network). Desks (news_for k w.failed (failed_after c w.failed)) t w c) (sym s.network)
-    (news-desks t w c none))) room
+    (news-desks t w c none))) next.room
 
 -- a command of a call
 pub order-stands : (t : Network) (lines : List Disturb) (r : Record) (c : Command) (n : NodeId) (stamp : ℕ)
-    (old new : FleetState) → ingress_of c ≡ Some n → length old.posts < 2 ^ 32 →
-    stamp ≡ greatest_of old.stations + 1 → Orders n c stamp old new → StandsFor t lines old r →
-    IsEnabled t (world_of t r) (Post c) → StandsFor t lines new (posted t c r)
-order-stands t lines r c n stamp old new call room is_stamp orders s on =
-    post-stands t lines r (order_for n c) c stamp old new s on is_stamp
+    (old new : FleetState) → ingress_of c ≡ Some n → IsNext stamp old → Orders n c stamp old new →
+    StandsFor t lines old r → IsEnabled t (world_of t r) (Post c) → StandsFor t lines new (posted t c r)
+order-stands t lines r c n stamp old new call next orders s on =
+    post-stands t lines r (order_for n c) c stamp old new s on next.is
     (orders t s.stations.valid s.seats (valid-ingress t (world_of t r) c n call on))
-    (λ w failed. order-desks t w c n call) room
+    (λ w failed. order-desks t w c n call) next.room

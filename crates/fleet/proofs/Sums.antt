@@ -12,6 +12,7 @@ use Rattle.ason_base.proofs.Ordered.{Rises, in_order-rises}
 use Rattle.ason_base.proofs.RisingNumbers.{nat_order}
 use Rattle.mesh_rules.specs.LocalNodes.{LocalNode, local_node}
 use Rattle.mesh_rules.specs.Rows.{all_call_rows, all_leg_rows, call_rows, leg_rows}
+use Rattle.mesh_rules.specs.State.{NodeState}
 use Rattle.control_channels.specs.declared.adjacencies.Adjacency.{Adjacency}
 use Rattle.control_channels.specs.Adjacencies.{hop_at, hop_of, is_to, neighbours, peer_numbers}
 use Rattle.control_channels.specs.ReadyControllers.{unacknowledged}
@@ -188,18 +189,21 @@ rows-stand t lines f r s =
     (stations-along t lines f r (λ x n. rows_due_of x ≡ rows_due_at (world_of t r) n.id) s
     (λ x n is. ap pending_count is.flood))
 
+-- the rows of each node
+node_rows : {X : Type 0} (f : NodeId → NodeState → List X) (t : Network) (lines : List Disturb) (fleet : FleetState)
+    (r : Record) → StandsFor t lines fleet r →
+    flat_map (λ (x : StationState). f x.controller.node.place.id x.controller.node.state) fleet.stations ≡
+    flat_map (λ (n : NodeSpec). f n.id ((world_of t r).nodes n.id.0)) t.nodes
+node_rows f t lines fleet r s =
+    rows-along _ _ fleet.stations t.nodes
+    (stations-along t lines fleet r
+    (λ x n. f x.controller.node.place.id x.controller.node.state ≡ f n.id ((world_of t r).nodes n.id.0)) s
+    (λ x n is. ap (λ (p : LocalNode). f p.id x.controller.node.state) is.place ∙ ap (f n.id) is.stands.state))
+
 pub calls-stand : (t : Network) (lines : List Disturb) (f : FleetState) (r : Record) → StandsFor t lines f r →
     flat_map call_rows_of f.stations ≡ all_call_rows t (image (world_of t r))
-calls-stand t lines f r s =
-    rows-along call_rows_of _ f.stations t.nodes
-    (stations-along t lines f r (λ x n. call_rows_of x ≡ call_rows n.id ((world_of t r).nodes n.id.0)) s
-    (λ x n is. ap (λ (p : LocalNode). call_rows p.id x.controller.node.state) is.place
-    ∙ ap (call_rows n.id) is.stands.state))
+calls-stand = node_rows call_rows
 
 pub legs-stand : (t : Network) (lines : List Disturb) (f : FleetState) (r : Record) → StandsFor t lines f r →
     flat_map leg_rows_of f.stations ≡ all_leg_rows t (image (world_of t r))
-legs-stand t lines f r s =
-    rows-along leg_rows_of _ f.stations t.nodes
-    (stations-along t lines f r (λ x n. leg_rows_of x ≡ leg_rows n.id ((world_of t r).nodes n.id.0)) s
-    (λ x n is. ap (λ (p : LocalNode). leg_rows p.id x.controller.node.state) is.place
-    ∙ ap (leg_rows n.id) is.stands.state))
+legs-stand = node_rows leg_rows

@@ -1,6 +1,6 @@
 -- What is published stays where stations are joined or looked at, and so does what is shown where they are told of posts;
 -- new stations publish nothing.
-use Rattle.std.proofs.Common.{◌≡◌, ◌<◌, ℕ, List, [], ◌∷◌, ◌++◌, length, map, refl, sym, ap, subst, ◌∙◌}
+use Rattle.std.proofs.Common.{◌≡◌, ◌<◌, ℕ, List, [], ◌∷◌, ◌++◌, drop, length, map, take, refl, sym, ap, subst, ◌∙◌}
 use Rattle.std.specs.Prelude.{None, Option, slice_set}
 use Rattle.std.specs.List.{AllZip}
 use Rattle.std.proofs.lemmas.List.{length-map}
@@ -19,6 +19,7 @@ use Rattle.fleet.specs.Posting.{TakeItems, TakesOrder, with_clock}
 use Rattle.station.specs.Watched.{shown_of}
 use Rattle.fleet.specs.Views.{AreUnwatched, publishers_of, shown_by}
 use Rattle.fleet.proofs.Places.{get-map, map-back, map-set, set-back}
+use Rattle.fleet.proofs.Splitting.{whole}
 use Rattle.fleet.proofs.Taking.{same-places, there-at, within-at}
 
 -- two stations that looked at each other
@@ -90,6 +91,20 @@ unwatched-same (x ∷ xs) (y ∷ ys) same all =
 
 pub publishers-count : (xs ys : List StationState) → publishers_of ys ≡ publishers_of xs → length ys ≡ length xs
 publishers-count xs ys same = sym (length-map ys publisher) ∙ ap length same ∙ length-map xs publisher
+
+-- a vector that was lent, and came back with what is published as it was
+pub back-whole : {items lent : List StationState} {len : ℕ} (new : List StationState) →
+    publishers_of new ≡ publishers_of lent → lent ≡ items → len ≡ length items →
+    new ≡ take len (new ++ drop (length new) items)
+back-whole {items = items} {lent = lent} {len = len} new same is count =
+    whole new items len (publishers-count lent new same ∙ ap length is ∙ sym count)
+
+-- and its stations are as unwatched as they were
+pub back-unwatched : {items lent : List StationState} {len : ℕ} (new : List StationState) →
+    publishers_of new ≡ publishers_of lent → lent ≡ items → len ≡ length items → AreUnwatched items →
+    AreUnwatched (take len (new ++ drop (length new) items))
+back-unwatched {items = items} new same is count all =
+    subst AreUnwatched (back-whole new same is count) (unwatched-same items new (same ∙ ap publishers_of is) all)
 
 -- with one more
 pub unwatched-more : (t : Network) (n : NodeId) (xs ys : List StationState) → HasMore t n xs ys → AreUnwatched xs →

@@ -8,7 +8,7 @@ use Rattle.fleet.specs.Commands.{but_room}
 use Rattle.fleet.specs.Posting.{HaveRoom, news_for, post_of}
 use Rattle.fleet.specs.Standing.{FleetState}
 use Rattle.fleet.specs.Views.{shown_by}
-use Rattle.fleet.proofs.KeptSeats.{items-links, on-any-err, seats-back, seats-count, seats-roomed}
+use Rattle.fleet.proofs.KeptSeats.{items-links, on-any-err, roomed-count, roomed-same, seats-back, seats-roomed}
 use Rattle.fleet.proofs.Taking.{room-clocks, stamp-above, take-roomed, take-same}
 use Rattle.fleet.proofs.Unwatched.{items-shown, room-shown}
 use Rattle.fleet.proofs.fleet.Fleet.change.Goals as goal
@@ -27,15 +27,8 @@ take_news-requires c =
     c.deref_mut-2.ensures.value
     ∙ with_items_is c.self.inside.stations mid (omega (arith, c.list_post.auto.stations, c.deref_mut.ensures.len)) in
     record {
-      count = omega (
-        arith,
-        ap length is,
-        c.list_post.auto.stations,
-        c.deref_mut.ensures.len,
-        c.self.inside.stations.ok.0,
-        seats-count c.self.inside.seats.items c.self.inside.stations.items c.self.invariant,
-        ap length c.deref-2.ensures.value,
-      );
+      count =
+          roomed-count c.self.invariant c.deref-2.ensures.value c.deref_mut.ensures.value c.list_post.ensures.same is;
       room =
           subst (λ k. HaveRoom k c.deref_mut-2.result.now) (ap length c.links-items.ensures.list)
           (subst (HaveRoom (length c.links-items.result.now)) (sym is) c.in_ok-list_post.ensures.room);
@@ -48,27 +41,15 @@ take_news-requires c =
 
 pub invariant_of-self-2 : goal.invariant_of-self-2
 invariant_of-self-2 c =
-    let mid = c.list_post.new.stations in
-    let vec = with_items c.self.inside.stations mid in
-    let new = c.take_news.new.stations in
-    let is : vec.items ≡ mid =
-    with_items_is c.self.inside.stations mid (omega (arith, c.list_post.auto.stations, c.deref_mut.ensures.len)) in
-    let lent : c.deref_mut-2.result.now ≡ mid = c.deref_mut-2.ensures.value ∙ is in
-    seats-back c.self.inside.seats.items vec.items c.deref_mut-2.result.now new (with_items vec new).items
-    (seats-roomed c.self.inside.seats.items c.self.inside.stations.items c.deref_mut.result.now mid vec.items
-    c.self.invariant c.deref_mut.ensures.value c.list_post.ensures.same is)
-    c.deref_mut-2.ensures.value
-    (items-links (news_for c.self.inside.network c.deref-3.result.now c.deref-4.result.now) c.args.stamp
-    c.deref-2.result.now c.deref_mut-2.result.now new (omega (
-      arith,
-      ap length lent,
-      c.list_post.auto.stations,
-      c.deref_mut.ensures.len,
-      c.self.inside.stations.ok.0,
-      seats-count c.self.inside.seats.items c.self.inside.stations.items c.self.invariant,
-      ap length c.deref-2.ensures.value,
-    )) c.take_news.ensures)
-    (with_items_is vec new (omega (arith, c.take_news.auto.stations, c.deref_mut-2.ensures.len)))
+    let vec = with_items c.self.inside.stations c.list_post.new.stations in
+    let is = with_items_is c.self.inside.stations c.list_post.new.stations (omega
+    (arith, c.list_post.auto.stations, c.deref_mut.ensures.len)) in
+    seats-back c.self.inside.seats.items vec.items _ c.take_news.new.stations _
+    (seats-roomed _ c.self.inside.stations.items _ _ _ c.self.invariant c.deref_mut.ensures.value
+    c.list_post.ensures.same is) c.deref_mut-2.ensures.value
+    (items-links _ c.args.stamp _ _ c.take_news.new.stations (roomed-count c.self.invariant c.deref-2.ensures.value
+    c.deref_mut.ensures.value c.list_post.ensures.same (c.deref_mut-2.ensures.value ∙ is)) c.take_news.ensures)
+    (with_items_is vec c.take_news.new.stations (omega (arith, c.take_news.auto.stations, c.deref_mut-2.ensures.len)))
 
 pub returns-clause-on : goal.returns-clause-on
 returns-clause-on c =
@@ -117,40 +98,18 @@ returns-in_err-list_post-clause-shown c =
 
 pub returns-clause-shown : goal.returns-clause-shown
 returns-clause-shown c =
-    let mid = c.list_post.new.stations in
-    let vec = with_items c.self.inside.stations mid in
-    let new = c.take_news.new.stations in
-    let is : vec.items ≡ mid =
-    with_items_is c.self.inside.stations mid (omega (arith, c.list_post.auto.stations, c.deref_mut.ensures.len)) in
-    let lent : c.deref_mut-2.result.now ≡ mid = c.deref_mut-2.ensures.value ∙ is in
-    ap shown_by (with_items_is vec new (omega (arith, c.take_news.auto.stations, c.deref_mut-2.ensures.len)))
-    ∙ items-shown (news_for c.self.inside.network c.deref-3.result.now c.deref-4.result.now) c.args.stamp
-    c.deref-2.result.now c.deref_mut-2.result.now new (omega (
-      arith,
-      ap length lent,
-      c.list_post.auto.stations,
-      c.deref_mut.ensures.len,
-      c.self.inside.stations.ok.0,
-      seats-count c.self.inside.seats.items c.self.inside.stations.items c.self.invariant,
-      ap length c.deref-2.ensures.value,
-    )) c.take_news.ensures
-    ∙ ap shown_by lent ∙ room-shown c.deref_mut.result.now mid c.list_post.ensures.same
+    let lent = c.deref_mut-2.ensures.value ∙ with_items_is c.self.inside.stations c.list_post.new.stations (omega
+    (arith, c.list_post.auto.stations, c.deref_mut.ensures.len)) in
+    ap shown_by (with_items_is (with_items c.self.inside.stations c.list_post.new.stations) c.take_news.new.stations
+    (omega (arith, c.take_news.auto.stations, c.deref_mut-2.ensures.len)))
+    ∙ items-shown _ c.args.stamp _ _ c.take_news.new.stations (roomed-count c.self.invariant c.deref-2.ensures.value
+    c.deref_mut.ensures.value c.list_post.ensures.same lent) c.take_news.ensures
+    ∙ ap shown_by lent ∙ room-shown _ c.list_post.new.stations c.list_post.ensures.same
     ∙ ap shown_by c.deref_mut.ensures.value ∙ ap (λ (x : FleetState). shown_by x.stations) c.self.view_is
 
 pub returns-in_err-list_post-clause-err : goal.returns-in_err-list_post-clause-err
 returns-in_err-list_post-clause-err c =
-    let mid = c.list_post.new.stations in
-    on-any-err c.from_residual-in_err-list_post.result _ (record {
-      stations =
-          ap (map but_room) (with_items_is c.self.inside.stations mid (omega
-          (arith, c.list_post.auto.stations, c.deref_mut.ensures.len)))
-          ∙ c.list_post.ensures.same ∙ ap (map but_room) (c.deref_mut.ensures.value
-          ∙ ap (λ (x : FleetState). x.stations) c.self.view_is);
-      seats = ap (λ (x : FleetState). x.seats) c.self.view_is;
-      rest = record {
-        posts =
-            c.in_err-list_post.ensures.err ∙ ap (λ (x : FleetState). x.posts) c.self.view_is;
-        network = ap (λ (x : FleetState). x.network) c.self.view_is;
-        failed = ap (λ (x : FleetState). x.failed) c.self.view_is;
-      };
-    })
+    on-any-err c.from_residual-in_err-list_post.result _ (roomed-same c.self.view_is
+    (ap (map but_room) (with_items_is c.self.inside.stations c.list_post.new.stations (omega
+    (arith, c.list_post.auto.stations, c.deref_mut.ensures.len))) ∙ c.list_post.ensures.same
+    ∙ ap (map but_room) c.deref_mut.ensures.value) c.in_err-list_post.ensures.err)

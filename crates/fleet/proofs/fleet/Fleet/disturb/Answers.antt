@@ -1,11 +1,10 @@
 use Rattle.std.proofs.Common.{◌≡◌, ◌+◌, length, map, sym, ap, ◌∙◌, subst, arith}
-use Rattle.std.specs.Prelude.{List, None, position}
+use Rattle.std.specs.Prelude.{None, position}
 use Rattle.std.specs.Vec.{with_items}
 use Rattle.std.proofs.lemmas.List.{with_items_is}
 use Rattle.ason_base.specs.Network.{Network}
 use Rattle.ason_base.proofs.Results.{on_both, on_err, on_ok}
 use Rattle.world_rules.specs.WorldRuns.{is_channel}
-use Rattle.station_doings.specs.States.{StationState}
 use Rattle.fleet_rounds.proofs.Nodes.{joins-nodes}
 use Rattle.fleet.specs.Commands.{is_seat}
 use Rattle.fleet.specs.Noises.{HasLine, sent_on}
@@ -13,7 +12,7 @@ use Rattle.fleet.specs.Standing.{FleetState}
 use Rattle.fleet.specs.Views.{shown_by}
 use Rattle.fleet.proofs.Channels.{sent-is-count}
 use Rattle.fleet.proofs.Finding.{IsFirst, first-at, seat-lost}
-use Rattle.fleet.proofs.KeptSeats.{line-links, links_of, seats-back, seats-count}
+use Rattle.fleet.proofs.KeptSeats.{line-links, links_of, lent-same, rest-kept, seats-back, seats-count}
 use Rattle.fleet.proofs.Lines.{line-stands}
 use Rattle.fleet.proofs.Taking.{within-at}
 use Rattle.fleet.proofs.fleet.Fleet.disturb.Goals as goal
@@ -69,26 +68,14 @@ returns-in-Some-Some-clause-on c =
     (subst (λ xs. HasLine (record line { k = sent + line.k }) place f.stations xs)
     (sym (with_items_is c.self.inside.stations new (omega (arith, c.put_line.auto.stations, c.deref_mut.ensures.len))))
     (subst (λ xs. HasLine (record line { k = sent + line.k }) place xs new) (c.deref_mut.ensures.value ∙ stations)
-    has)) seats (record {
-      posts = ap (λ (x : FleetState). x.posts) c.self.view_is;
-      network = ap (λ (x : FleetState). x.network) c.self.view_is;
-      failed = ap (λ (x : FleetState). x.failed) c.self.view_is;
-    })) c.put_line.ensures.ok
+    has)) seats (rest-kept c.self.view_is)) c.put_line.ensures.ok
 
 pub returns-in-Some-Some-clause-err : goal.returns-in-Some-Some-clause-err
 returns-in-Some-Some-clause-err c =
-    let inside = c.self.inside in
-    let new = c.put_line.new.stations in
-    let last : (with_items inside.stations new).items ≡ new =
-    with_items_is inside.stations new (omega (arith, c.put_line.auto.stations, c.deref_mut.ensures.len)) in
-    on_err c.put_line.result _ _
-    (λ same. ap (λ (xs : List StationState). record {
-      seats = inside.seats.items;
-      stations = xs;
-      posts = inside.posts.items;
-      network = inside.network;
-      failed = inside.failed.items;
-    }) (last ∙ same ∙ c.deref_mut.ensures.value) ∙ c.self.view_is) c.put_line.ensures.err
+    on_err c.put_line.result _ _ (λ same. lent-same c.self.view_is
+    (with_items_is c.self.inside.stations c.put_line.new.stations (omega
+    (arith, c.put_line.auto.stations, c.deref_mut.ensures.len)) ∙ same ∙ c.deref_mut.ensures.value))
+    c.put_line.ensures.err
 
 pub returns-in_default-clause-on : goal.returns-in_default-clause-on
 returns-in_default-clause-on c t lines r s =

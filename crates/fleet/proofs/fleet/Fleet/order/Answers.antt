@@ -11,7 +11,7 @@ use Rattle.fleet.specs.Posting.{HaveRoom, TakesOrder, order_for, post_of}
 use Rattle.fleet.specs.Standing.{FleetState}
 use Rattle.fleet.specs.Views.{shown_by}
 use Rattle.fleet.proofs.Finding.{IsFirst, first-at, seat-lost}
-use Rattle.fleet.proofs.KeptSeats.{on-any-err, order-links, seats-back, seats-count, seats-roomed}
+use Rattle.fleet.proofs.KeptSeats.{on-any-err, order-links, roomed-same, seats-back, seats-count, seats-roomed}
 use Rattle.fleet.proofs.Posted.{groups-left}
 use Rattle.fleet.proofs.Taking.{order-takes, room-clocks, stamp-above, take-roomed, within-at}
 use Rattle.fleet.proofs.Unwatched.{order-shown, room-shown}
@@ -133,18 +133,7 @@ returns-in_ok-list_post-in-Some-clause-shown c =
 
 pub returns-in_err-list_post-in-Some-clause-err : goal.returns-in_err-list_post-in-Some-clause-err
 returns-in_err-list_post-in-Some-clause-err c =
-    let mid = c.list_post.new.stations in
-    on-any-err c.from_residual-in_err-list_post-in-Some.result _ (record {
-      stations =
-          ap (map but_room) (with_items_is c.self.inside.stations mid (omega
-          (arith, c.list_post.auto.stations, c.deref_mut.ensures.len)))
-          ∙ c.list_post.ensures.same ∙ ap (map but_room) (c.deref_mut.ensures.value
-          ∙ ap (λ (x : FleetState). x.stations) c.self.view_is);
-      seats = ap (λ (x : FleetState). x.seats) c.self.view_is;
-      rest = record {
-        posts =
-            c.in_err-list_post-in-Some.ensures.err ∙ ap (λ (x : FleetState). x.posts) c.self.view_is;
-        network = ap (λ (x : FleetState). x.network) c.self.view_is;
-        failed = ap (λ (x : FleetState). x.failed) c.self.view_is;
-      };
-    })
+    on-any-err c.from_residual-in_err-list_post-in-Some.result _ (roomed-same c.self.view_is
+    (ap (map but_room) (with_items_is c.self.inside.stations c.list_post.new.stations (omega
+    (arith, c.list_post.auto.stations, c.deref_mut.ensures.len))) ∙ c.list_post.ensures.same
+    ∙ ap (map but_room) c.deref_mut.ensures.value) c.in_err-list_post-in-Some.ensures.err)
