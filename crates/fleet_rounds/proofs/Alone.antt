@@ -7,11 +7,9 @@ use Rattle.ason_base.specs.Network.{Network, is_node_id}
 use Rattle.ason_base.specs.declared.commands.Disturb.{Disturb}
 use Rattle.ason_base.specs.declared.ids.NodeId.{NodeId}
 use Rattle.world_rules.specs.WorldRuns.{is_channel, neighbours}
-use Rattle.world_rules.specs.Worlds.{start}
 use Rattle.world_rules.proofs.Stepping.{self_test}
-use Rattle.world_merge.specs.Deeds.{AreDoable}
 use Rattle.world_merge.specs.Histories.{at}
-use Rattle.world_merge.specs.Logs.{RisesAbove, is_posted, line_of, posts_of}
+use Rattle.world_merge.specs.Logs.{is_posted, line_of, posts_of}
 use Rattle.station_rings.specs.LinkStates.{LinkState}
 use Rattle.round_rules.specs.Doings.{Doing, deeds_in}
 use Rattle.round_rules.specs.OneWorker.{after_turns, dropped_in, ids_of, with_doings}
@@ -23,12 +21,13 @@ use Rattle.station_doings.specs.States.{IsStationOf, StationState}
 use Rattle.station_doings.specs.Turned.{comes_to_end}
 use Rattle.fleet_rounds.specs.Fleets.{AreStanding, HasGrown, IsKnown, IsNowhere, IsRingOf, IsStationAt, Wires}
 use Rattle.fleet_rounds.specs.OneWorker.{IsPlaced}
-use Rattle.fleet_rounds.specs.Turns.{AfterTurns, HasMadeRound}
-use Rattle.fleet_rounds.proofs.Choosing.{Between, zip-more}
+use Rattle.fleet_rounds.proofs.AloneTurns.{AloneTurns}
+use Rattle.fleet_rounds.proofs.Choosing.{zip-more}
 use Rattle.fleet_rounds.proofs.Counting.{RingFacts, drops-at, drops_over, facts-after, stands-count, takes-all}
 use Rattle.fleet_rounds.proofs.Links.{ends-stay, moved-none}
 use Rattle.fleet_rounds.proofs.NoPosts.{posts-more}
 use Rattle.fleet_rounds.proofs.Nodes.{same-node}
+use Rattle.fleet_rounds.proofs.Replacing.{nowhere-kept}
 use Rattle.fleet_rounds.proofs.Rounding.{Part, TurnedAt, one-turned, ring-facts}
 use Rattle.fleet_rounds.proofs.Wired.{ChannelEnds, ends-each, link-count, link-taken}
 
@@ -42,11 +41,9 @@ drops_none l =
     nothing (suc k) [] e = refl
     nothing (suc k) (x ∷ ns) e = absurd (cc (e))
 
-module _ (t : Network) (lines : List Disturb) (r : Record) (w : Wires) (xs : List StationState)
-    (all : AreStanding t lines r w xs) (n : NodeId) (node : is_node_id t.nodes n ≡ true) (many : ℕ) (y : AfterTurns)
-    (made : Between (IsStationAt t lines r w) (HasMadeRound many) n y)
-    (known : (d : NodeId) → is_channel t n d ≡ true → IsKnown w n d) (ys : List StationState)
-    (placed : AllZip (IsPlaced t lines r w n y.station) (ids_of t) ys) where
+module _ (t : Network) (lines : List Disturb) (r : Record) (w : Wires) (a : AloneTurns t lines r w) where
+  open a use {xs, all, n, node, many, y, made, known, ys, placed}
+
   -- the node's part after its turns
   pub part : (a : Part) × TurnedAt t lines r w n y a
   part = one-turned t lines r w many all.valid n y made
@@ -195,17 +192,7 @@ module _ (t : Network) (lines : List Disturb) (r : Record) (w : Wires) (xs : Lis
 
   nowhere_now : (m : ℕ) → is_node_id t.nodes (at m) ≡ false → IsNowhere t later m
   nowhere_now m none =
-      let same : deeds_at r m ≡ deeds_at later m =
-      ap deeds_in (sym (doings-else m (not_here m none (nat_eq m n.0) refl))) in
-      let was = all.nowhere m none in
-      record {
-        posts = record {
-          posts = was.posts.posts;
-          all = sym same ∙ was.posts.all;
-          doable = subst (AreDoable t (at m) (start t)) same was.posts.doable;
-        };
-        rises = subst (RisesAbove 0) same was.rises;
-      }
+      nowhere-kept t r later m (doings-else m (not_here m none (nat_eq m n.0) refl)) (all.nowhere m none)
 
   posts_same : (m : ℕ) (b : Bool) → nat_eq m n.0 ≡ b → posts_of (at m) (deeds_at later m) ≡ posts_of (at m)
       (deeds_at r m)

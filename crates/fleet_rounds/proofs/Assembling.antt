@@ -24,10 +24,23 @@ pub alone-did : (t : Network) (n : NodeId) (ds : List Doing) (d : Deed) →
     alone t n (deeds_in (ds ++ Did d ∷ [])) ≡ done t n (alone t n (deeds_in ds)) d
 alone-did t n ds d = ap (alone t n) (deeds-more ds (Did d ∷ [])) ∙ alone-more t n (start t) (deeds_in ds) (d ∷ [])
 
--- A post
+-- the world whose parts are those of these worlds, each of its node
+abbrev joined : (ℕ → World) → World
+joined ws = record {
+  nodes = λ n. (ws n).nodes n;
+  desks = λ n. (ws n).desks n;
+  ends = λ u d. (ws u).ends u d;
+  floods = λ n. (ws n).floods n;
+  channels = λ u d. (ws u).channels u d;
+  posted = (ws 0).posted;
+  failed = (ws 0).failed;
+  made = λ n. (ws n).made n;
+}
 
-pub posts-are-steps : PostsAreSteps
-posts-are-steps t c r same = λ i. record {
+-- a record whose nodes' parts are theirs is of that world
+is-world : (t : Network) (r : Record) (ws : ℕ → World) →
+    ((n : ℕ) → Agrees n (alone t (at n) (deeds_at r n)) (ws n)) → world_of t r ≡ joined ws
+is-world t r ws parts = λ i. record {
   nodes = λ n. (parts n).node i;
   desks = λ n. (parts n).desk i;
   ends = λ u d. (parts u).ends d i;
@@ -37,6 +50,11 @@ posts-are-steps t c r same = λ i. record {
   failed = (parts 0).failed i;
   made = λ n. (parts n).made i;
 }
+
+-- A post
+
+pub posts-are-steps : PostsAreSteps
+posts-are-steps t c r same = is-world t (posted t c r) (λ n. step t (world_of t r) (Post c)) parts
   where
     -- what the node made alone is its part of the world
     before : (n : ℕ) → Agrees n (alone t (at n) (deeds_at r n)) (world_of t r)
@@ -60,16 +78,7 @@ posts-are-steps t c r same = λ i. record {
 -- Noise
 
 pub noise-is-a-step : NoiseIsAStep
-noise-is-a-step t u d bytes r = λ i. record {
-  nodes = λ n. (parts n).node i;
-  desks = λ n. (parts n).desk i;
-  ends = λ a b. (parts a).ends b i;
-  floods = λ n. (parts n).flood i;
-  channels = λ a b. (parts a).channels b i;
-  posted = (parts 0).posted i;
-  failed = (parts 0).failed i;
-  made = λ n. (parts n).made i;
-}
+noise-is-a-step t u d bytes r = is-world t after (λ n. with_event (alone t (at n) (deeds_at r n)) d.0) parts
   where
     did : List Doing
     did = r.doings d.0 ++ Did (Heard (clock_of (r.doings d.0) + 1) u bytes) ∷ []

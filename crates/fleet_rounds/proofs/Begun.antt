@@ -1,52 +1,25 @@
 -- What came out of the rings of one station is still a first part of what was handed to them.
 use Rattle.std.proofs.Common.{◌≡◌, ℕ, Bool, true, false, cond, nat_eq, List, ◌++◌, refl, sym, ap, ◌∙◌, subst}
 use Rattle.std.proofs.Common.{append_assoc}
-use Rattle.std.specs.List.{AllZip, Contains}
+use Rattle.std.specs.List.{Contains}
 use mathlib.Core.List.{IsPrefix}
 use Rattle.rtrb.specs.Ring.{received}
 use Rattle.ason_base.specs.declared.ids.NodeId.{NodeId}
 use Rattle.ason_base.specs.declared.commands.Disturb.{Disturb}
-use Rattle.ason_base.specs.Network.{Network, is_node_id}
+use Rattle.ason_base.specs.Network.{Network}
 use Rattle.world_rules.specs.WorldRuns.{is_channel, neighbours}
 use Rattle.world_rules.proofs.Stepping.{self_test}
-use Rattle.station_rings.specs.LinkStates.{LinkState, gone_of}
-use Rattle.round_rules.specs.Doings.{Doing}
-use Rattle.round_rules.specs.OneWorker.{ids_of}
+use Rattle.station_rings.specs.LinkStates.{gone_of}
 use Rattle.round_rules.specs.Records.{Record}
 use Rattle.station_doings.specs.Moves.{HasMoved}
-use Rattle.station_doings.specs.States.{StationState}
-use Rattle.fleet_rounds.specs.Fleets.{AreStanding, HasBegun, IsKnown, IsStationAt, Wires}
-use Rattle.fleet_rounds.specs.OneWorker.{IsPlaced}
-use Rattle.fleet_rounds.specs.Turns.{AfterTurns, HasMadeRound}
-use Rattle.fleet_rounds.proofs.Alone.{ds, later, now, part, row, wired}
-use Rattle.fleet_rounds.proofs.Choosing.{Between}
+use Rattle.fleet_rounds.specs.Fleets.{HasBegun, Wires}
+use Rattle.fleet_rounds.proofs.KnownTurns.{KnownTurns, turns-made}
 use Rattle.fleet_rounds.proofs.Nodes.{channel-back, joins-nodes, near-there, same-node}
-use Rattle.fleet_rounds.proofs.Rounding.{TurnedAt}
 
-module _ (t : Network) (lines : List Disturb) (r : Record) (w : Wires) (xs : List StationState)
-    (all : AreStanding t lines r w xs) (begun : (u d : NodeId) → is_channel t u d ≡ true → HasBegun w u d)
-    (n : NodeId) (node : is_node_id t.nodes n ≡ true) (many : ℕ) (y : AfterTurns)
-    (made : Between (IsStationAt t lines r w) (HasMadeRound many) n y)
-    (known : (d : NodeId) → is_channel t n d ≡ true → IsKnown w n d) (ys : List StationState)
-    (placed : AllZip (IsPlaced t lines r w n y.station) (ids_of t) ys)
-    (in_known : (u : NodeId) → is_channel t u n ≡ true → IsKnown w u n)
-    (after_begun : (u : NodeId) → is_channel t u n ≡ true →
-    IsPrefix (received (wired t lines r w xs all n node many y made known ys placed n.0 u.0).into)
-    (gone_of (w u.0 n.0))) where
-  abbrev turned : TurnedAt t lines r w n y (part t lines r w xs all n node many y made known ys placed).0
-  turned = now t lines r w xs all n node many y made known ys placed
-
-  abbrev after : Record
-  after = later t lines r w xs all n node many y made known ys placed
-
-  abbrev wires : Wires
-  wires = wired t lines r w xs all n node many y made known ys placed
-
-  abbrev links : ℕ → LinkState
-  links = row t lines r w xs all n node many y made known ys placed
-
-  abbrev did : List Doing
-  did = ds t lines r w xs all n node many y made known ys placed
+module _ (t : Network) (lines : List Disturb) (r : Record) (w : Wires) (k : KnownTurns t lines r w) where
+  open k use {alone, begun, after_begun}
+  open alone use {n, node}
+  open turns-made t lines r w alone use {turned, wires, links}
 
   -- the node's links are those of its part
   pub wires-here : (u : ℕ) → wires n.0 u ≡ links u

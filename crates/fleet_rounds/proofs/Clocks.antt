@@ -1,7 +1,7 @@
 -- No clock of a fleet is above the number of all that happened.
 use Rattle.std.proofs.Common.{◌≡◌, ◌≤◌, ◌<◌, ◌+◌, ℕ, zero, suc, Bool, true, false, cond, nat_eq, nat_le, List, [], ◌∷◌}
 use Rattle.std.proofs.Common.{length, map, refl, sym, ap, ◌∙◌, subst, arith, inl, inr}
-use Rattle.std.specs.Prelude.{◌⊎◌, max, Some}
+use Rattle.std.specs.Prelude.{◌⊎◌, Some}
 use Rattle.std.specs.List.{AllByRecursion, AllZip, Contains, flat_map}
 use Rattle.std.proofs.lemmas.List.{length-map}
 use Rattle.std.proofs.lemmas.List.Elements.{Contains-append_left, Contains-append_right}
@@ -33,6 +33,7 @@ use Rattle.fleet_rounds.proofs.Choosing.{Beside, zip-there}
 use Rattle.fleet_rounds.proofs.Exact.{gone-sent}
 use Rattle.fleet_rounds.proofs.Exacts.{sent-whole}
 use Rattle.fleet_rounds.proofs.Gaps.{few-numbers}
+use Rattle.fleet_rounds.proofs.Greatest.{greater}
 use Rattle.fleet_rounds.proofs.Nodes.{among-ids, channel-near, joins-nodes, node-there, there-among}
 use Rattle.fleet_rounds.proofs.Wired.{at-node, one-of}
 
@@ -105,19 +106,6 @@ among_stamp t r s h = record {
 
     place : (n : NodeId) × Contains (ids_of t) n × Contains (deeds_at r n.0) deed.0
     place = there_from_flat_map (λ (n : NodeId). deeds_at r n.0) (ids_of t) deed.0 deed.1
-
-greater : (a b : ℕ) → (max a b ≡ a) ⊎ (max a b ≡ b)
-greater a b = go (nat_le a b) refl
-  where
-    second : nat_le a b ≡ true → max a b ≡ b
-    second e = grind (arith, e)
-
-    first : nat_le a b ≡ false → max a b ≡ a
-    first e = grind (arith, e)
-
-    go : (c : Bool) → nat_le a b ≡ c → (max a b ≡ a) ⊎ (max a b ≡ b)
-    go true e = inr (second e)
-    go false e = inl (first e)
 
 module _ (t : Network) (lines : List Disturb) (r : Record) (w : Wires) (xs : List StationState)
     (all : AreStanding t lines r w xs) (begun : AllBegun t w) (posts : PostsFollow t r) where

@@ -18,7 +18,7 @@ use Rattle.round_rules.specs.Rounds.{DropsAt, MayDrop, NumbersRise}
 use Rattle.round_rules.proofs.Standing.{standing-is-left}
 use Rattle.station_doings.specs.Moves.{HasMoved, IsDrained}
 use Rattle.station_doings.specs.States.{IsTakenFrom, numbers_of}
-use Rattle.fleet_rounds.proofs.Got.{got-more}
+use Rattle.station_doings.proofs.Taking.{got-more}
 use Rattle.fleet_rounds.proofs.Links.{sends-count, taken-more}
 use Rattle.fleet_rounds.proofs.Handing.{handed-after}
 use Rattle.fleet_rounds.proofs.Numbers.{all-range, drop-range, in-append, rises-filter, rises-first}

@@ -20,7 +20,7 @@ use Rattle.station_doings.specs.Moves.{HasMoved, IsDrained}
 use Rattle.station_doings.specs.States.{IsStationOf, StationState}
 use Rattle.station_doings.specs.Turned.{HasMadeTurn, HaveMadeTurns, comes_to_end, is_at_limit, is_starved}
 use Rattle.station_doings.specs.declared.turns.Turn.{Turn}
-use Rattle.fleet_rounds.proofs.Got.{got-more}
+use Rattle.station_doings.proofs.Taking.{got-more}
 use Rattle.fleet_rounds.proofs.Links.{all-drained-moved, all-moved-twice}
 use Rattle.fleet_rounds.proofs.NoPosts.{posts-append}
 use Rattle.fleet_rounds.proofs.Numbers.{in-append}

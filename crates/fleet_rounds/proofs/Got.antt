@@ -10,29 +10,15 @@ use Rattle.ason_base.specs.declared.commands.DisturbKind.{DisturbKind}
 use Rattle.ason_base.specs.declared.commands.DisturbKind.TheVariants.{Lose, Repeat, Hold}
 use Rattle.ason_base.specs.Network.{Network}
 use Rattle.world_merge.specs.Deeds.{Deed, Handled, Ticked, Took}
-use Rattle.round_rules.specs.Doings.{Did, Doing, Freed, Got, Left, Lost}
+use Rattle.round_rules.specs.Doings.{Did, Doing, Freed, Got}
 use Rattle.round_rules.specs.Functions.{Popped, all_freed, all_handled, all_taken, clock_of, delivered, freed, got}
 use Rattle.round_rules.specs.Functions.{handled}
 use Rattle.round_rules.specs.Functions.{taken, taken_as, tick_if, turn_after}
 use Rattle.round_rules.specs.Lines.{says}
 use Rattle.round_rules.specs.Rings.{got_from, is_in}
 use Rattle.round_rules.specs.Turns.{items_after}
+use Rattle.station_doings.proofs.Taking.{got-more}
 use Rattle.fleet_rounds.proofs.Nodes.{same-node}
-
--- What is taken by two lists of doings is what each takes.
-pub got-more : (u : NodeId) (xs ys : List Doing) → got_from u (xs ++ ys) ≡ got_from u xs ++ got_from u ys
-got-more u [] ys = refl
-got-more u (Did d ∷ xs) ys = got-more u xs ys
-got-more u (Got v k says ∷ xs) ys = go (nat_eq v.0 u.0) (got-more u xs ys)
-  where
-    go : (b : Bool) → got_from u (xs ++ ys) ≡ got_from u xs ++ got_from u ys →
-        cond b (k ∷ got_from u (xs ++ ys)) (got_from u (xs ++ ys)) ≡
-        cond b (k ∷ got_from u xs) (got_from u xs) ++ got_from u ys
-    go true e = ap (λ ks. k ∷ ks) e
-    go false e = e
-got-more u (Freed ∷ xs) ys = got-more u xs ys
-got-more u (Lost v k ∷ xs) ys = got-more u xs ys
-got-more u (Left i ∷ xs) ys = got-more u xs ys
 
 -- the numbers of those that come from u
 abbrev pub numbers_from : NodeId → List Popped → List ℕ

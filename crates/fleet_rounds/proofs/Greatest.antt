@@ -10,7 +10,8 @@ use Rattle.world_merge.specs.Deeds.{Deed, stamp_of}
 abbrev pub greatest : {X : Type 0} → (X → ℕ) → ℕ → List X → ℕ
 greatest {X} f k xs = fold (λ (j : ℕ) (x : X). max j (f x)) k xs
 
-greater : (a b : ℕ) → (max a b ≡ a) ⊎ (max a b ≡ b)
+-- the greater of two is one of them
+pub greater : (a b : ℕ) → (max a b ≡ a) ⊎ (max a b ≡ b)
 greater a b = go (nat_le a b) refl
   where
     second : nat_le a b ≡ true → max a b ≡ b

@@ -1,4 +1,5 @@
 pub mod Alone
+pub mod AloneTurns
 pub mod Assembling
 pub mod Beginning
 pub mod Begun
@@ -6,6 +7,7 @@ pub mod Choosing
 pub mod Clocks
 pub mod Contents
 pub mod Counting
+pub mod Cuts
 pub mod Done
 pub mod Exact
 pub mod Exacts
@@ -15,6 +17,7 @@ pub mod Got
 pub mod Greatest
 pub mod Handing
 pub mod Joined
+pub mod KnownTurns
 pub mod Links
 pub mod Looking
 pub mod Next

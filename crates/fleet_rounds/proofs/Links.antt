@@ -1,5 +1,5 @@
 -- What turns make of a link, one after the other.
-use Rattle.std.proofs.Common.{◌≡◌, ◌≤◌, ◌<◌, ◌+◌, ◌-◌, ℕ, Bool, true, false, nat_le, List, [], ◌∷◌, ◌++◌, length}
+use Rattle.std.proofs.Common.{◌≡◌, ◌≤◌, ◌<◌, ◌+◌, ◌-◌, ℕ, Bool, true, false, nat_le, List, [], ◌++◌, length}
 use Rattle.std.proofs.Common.{refl, sym}
 use Rattle.std.proofs.Common.{ap, ◌∙◌, arith, append-nil, append_assoc}
 use Rattle.std.specs.Prelude.{min}
@@ -14,6 +14,7 @@ use Rattle.round_rules.specs.Doings.{Doing}
 use Rattle.round_rules.specs.Rings.{got_from}
 use Rattle.station_doings.specs.Moves.{HasMoved, IsDrained}
 use Rattle.station_doings.specs.States.{IsTakenFrom, numbers_of}
+use Rattle.fleet_rounds.proofs.Choosing.{Between, zip-more, zip-then}
 use Rattle.fleet_rounds.proofs.Numbers.{range-split}
 
 -- what came out of the ring meanwhile comes after what had come
@@ -181,22 +182,16 @@ drained-moved a b c f g = (
 -- of all links
 pub all-moved-twice : (xs ys zs : List LinkState) → AllZip HasMoved xs ys → AllZip HasMoved ys zs →
     AllZip HasMoved xs zs
-all-moved-twice [] [] [] f g = tt
-all-moved-twice [] [] (c ∷ zs) f g = absurd g
-all-moved-twice [] (b ∷ ys) zs f g = absurd f
-all-moved-twice (a ∷ xs) [] zs f g = absurd f
-all-moved-twice (a ∷ xs) (b ∷ ys) [] f g = absurd g
-all-moved-twice (a ∷ xs) (b ∷ ys) (c ∷ zs) f g = (moved-twice a b c f.0 g.0, all-moved-twice xs ys zs f.1 g.1)
+all-moved-twice xs ys zs f g =
+    zip-more (Between HasMoved HasMoved) HasMoved (λ a c b. moved-twice a b.mid c b.one b.two) xs zs
+    (zip-then HasMoved HasMoved xs ys zs f g)
 
 -- so do all links
 pub all-drained-moved : (xs ys zs : List LinkState) → AllZip IsDrained xs ys → AllZip HasMoved ys zs →
     AllZip IsDrained xs zs
-all-drained-moved [] [] [] f g = tt
-all-drained-moved [] [] (c ∷ zs) f g = absurd g
-all-drained-moved [] (b ∷ ys) zs f g = absurd f
-all-drained-moved (a ∷ xs) [] zs f g = absurd f
-all-drained-moved (a ∷ xs) (b ∷ ys) [] f g = absurd g
-all-drained-moved (a ∷ xs) (b ∷ ys) (c ∷ zs) f g = (drained-moved a b c f.0 g.0, all-drained-moved xs ys zs f.1 g.1)
+all-drained-moved xs ys zs f g =
+    zip-more (Between IsDrained HasMoved) IsDrained (λ a c b. drained-moved a b.mid c b.one b.two) xs zs
+    (zip-then IsDrained HasMoved xs ys zs f g)
 
 -- Taking
 

@@ -1,4 +1,4 @@
--- In a turn nothing is posted.
+-- In a turn nothing is posted, and no input is left unless it halts.
 use Rattle.std.proofs.Common.{◌≡◌, ℕ, Bool, true, false, List, [], ◌∷◌, ◌++◌, filter, map, refl, sym, ap, ◌∙◌, subst}
 use Rattle.std.proofs.Common.{append-nil, arith, inl, inr}
 use Rattle.std.proofs.lemmas.List.Elements.{filter-append}
@@ -15,6 +15,7 @@ use Rattle.round_rules.specs.Takings.{Taking, all_doings}
 use Rattle.round_rules.specs.Turns.{AreDelivered, AreHandled, IsTick, IsTurnOf}
 use Rattle.round_rules.proofs.Desks.{deeds-more}
 use Rattle.station_doings.specs.Turned.{HeldLost, IsLast, NoneLost, PopLost, RepeatLost}
+use Rattle.fleet_rounds.proofs.NoLefts.{LeavesNone, none-append}
 
 abbrev pub HasNoPost : List Doing → Type 0
 HasNoPost ds = filter is_posted (deeds_in ds) ≡ []
@@ -32,53 +33,61 @@ posts-append xs ys f g = posts-more xs ys ∙ ap (λ ds. ds ++ filter is_posted 
 pub left-posts : (ds : List Doing) (w : Waiting) → HasNoPost ds → HasNoPost (ds ++ Left w ∷ [])
 left-posts ds w f = posts-append ds (Left w ∷ []) f refl
 
-tick_posts : (tick : Bool) (ds : List Doing) → IsTick tick ds → HasNoPost ds
-tick_posts true ds is = subst HasNoPost (sym is.1) refl
-tick_posts false ds is = subst HasNoPost (sym is) refl
+-- these post nothing and leave no input
+abbrev pub AddsNeither : List Doing → Type 0
+AddsNeither ds = HasNoPost ds × LeavesNone ds
 
-due_posts : (hs : List HeldFrame) (ds : List Doing) → AreDelivered hs ds → HasNoPost ds
-due_posts [] ds are = subst HasNoPost (sym are) refl
-due_posts (h ∷ hs) ds are = subst HasNoPost (sym are.3) (due_posts hs are.2 are.4)
+-- where neither does, both don't
+pub neither-append : (xs ys : List Doing) → AddsNeither xs → AddsNeither ys → AddsNeither (xs ++ ys)
+neither-append xs ys f g = (posts-append xs ys f.0 g.0, none-append xs ys f.1 g.1)
 
-item_posts : (ds : List Doing) → AreHandled ds → HasNoPost ds
-item_posts [] are = refl
-item_posts (d ∷ ds) are = subst (λ e. HasNoPost (e ∷ ds)) (sym are.0.1) (item_posts ds are.1)
+tick_neither : (tick : Bool) (ds : List Doing) → IsTick tick ds → AddsNeither ds
+tick_neither true ds is = subst AddsNeither (sym is.1) (refl, refl)
+tick_neither false ds is = subst AddsNeither (sym is) (refl, refl)
 
-delivery_posts : (u : NodeId) (k : ℕ) (x : Content) (stamps : List ℕ) →
-    HasNoPost (map (λ s. Did (Took s u k x)) stamps)
-delivery_posts u k x [] = refl
-delivery_posts u k x (s ∷ stamps) = delivery_posts u k x stamps
+due_neither : (hs : List HeldFrame) (ds : List Doing) → AreDelivered hs ds → AddsNeither ds
+due_neither [] ds are = subst AddsNeither (sym are) (refl, refl)
+due_neither (h ∷ hs) ds are = subst AddsNeither (sym are.3) (due_neither hs are.2 are.4)
 
-taking_posts : (gs : List Taking) → HasNoPost (all_doings gs)
-taking_posts [] = refl
-taking_posts (g ∷ gs) =
-    posts-append (map (λ s. Did (Took s g.from g.number g.content)) g.stamps) (all_doings gs)
-    (delivery_posts g.from g.number g.content g.stamps) (taking_posts gs)
+item_neither : (ds : List Doing) → AreHandled ds → AddsNeither ds
+item_neither [] are = (refl, refl)
+item_neither (d ∷ ds) are = subst (λ e. AddsNeither (e ∷ ds)) (sym are.0.1) (item_neither ds are.1)
 
-last_posts : (lines : List Disturb) (n : NodeId) (ds : List Doing) → MayLack lines n ds → HasNoPost ds
-last_posts lines n ds (inl none) = subst HasNoPost (sym none) refl
-last_posts lines n ds (inr once) = subst HasNoPost (sym once.all) refl
+delivery_neither : (u : NodeId) (k : ℕ) (x : Content) (stamps : List ℕ) →
+    AddsNeither (map (λ s. Did (Took s u k x)) stamps)
+delivery_neither u k x [] = (refl, refl)
+delivery_neither u k x (s ∷ stamps) = delivery_neither u k x stamps
 
-may_posts : (tick : Bool) (ds : List Doing) → MayTick tick ds → HasNoPost ds
-may_posts tick ds (inl none) = subst HasNoPost (sym none) refl
-may_posts tick ds (inr is) = tick_posts tick ds is
+taking_neither : (gs : List Taking) → AddsNeither (all_doings gs)
+taking_neither [] = (refl, refl)
+taking_neither (g ∷ gs) =
+    neither-append (map (λ s. Did (Took s g.from g.number g.content)) g.stamps) (all_doings gs)
+    (delivery_neither g.from g.number g.content g.stamps) (taking_neither gs)
 
--- In a cut turn nothing is posted.
-pub cut-posts : (t : Network) (lines : List Disturb) (n : NodeId) (tick : Bool) (before added : List Doing) →
-    IsCutTurnOf t lines n tick before added → HasNoPost added
-cut-posts t lines n tick before added f =
-    subst HasNoPost (sym f.all) (posts-append f.ticks (f.dues ++ (f.items ++ (all_doings f.takings ++ f.last)))
-    (may_posts tick f.ticks f.is_tick)
-    (posts-append f.dues (f.items ++ (all_doings f.takings ++ f.last)) (due_posts f.freed f.dues f.are_due)
-    (posts-append f.items (all_doings f.takings ++ f.last) (item_posts f.items f.handled)
-    (posts-append (all_doings f.takings) f.last (taking_posts f.takings) (last_posts lines n f.last f.lacks)))))
+last_neither : (lines : List Disturb) (n : NodeId) (ds : List Doing) → MayLack lines n ds → AddsNeither ds
+last_neither lines n ds (inl none) = subst AddsNeither (sym none) (refl, refl)
+last_neither lines n ds (inr once) = subst AddsNeither (sym once.all) (refl, refl)
 
--- Nor is what is lost for want of memory.
-pub lost-posts : (lines : List Disturb) (n : NodeId) (ds : List Doing) → IsLast lines n ds → HasNoPost ds
-lost-posts lines n ds NoneLost = refl
-lost-posts lines n ds (PopLost u k) = refl
-lost-posts lines n ds (RepeatLost u k s x e) = refl
-lost-posts lines n ds (HeldLost u k) = refl
+may_neither : (tick : Bool) (ds : List Doing) → MayTick tick ds → AddsNeither ds
+may_neither tick ds (inl none) = subst AddsNeither (sym none) (refl, refl)
+may_neither tick ds (inr is) = tick_neither tick ds is
+
+-- A cut turn posts nothing, and before it is cut it leaves no input.
+pub cut-adds : (t : Network) (lines : List Disturb) (n : NodeId) (tick : Bool) (before added : List Doing) →
+    IsCutTurnOf t lines n tick before added → AddsNeither added
+cut-adds t lines n tick before added f =
+    subst AddsNeither (sym f.all) (neither-append f.ticks (f.dues ++ (f.items ++ (all_doings f.takings ++ f.last)))
+    (may_neither tick f.ticks f.is_tick)
+    (neither-append f.dues (f.items ++ (all_doings f.takings ++ f.last)) (due_neither f.freed f.dues f.are_due)
+    (neither-append f.items (all_doings f.takings ++ f.last) (item_neither f.items f.handled)
+    (neither-append (all_doings f.takings) f.last (taking_neither f.takings) (last_neither lines n f.last f.lacks)))))
+
+-- Nor does what is lost for want of memory.
+pub lost-adds : (lines : List Disturb) (n : NodeId) (ds : List Doing) → IsLast lines n ds → AddsNeither ds
+lost-adds lines n ds NoneLost = (refl, refl)
+lost-adds lines n ds (PopLost u k) = (refl, refl)
+lost-adds lines n ds (RepeatLost u k s x e) = (refl, refl)
+lost-adds lines n ds (HeldLost u k) = (refl, refl)
 
 -- a turn is a cut turn that wants nothing
 abbrev pub whole-cut : (t : Network) (lines : List Disturb) (n : NodeId) (tick : Bool) (before added : List Doing) →
@@ -101,11 +110,11 @@ whole-cut t lines n tick before added f = record {
   lacks = inl refl;
 }
 
--- Nor in a whole one.
-pub turn-posts : (t : Network) (lines : List Disturb) (n : NodeId) (tick : Bool) (before added : List Doing) →
-    IsTurnOf t lines n tick before added → HasNoPost added
-turn-posts t lines n tick before added f =
-    cut-posts t lines n tick before added (whole-cut t lines n tick before added f)
+-- Nor does a whole one.
+pub turn-adds : (t : Network) (lines : List Disturb) (n : NodeId) (tick : Bool) (before added : List Doing) →
+    IsTurnOf t lines n tick before added → AddsNeither added
+turn-adds t lines n tick before added f =
+    cut-adds t lines n tick before added (whole-cut t lines n tick before added f)
 
 -- doing nothing is a cut turn
 abbrev pub no-turn : (t : Network) (lines : List Disturb) (n : NodeId) (before : List Doing) →

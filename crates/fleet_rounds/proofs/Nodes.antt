@@ -21,7 +21,8 @@ same-node a b e = ap (λ k. record { 0 = k }) (same_number a.0 b.0 e)
 
 -- The nodes of a topology rise
 
-abbrev Rises : ℕ → List NodeSpec → Type 0
+-- each node's number is above n, and above those of all earlier ones
+abbrev pub Rises : ℕ → List NodeSpec → Type 0
 Rises n [] = Unit {0}
 Rises n (m ∷ ms) = (n < m.id.0) × Rises m.id.0 ms
 
@@ -49,7 +50,8 @@ at_start nodes (suc k) =
     let past : nat_eq (suc k) 0 ≡ false = grind arith in
     ap (λ b. cond b 0 (node_number (slice_get nodes (suc k - 1)))) past ∙ ap (λ j. node_number (slice_get nodes j)) less
 
-rises : (t : Network) → IsTopology t → Rises 0 t.nodes
+-- the nodes of a topology rise
+pub rises : (t : Network) → IsTopology t → Rises 0 t.nodes
 rises t is = rises-from 0 t.nodes (λ k below. subst (λ j. j < node_number (slice_get t.nodes k)) (at_start t.nodes k)
     (less _ _ (is.nodes k below)))
   where

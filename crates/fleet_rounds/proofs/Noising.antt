@@ -7,26 +7,26 @@ use Rattle.ason_base.specs.declared.ids.NodeId.{NodeId}
 use Rattle.ason_base.specs.declared.commands.Disturb.{Disturb}
 use Rattle.ason_base.specs.Network.{Network, is_node_id}
 use Rattle.world_rules.specs.WorldRuns.{is_channel}
-use Rattle.world_rules.specs.Worlds.{World, start}
-use Rattle.world_merge.specs.Deeds.{AreDoable, Heard, alone}
+use Rattle.world_rules.specs.Worlds.{World}
+use Rattle.world_merge.specs.Deeds.{Heard, alone}
 use Rattle.world_merge.specs.Histories.{at}
-use Rattle.world_merge.specs.Logs.{RisesAbove, is_posted, line_of, posts_of}
+use Rattle.world_merge.specs.Logs.{is_posted, line_of, posts_of}
 use Rattle.round_rules.specs.Doings.{Did, Doing, deeds_in}
 use Rattle.round_rules.specs.Functions.{clock_of}
 use Rattle.round_rules.specs.OneWorker.{ids_of}
 use Rattle.round_rules.specs.Records.{Record, deeds_at, posts_in}
 use Rattle.round_rules.specs.Rings.{count_of, got_from}
 use Rattle.station_doings.specs.States.{IsStationOf, StationState}
+use Rattle.station_doings.proofs.Taking.{got-more}
 use Rattle.fleet_rounds.specs.Commands.{NoiseStandsFor, noised}
 use Rattle.fleet_rounds.specs.Fleets.{AreStanding, HasGrown, IsNowhere, IsRingOf, IsStationAt, Wires}
 use Rattle.fleet_rounds.specs.OneWorker.{IsPlaced}
 use Rattle.fleet_rounds.proofs.Assembling.{alone-did}
 use Rattle.fleet_rounds.proofs.Choosing.{zip-more}
 use Rattle.fleet_rounds.proofs.Filling.{posts-still-follow}
-use Rattle.fleet_rounds.proofs.Got.{got-more}
 use Rattle.fleet_rounds.proofs.NoPosts.{posts-more}
 use Rattle.fleet_rounds.proofs.Nodes.{joins-nodes, same-node}
-use Rattle.fleet_rounds.proofs.Replacing.{ring-kept}
+use Rattle.fleet_rounds.proofs.Replacing.{nowhere-kept, ring-kept}
 
 module _ (t : Network) (lines : List Disturb) (u d : NodeId) (bytes : List ℕ) (r : Record) (w : Wires)
     (xs : List StationState) (all : AreStanding t lines r w xs) (joined : is_channel t u d ≡ true) where
@@ -96,17 +96,7 @@ module _ (t : Network) (lines : List Disturb) (u d : NodeId) (bytes : List ℕ) 
 
   nowhere : (n : ℕ) → is_node_id t.nodes (at n) ≡ false → IsNowhere t later n
   nowhere n none =
-      let same : deeds_at r n ≡ deeds_at later n =
-      ap deeds_in (sym (doings_at n false (other_node n none (nat_eq n d.0) refl))) in
-      let was = all.nowhere n none in
-      record {
-        posts = record {
-          posts = was.posts.posts;
-          all = sym same ∙ was.posts.all;
-          doable = subst (AreDoable t (at n) (start t)) same was.posts.doable;
-        };
-        rises = subst (RisesAbove 0) same was.rises;
-      }
+      nowhere-kept t r later n (doings_at n false (other_node n none (nat_eq n d.0) refl)) (all.nowhere n none)
 
   posts_same : (n : ℕ) → posts_of (at n) (deeds_at later n) ≡ posts_of (at n) (deeds_at r n)
   posts_same n =

@@ -1,34 +1,28 @@
 -- With all known in its rings a node that halts does so in its first turn, which is a function of the record.
-use Rattle.std.proofs.Common.{◌≡◌, List, [], ◌∷◌, ◌++◌, refl, sym, ap, ◌∙◌, append-nil, true, false, ℕ, subst, inl}
+use Rattle.std.proofs.Common.{◌≡◌, List, [], ◌∷◌, ◌++◌, refl, sym, ap, ◌∙◌, append-nil, true, false, subst, inl}
 use Rattle.std.proofs.Common.{inr}
 use Rattle.std.specs.Prelude.{Some}
 use Rattle.std.specs.List.{AllZip, Contains}
-use mathlib.Core.List.{IsPrefix}
-use Rattle.rtrb.specs.Ring.{received}
-use Rattle.ason_base.specs.Network.{Network, is_node_id}
+use Rattle.ason_base.specs.Network.{Network}
 use Rattle.ason_base.specs.declared.commands.Disturb.{Disturb}
 use Rattle.ason_base.specs.declared.ids.NodeId.{NodeId}
-use Rattle.world_rules.specs.WorldRuns.{is_channel, neighbours}
-use Rattle.station_rings.specs.LinkStates.{LinkState, gone_of}
+use Rattle.world_rules.specs.WorldRuns.{neighbours}
+use Rattle.station_rings.specs.LinkStates.{LinkState}
 use Rattle.round_rules.specs.Doings.{Doing}
 use Rattle.round_rules.specs.Functions.{AreHeldAs, Popped}
 use Rattle.round_rules.specs.Held.{HeldFrame, due_in}
 use Rattle.round_rules.specs.Limits.{Progress, going, item_parts, turn_to}
-use Rattle.round_rules.specs.OneWorker.{ids_of, node_end, turns_to}
+use Rattle.round_rules.specs.OneWorker.{node_end, turns_to}
 use Rattle.round_rules.specs.Records.{Record}
 use Rattle.round_rules.proofs.Composing.{desk-empty, nothing-due}
 use Rattle.station_doings.specs.Moves.{HasMoved, IsDrained}
-use Rattle.station_doings.specs.States.{StationState}
 use Rattle.station_doings.specs.Turned.{HaveComeTo, all_of, is_at_limit}
-use Rattle.fleet_rounds.specs.Fleets.{AreStanding, HasBegun, IsKnown, IsStationAt, Wires}
-use Rattle.fleet_rounds.specs.OneWorker.{IsPlaced}
-use Rattle.fleet_rounds.specs.Turns.{AfterTurns, HasMadeRound}
-use Rattle.fleet_rounds.proofs.Alone.{ds, later, now, part, row, wired}
-use Rattle.fleet_rounds.proofs.Choosing.{Between, zip-there}
+use Rattle.fleet_rounds.specs.Fleets.{Wires}
+use Rattle.fleet_rounds.proofs.Choosing.{zip-there}
 use Rattle.fleet_rounds.proofs.Done.{IsHalt, LaterHalt}
+use Rattle.fleet_rounds.proofs.KnownTurns.{KnownTurns, turns-made}
 use Rattle.fleet_rounds.proofs.OneTurn.{OneTurn, all-moved-none}
 use Rattle.fleet_rounds.proofs.Popping.{TakesNothing, none-popped}
-use Rattle.fleet_rounds.proofs.Rounding.{TurnedAt}
 use Rattle.fleet_rounds.proofs.Turned.{are-held}
 use Rattle.fleet_rounds.proofs.TurnsExact.{end-is, links-between, stood-at, turn-exact}
 
@@ -37,28 +31,11 @@ no_due [] [] e are = refl
 no_due [] (p ∷ due) e are = absurd are
 no_due (h ∷ hs) due e are = absurd (cc (e))
 
-module _ (t : Network) (lines : List Disturb) (r : Record) (w : Wires) (xs : List StationState)
-    (all : AreStanding t lines r w xs) (begun : (u d : NodeId) → is_channel t u d ≡ true → HasBegun w u d)
-    (n : NodeId) (node : is_node_id t.nodes n ≡ true) (many : ℕ) (y : AfterTurns)
-    (made : Between (IsStationAt t lines r w) (HasMadeRound many) n y)
-    (known : (d : NodeId) → is_channel t n d ≡ true → IsKnown w n d) (ys : List StationState)
-    (placed : AllZip (IsPlaced t lines r w n y.station) (ids_of t) ys)
-    (in_known : (u : NodeId) → is_channel t u n ≡ true → IsKnown w u n)
-    (after_begun : (u : NodeId) → is_channel t u n ≡ true →
-    IsPrefix (received (wired t lines r w xs all n node many y made known ys placed n.0 u.0).into)
-    (gone_of (w u.0 n.0)))
-    (limit : is_at_limit y.end ≡ true) where
-  abbrev turned : TurnedAt t lines r w n y (part t lines r w xs all n node many y made known ys placed).0
-  turned = now t lines r w xs all n node many y made known ys placed
-
-  abbrev after : Record
-  after = later t lines r w xs all n node many y made known ys placed
-
-  abbrev links : ℕ → LinkState
-  links = row t lines r w xs all n node many y made known ys placed
-
-  abbrev did : List Doing
-  did = ds t lines r w xs all n node many y made known ys placed
+module _ (t : Network) (lines : List Disturb) (r : Record) (w : Wires) (k : KnownTurns t lines r w)
+    (limit : is_at_limit k.alone.y.end ≡ true) where
+  open k use {alone}
+  open alone use {n, node, y, made}
+  open turns-made t lines r w alone use {turned, after, links, did}
 
   at_first : OneTurn t n true (r.doings n.0) turned.old y.station true turned.done.added →
       node_end t r n (turns_to t lines r n) ≡ record { made = after; stopped = Some n }
@@ -69,7 +46,7 @@ module _ (t : Network) (lines : List Disturb) (r : Record) (w : Wires) (xs : Lis
     where
       exactly : turns_to t lines r n ≡ turn_to t turned.old.lines n true (r.doings n.0) one.due (all_of one.pops)
       exactly =
-          turn-exact t lines r w xs all begun n node many y made known ys placed in_known after_begun true y.station
+          turn-exact t lines r w k true y.station
           turned.done.added [] one (all-moved-none y.station.links) (sym (append-nil turned.done.added))
 
   -- After a turn that came to its end nothing is left to do, so none halts.
@@ -81,15 +58,15 @@ module _ (t : Network) (lines : List Disturb) (r : Record) (w : Wires) (xs : Lis
     facts : AllZip (λ (u : NodeId) (b : LinkState). IsDrained (w n.0 u.0) b × HasMoved b (links u.0)) (neighbours t n)
         l.mid.links
     facts =
-        links-between t lines r w xs all begun n node many y made known ys placed in_known after_begun l.mid l.drained
+        links-between t lines r w k l.mid l.drained
         l.moved
 
     takes_nothing : (u : NodeId) (b : LinkState) → Contains (neighbours t n) u →
         IsDrained (w n.0 u.0) b × HasMoved b (links u.0) → TakesNothing b (links u.0)
     takes_nothing u b near f = (
-      λ g. (stood-at t lines r w xs all begun n node many y made known ys placed in_known after_begun u b near f.0
+      λ g. (stood-at t lines r w k u b near f.0
           g).later,
-      (stood-at t lines r w xs all begun n node many y made known ys placed in_known after_begun u b near f.0
+      (stood-at t lines r w k u b near f.0
           f.1).nothing,
     )
 

@@ -4,34 +4,29 @@ use Rattle.std.proofs.Common.{Bool, cond, nat_eq, subst}
 use Rattle.std.specs.Prelude.{None, ◌||◌}
 use Rattle.std.specs.List.{AllByRecursion, AllZip, Contains}
 use Rattle.std.proofs.lemmas.List.{append_cancel_left}
-use mathlib.Core.List.{IsPrefix}
-use Rattle.rtrb.specs.Ring.{received}
-use Rattle.ason_base.specs.Network.{Network, is_node_id}
+use Rattle.ason_base.specs.Network.{Network}
 use Rattle.ason_base.specs.declared.commands.Disturb.{Disturb}
 use Rattle.ason_base.specs.declared.ids.NodeId.{NodeId}
 use Rattle.flood.proofs.Members.{there_map}
-use Rattle.world_rules.specs.WorldRuns.{is_channel, neighbours}
+use Rattle.world_rules.specs.WorldRuns.{neighbours}
 use Rattle.world_rules.proofs.Stepping.{self_test}
-use Rattle.station_rings.specs.LinkStates.{LinkState, gone_of}
+use Rattle.station_rings.specs.LinkStates.{LinkState}
 use Rattle.round_rules.specs.Doings.{Doing}
 use Rattle.round_rules.specs.Limits.{Progress, turn_to}
-use Rattle.round_rules.specs.OneWorker.{ids_of, node_end, turns_to}
+use Rattle.round_rules.specs.OneWorker.{node_end, turns_to}
 use Rattle.round_rules.specs.Records.{Record}
 use Rattle.round_rules.specs.Rings.{got_from, is_in}
 use Rattle.round_rules.specs.Takings.{Taking, all_doings}
 use Rattle.station_doings.specs.Moves.{HasMoved, IsDrained}
-use Rattle.station_doings.specs.States.{IsTakenFrom, StationState, numbers_of}
+use Rattle.station_doings.specs.States.{IsTakenFrom, numbers_of}
 use Rattle.station_doings.specs.Turned.{all_of, comes_to_end}
-use Rattle.fleet_rounds.specs.Fleets.{AreStanding, HasBegun, IsKnown, IsStationAt, Wires}
-use Rattle.fleet_rounds.specs.OneWorker.{IsPlaced}
-use Rattle.fleet_rounds.specs.Turns.{AfterTurns, HasMadeRound}
-use Rattle.fleet_rounds.proofs.Alone.{ds, later, now, part, row, wired}
-use Rattle.fleet_rounds.proofs.Choosing.{Beside, Between, zip-beside}
+use Rattle.station_doings.proofs.Taking.{got-more}
+use Rattle.fleet_rounds.specs.Fleets.{Wires}
+use Rattle.fleet_rounds.proofs.Choosing.{Beside, zip-beside}
 use Rattle.fleet_rounds.proofs.Done.{FirstTurn}
-use Rattle.fleet_rounds.proofs.Got.{got-more}
+use Rattle.fleet_rounds.proofs.KnownTurns.{KnownTurns, turns-made}
 use Rattle.fleet_rounds.proofs.Links.{taken-more}
 use Rattle.fleet_rounds.proofs.Numbers.{in-append}
-use Rattle.fleet_rounds.proofs.Rounding.{TurnedAt}
 use Rattle.fleet_rounds.proofs.TurnEnds.{not-starved}
 use Rattle.fleet_rounds.proofs.TurnsExact.{end-is, links-between, stood-at, turn-exact}
 use Rattle.fleet_rounds.proofs.Wired.{link-peer, one-of}
@@ -47,28 +42,11 @@ no_takings (g ∷ gs) none = absurd (none g.from g.number there)
     there : is_in (got_from g.from (all_doings (g ∷ gs))) g.number ≡ true
     there = first (nat_eq g.from.0 g.from.0) _ (self_test g.from.0)
 
-module _ (t : Network) (lines : List Disturb) (r : Record) (w : Wires) (xs : List StationState)
-    (all : AreStanding t lines r w xs) (begun : (u d : NodeId) → is_channel t u d ≡ true → HasBegun w u d)
-    (n : NodeId) (node : is_node_id t.nodes n ≡ true) (many : ℕ) (y : AfterTurns)
-    (made : Between (IsStationAt t lines r w) (HasMadeRound many) n y)
-    (known : (d : NodeId) → is_channel t n d ≡ true → IsKnown w n d) (ys : List StationState)
-    (placed : AllZip (IsPlaced t lines r w n y.station) (ids_of t) ys)
-    (in_known : (u : NodeId) → is_channel t u n ≡ true → IsKnown w u n)
-    (after_begun : (u : NodeId) → is_channel t u n ≡ true →
-    IsPrefix (received (wired t lines r w xs all n node many y made known ys placed n.0 u.0).into)
-    (gone_of (w u.0 n.0)))
-    (ended : comes_to_end y.end ≡ true) where
-  abbrev turned : TurnedAt t lines r w n y (part t lines r w xs all n node many y made known ys placed).0
-  turned = now t lines r w xs all n node many y made known ys placed
-
-  abbrev after : Record
-  after = later t lines r w xs all n node many y made known ys placed
-
-  abbrev links : ℕ → LinkState
-  links = row t lines r w xs all n node many y made known ys placed
-
-  abbrev did : List Doing
-  did = ds t lines r w xs all n node many y made known ys placed
+module _ (t : Network) (lines : List Disturb) (r : Record) (w : Wires) (k : KnownTurns t lines r w)
+    (ended : comes_to_end k.alone.y.end ≡ true) where
+  open k use {alone}
+  open alone use {n, node, y, made}
+  open turns-made t lines r w alone use {turned, after, links, did}
 
   first : FirstTurn t n true (r.doings n.0) turned.old y.station turned.done.added
   first = turned.first ended
@@ -84,7 +62,7 @@ module _ (t : Network) (lines : List Disturb) (r : Record) (w : Wires) (xs : Lis
   facts : AllZip (λ (u : NodeId) (b : LinkState). IsDrained (w n.0 u.0) b × HasMoved b (links u.0)) (neighbours t n)
       first.mid.links
   facts =
-      links-between t lines r w xs all begun n node many y made known ys placed in_known after_begun first.mid
+      links-between t lines r w k first.mid
       first.drained first.moved
 
   -- The later turns
@@ -118,7 +96,7 @@ module _ (t : Network) (lines : List Disturb) (r : Record) (w : Wires) (xs : Lis
 
       none : g.takes ≡ []
       none =
-          (stood-at t lines r w xs all begun n node many y made known ys placed in_known after_begun u b.item near
+          (stood-at t lines r w k u b.item near
           b.is.0 g).later
 
       same : got_from u did ≡ got_from u turn_one
@@ -145,7 +123,7 @@ module _ (t : Network) (lines : List Disturb) (r : Record) (w : Wires) (xs : Lis
   exactly : turns_to t lines r n ≡
       turn_to t turned.old.lines n true (r.doings n.0) first.one.due (all_of first.one.pops)
   exactly =
-      turn-exact t lines r w xs all begun n node many y made known ys placed in_known after_begun false first.mid
+      turn-exact t lines r w k false first.mid
       first.part (all_doings first.takings) first.one first.moved first.all
 
   did_exactly : (turns_to t lines r n).doings ≡ did

@@ -27,10 +27,11 @@ use Rattle.station_doings.specs.Turned.{HasMadeTurn, HaveComeTo, IsPoppedHeld, S
 use Rattle.station_doings.specs.Turned.{comes_to_end, due_parcels, is_at_limit, is_starved}
 use Rattle.station_doings.specs.declared.turns.Turn.{Turn}
 use Rattle.station_doings.specs.declared.turns.Turn.TheVariants.{AtLimit, Idle, Starved, Worked}
-use Rattle.fleet_rounds.proofs.Got.{from-one-of, got-more, numbers_from, turn-got}
+use Rattle.station_doings.proofs.Taking.{got-more}
+use Rattle.fleet_rounds.proofs.Got.{from-one-of, numbers_from, turn-got}
 use Rattle.fleet_rounds.proofs.Links.{moved-none}
-use Rattle.fleet_rounds.proofs.NoLefts.{cut-none, left-last, lost-none, none-append, turn-none}
-use Rattle.fleet_rounds.proofs.NoPosts.{cut-posts, left-posts, lost-posts, posts-append, turn-posts}
+use Rattle.fleet_rounds.proofs.NoLefts.{left-last}
+use Rattle.fleet_rounds.proofs.NoPosts.{AddsNeither, cut-adds, left-posts, lost-adds, neither-append, turn-adds}
 use Rattle.fleet_rounds.proofs.Numbers.{in-append}
 use Rattle.fleet_rounds.proofs.Turned.{are-held, from-peers, peers_of, told-cut, told-turn}
 
@@ -67,6 +68,20 @@ pub record OneTurn (t : Network) (n : NodeId) (tick : Bool) (ds : List Doing) (o
   pub all : ds ++ added ≡ (turn_to t old.lines n tick ds due (all_of pops)).doings
   pub halts : (turn_to t old.lines n tick ds due (all_of pops)).halted ≡ halted
 
+-- what it popped and did, of what it came to
+one-turn : {t : Network} {n : NodeId} {tick : Bool} {ds : List Doing} {old new : StationState} {halted : Bool}
+    (f : TurnsTo t n ds tick halted old new) (added : List Doing) →
+    (turn_to t old.lines n tick ds f.due (all_of f.pops)).doings ≡ ds ++ added →
+    OneTurn t n tick ds old new halted added
+one-turn f added all = record {
+  due = f.due;
+  are_due = f.are_due;
+  pops = f.pops;
+  are_pops = f.are_pops;
+  all = sym all;
+  halts = f.halts;
+}
+
 in_first : (xs ys : List ℕ) (k : ℕ) → is_in xs k ≡ true → is_in (xs ++ ys) k ≡ true
 in_first xs ys k h = in-append xs ys k ∙ ap (λ b. b || is_in ys k) h
 
@@ -80,22 +95,15 @@ module _ (t : Network) (lines : List Disturb) (n : NodeId) (tick : Bool) (ds : L
     record {
       added = a.added;
       stands = subst (λ ks. IsStationOf t n ks new) all f.stands;
-      no_post = turn-posts t old.lines n tick ds a.added a.turn;
+      no_post = (turn-adds t old.lines n tick ds a.added a.turn).0;
       from_near = λ h u k there. from-one-of u (peers_of old.links) k (all_of f.pops)
           (from-peers false old.links new.links f.pops f.are_pops)
           (subst (λ ks. is_in ks k ≡ true) (took u) there);
       whole = λ h. told-turn t old.lines lines n tick ds a.added told a.turn;
       cut = λ h. absurd (cc (not_cut, h));
-      left = turn-none t old.lines n tick ds a.added a.turn ∙ sym not_cut;
+      left = (turn-adds t old.lines n tick ds a.added a.turn).1 ∙ sym not_cut;
     },
-    record {
-      due = f.due;
-      are_due = f.are_due;
-      pops = f.pops;
-      are_pops = f.are_pops;
-      all = sym all;
-      halts = f.halts;
-    },
+    one-turn f a.added all,
   )
     where
       a : AddsATurn t old.lines n tick ds f.due (all_of f.pops)
@@ -117,7 +125,7 @@ module _ (t : Network) (lines : List Disturb) (n : NodeId) (tick : Bool) (ds : L
     record {
       added = h.added ++ Left h.left ∷ [];
       stands = subst (λ ks. IsStationOf t n ks new) all f.stands;
-      no_post = left-posts h.added h.left (cut-posts t old.lines n tick ds h.added h.cut);
+      no_post = left-posts h.added h.left (cut-adds t old.lines n tick ds h.added h.cut).0;
       from_near = λ e u k there. from-one-of u (peers_of old.links) k (all_of f.pops)
           (from-peers true old.links new.links f.pops f.are_pops)
           (subst (λ ks. is_in ks k ≡ true) (took u)
@@ -129,16 +137,9 @@ module _ (t : Network) (lines : List Disturb) (n : NodeId) (tick : Bool) (ds : L
         all = refl;
         cut = told-cut t old.lines lines n tick ds h.added told h.cut;
       };
-      left = left-last h.added h.left (cut-none t old.lines n tick ds h.added h.cut);
+      left = left-last h.added h.left (cut-adds t old.lines n tick ds h.added h.cut).1;
     },
-    record {
-      due = f.due;
-      are_due = f.are_due;
-      pops = f.pops;
-      are_pops = f.are_pops;
-      all = sym all;
-      halts = f.halts;
-    },
+    one-turn f (h.added ++ Left h.left ∷ []) all,
   )
     where
       h : HasHalted t old.lines n tick ds f.due (all_of f.pops)
@@ -165,16 +166,17 @@ module _ (t : Network) (lines : List Disturb) (n : NodeId) (tick : Bool) (ds : L
   starves f = record {
     added = f.made ++ f.last;
     stands = f.stands;
-    no_post =
-        posts-append f.made f.last (cut-posts t old.lines n tick ds f.made f.cut)
-        (lost-posts old.lines n f.last f.is_last);
+    no_post = neither.0;
     from_near = λ e. absurd (cc (e));
     whole = λ e. absurd (cc (e));
     cut = λ e. absurd (cc (e));
-    left =
-        none-append f.made f.last (cut-none t old.lines n tick ds f.made f.cut)
-        (lost-none old.lines n f.last f.is_last);
+    left = neither.1;
   }
+    where
+      neither : AddsNeither (f.made ++ f.last)
+      neither =
+          neither-append f.made f.last (cut-adds t old.lines n tick ds f.made f.cut)
+          (lost-adds old.lines n f.last f.is_last)
 
   pub record OneDone (end : Turn) : Type 0 where
     pub done : HasDone t lines n tick ds (peers_of old.links) new end

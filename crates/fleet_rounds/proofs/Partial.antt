@@ -15,8 +15,8 @@ use Rattle.round_rules.specs.Doings.{Doing, deeds_in}
 use Rattle.round_rules.specs.Records.{Record}
 use Rattle.round_rules.specs.Rings.{count_of, got_from, handed, is_in, standing, without}
 use Rattle.round_rules.proofs.Desks.{deeds-more}
+use Rattle.station_doings.proofs.Taking.{got-more}
 use Rattle.fleet_rounds.specs.OneWorker.{IsPartRound, is_among}
-use Rattle.fleet_rounds.proofs.Got.{got-more}
 use Rattle.fleet_rounds.proofs.Handing.{handed-later}
 use Rattle.fleet_rounds.proofs.Numbers.{in-without, in_filter, rises-all, without-fewer}
 

@@ -36,12 +36,12 @@ use Rattle.station_doings.specs.Stands.{StandsBy}
 use Rattle.station_doings.specs.States.{IsTakenFrom, StationState, holding_of}
 use Rattle.station_doings.proofs.Standing.{posts-stand}
 use Rattle.station_doings.proofs.Taking.{taken-still}
+use Rattle.station_doings.proofs.Taking.{got-more}
 use Rattle.fleet_rounds.specs.Commands.{PostsStandFor, TakePosts, TakesPost, greatest_clock, posted}
 use Rattle.fleet_rounds.specs.Fleets.{AreStanding, IsNowhere, IsRingOf, IsStationAt, Wires}
 use Rattle.fleet_rounds.specs.Gaps.{HasPredecessor, IsStampIn, PostsFollow}
 use Rattle.fleet_rounds.proofs.Assembling.{alone-did}
 use Rattle.fleet_rounds.proofs.Choosing.{Beside}
-use Rattle.fleet_rounds.proofs.Got.{got-more}
 use Rattle.fleet_rounds.proofs.Greatest.{clock-found, greatest-above, greatest-found}
 use Rattle.fleet_rounds.proofs.Nodes.{among-ids, there-among}
 use Rattle.fleet_rounds.proofs.Replacing.{ring-kept, zip-places}

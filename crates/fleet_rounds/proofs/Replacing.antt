@@ -1,14 +1,19 @@
 -- Stations in place of others, and the rings between them.
-use Rattle.std.proofs.Common.{◌≡◌, ◌+◌, ◌≤◌, ℕ, suc, List, [], ◌∷◌, length, refl, sym, ◌∙◌, subst, arith}
+use Rattle.std.proofs.Common.{◌≡◌, ◌+◌, ◌≤◌, ℕ, suc, List, [], ◌∷◌, length, refl, sym, ap, ◌∙◌, subst, arith}
 use Rattle.std.specs.Prelude.{Some, slice_get}
 use Rattle.std.specs.List.{AllByRecursion, AllZip, Contains, range_with_len}
 use Rattle.ason_base.specs.declared.ids.NodeId.{NodeId}
 use Rattle.ason_base.specs.Network.{Network}
 use Rattle.ason_base.proofs.Ordered.{contains-head, contains-tail}
+use Rattle.world_rules.specs.Worlds.{start}
+use Rattle.world_merge.specs.Deeds.{AreDoable}
+use Rattle.world_merge.specs.Histories.{at}
+use Rattle.world_merge.specs.Logs.{RisesAbove}
 use Rattle.station_rings.specs.LinkStates.{gone_of}
-use Rattle.round_rules.specs.Records.{Record}
+use Rattle.round_rules.specs.Doings.{deeds_in}
+use Rattle.round_rules.specs.Records.{Record, deeds_at}
 use Rattle.round_rules.specs.Rings.{count_of, got_from, without}
-use Rattle.fleet_rounds.specs.Fleets.{IsRingOf, Wires}
+use Rattle.fleet_rounds.specs.Fleets.{IsNowhere, IsRingOf, Wires}
 
 -- What holds of each pair, and what is told of the item that stands in place of its second one.
 pub zip-places : {X Y Z : Type 0} (P : X → Y → Type 0) (T : X → Y → Z → Type 0) (Q : X → Z → Type 0) (whole : List X) →
@@ -39,3 +44,17 @@ ring-kept t r later w u d is dropped count got = record {
   most = is.most;
   past = subst (AllByRecursion (λ (k : ℕ). k ≤ (w u.0 d.0).sent)) (sym dropped) is.past;
 }
+
+-- What is no node stays none where no more was done there.
+pub nowhere-kept : (t : Network) (r later : Record) (n : ℕ) → later.doings n ≡ r.doings n → IsNowhere t r n →
+    IsNowhere t later n
+nowhere-kept t r later n no_more was =
+    let same : deeds_at r n ≡ deeds_at later n = ap deeds_in (sym no_more) in
+    record {
+      posts = record {
+        posts = was.posts.posts;
+        all = sym same ∙ was.posts.all;
+        doable = subst (AreDoable t (at n) (start t)) same was.posts.doable;
+      };
+      rises = subst (RisesAbove 0) same was.rises;
+    }

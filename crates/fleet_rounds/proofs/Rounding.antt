@@ -6,10 +6,8 @@ use Rattle.ason_base.specs.Network.{IsTopology, Network, is_node_id}
 use Rattle.ason_base.specs.declared.commands.Disturb.{Disturb}
 use Rattle.ason_base.specs.declared.ids.NodeId.{NodeId}
 use Rattle.world_rules.specs.WorldRuns.{is_channel, neighbours}
-use Rattle.world_rules.specs.Worlds.{start}
-use Rattle.world_merge.specs.Deeds.{AreDoable}
 use Rattle.world_merge.specs.Histories.{at}
-use Rattle.world_merge.specs.Logs.{RisesAbove, is_posted, line_of, posts_of}
+use Rattle.world_merge.specs.Logs.{is_posted, line_of, posts_of}
 use Rattle.station_rings.specs.LinkStates.{LinkState}
 use Rattle.round_rules.specs.Doings.{Doing, deeds_in}
 use Rattle.round_rules.specs.Lines.{says}
@@ -28,6 +26,7 @@ use Rattle.fleet_rounds.proofs.Links.{ends-stay}
 use Rattle.fleet_rounds.proofs.NoPosts.{posts-more}
 use Rattle.fleet_rounds.proofs.Nodes.{JoinsNodes, among-ids, apart-ids, apart-near, joins-nodes, node-there}
 use Rattle.fleet_rounds.proofs.OneTurn.{HasDone}
+use Rattle.fleet_rounds.proofs.Replacing.{nowhere-kept}
 use Rattle.fleet_rounds.proofs.Turned.{peers_of}
 use Rattle.fleet_rounds.proofs.Wired.{ChannelEnds, channel-ends, link-count, link-peer, link-taken, peers-near}
 
@@ -237,16 +236,7 @@ module _ (t : Network) (lines : List Disturb) (r : Record) (wires : Wires) (many
 
   nowhere_now : (n : ℕ) → is_node_id t.nodes (at n) ≡ false → IsNowhere t after-turns n
   nowhere_now n none =
-      let same : deeds_at r n ≡ deeds_at after-turns n = ap deeds_in (sym (elsewhere n none)) in
-      let was = all.nowhere n none in
-      record {
-        posts = record {
-          posts = was.posts.posts;
-          all = sym same ∙ was.posts.all;
-          doable = subst (AreDoable t (at n) (start t)) same was.posts.doable;
-        };
-        rises = subst (RisesAbove 0) same was.rises;
-      }
+      nowhere-kept t r after-turns n (elsewhere n none) (all.nowhere n none)
 
   posts_same : (n : ℕ) (b : Bool) → is_node_id t.nodes (at n) ≡ b →
       posts_of (at n) (deeds_at after-turns n) ≡ posts_of (at n) (deeds_at r n)

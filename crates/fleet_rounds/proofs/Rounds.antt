@@ -1,16 +1,16 @@
 -- Turns of all stations are a round, or a round that a limit ends.
-use Rattle.std.proofs.Common.{◌≡◌, ◌≤◌, ℕ, Bool, true, false, cond, List, [], ◌∷◌, ◌++◌, length, refl, sym, ap, ◌∙◌}
-use Rattle.std.proofs.Common.{arith, append-nil, inl, inr}
-use Rattle.std.specs.Prelude.{◌||◌, Some, None}
+use Rattle.std.proofs.Common.{◌≡◌, ℕ, Bool, true, false, cond, List, [], ◌++◌, length, refl, sym, ap, ◌∙◌}
+use Rattle.std.proofs.Common.{append-nil, inl}
+use Rattle.std.specs.Prelude.{Some, None}
 use Rattle.std.specs.List.{AllByRecursion, AllZip, Contains}
 use Rattle.ason_base.specs.Network.{Network, is_node_id}
 use Rattle.ason_base.specs.declared.commands.Disturb.{Disturb}
 use Rattle.ason_base.specs.declared.ids.NodeId.{NodeId}
 use Rattle.world_rules.specs.WorldRuns.{is_channel, neighbours}
-use Rattle.round_rules.specs.Doings.{Doing, Left, Waiting}
+use Rattle.round_rules.specs.Doings.{Doing, Waiting}
 use Rattle.round_rules.specs.OneWorker.{ids_of}
 use Rattle.round_rules.specs.Records.{Record, log_at}
-use Rattle.round_rules.specs.Rings.{count_of, got_from, is_in, standing}
+use Rattle.round_rules.specs.Rings.{got_from, is_in, standing}
 use Rattle.round_rules.specs.Rounds.{DropsAt, IsRound, IsRoundAt, TakesInOrder, TakesWhatWasSent}
 use Rattle.round_rules.specs.Unfinished.{HasLeft, IsCutAt, IsUnfinished}
 use Rattle.station_doings.specs.States.{StationState}
@@ -19,16 +19,13 @@ use Rattle.fleet_rounds.specs.Fleets.{AreKnown, AreStanding, Wires}
 use Rattle.fleet_rounds.specs.Rounding.{AreHalted, HasHaltedFull, IsLeftAt, TurnsMakeARound}
 use Rattle.fleet_rounds.specs.Turns.{AfterTurns, HasMadeRound}
 use Rattle.fleet_rounds.proofs.Choosing.{Beside, zip-first, zip-more}
-use Rattle.fleet_rounds.proofs.Counting.{RingFacts, drops-at, drops_over, stands-count, taken-handed, takes-all}
+use Rattle.fleet_rounds.proofs.Counting.{RingFacts, drops-at, drops_over, stands-count, takes-all}
 use Rattle.fleet_rounds.proofs.Counting.{takes-rise}
-use Rattle.fleet_rounds.proofs.Got.{got-more}
-use Rattle.fleet_rounds.proofs.Handing.{handed-in}
+use Rattle.fleet_rounds.proofs.Cuts.{cut-got, cut-there, takes-sent}
 use Rattle.fleet_rounds.proofs.Looking.{known-have-begun}
 use Rattle.fleet_rounds.proofs.NoLefts.{leaves-added}
 use Rattle.fleet_rounds.proofs.NoPosts.{whole-cut}
 use Rattle.fleet_rounds.proofs.Nodes.{among-ids, channel-near, near-there, there-among}
-use Rattle.fleet_rounds.proofs.Numbers.{in-append}
-use Rattle.fleet_rounds.proofs.OneTurn.{EndsCut}
 use Rattle.fleet_rounds.proofs.Rounding.{Now, after-turns, dropped-now, elsewhere, grown-now, moves, now-all, now-at}
 use Rattle.fleet_rounds.proofs.Rounding.{ring-facts, standing-after, stands-now, wires-after}
 use Rattle.fleet_rounds.proofs.TurnEnds.{all-ended, not-starved}
@@ -88,25 +85,9 @@ module _ (t : Network) (lines : List Disturb) (r : Record) (wires : Wires) (many
     sent_of : (n : NodeId) (made rest : List Doing) → later.doings n.0 ≡ r.doings n.0 ++ (made ++ rest) →
         ((u : NodeId) (k : ℕ) → is_in (got_from u made) k ≡ true → Contains (neighbours t n) u) →
         TakesWhatWasSent t later n made
-    sent_of n made rest is near u k h = (joined, there.0, there.1)
-      where
-        joined : is_channel t u n ≡ true
-        joined = channel-near t n u (near u k h)
-
-        got_now : is_in (got_from u (later.doings n.0)) k ≡ true
-        got_now =
-            ap (λ ds. is_in (got_from u ds) k) is
-            ∙ ap (λ ks. is_in ks k) (got-more u (r.doings n.0) (made ++ rest)
-            ∙ ap (λ ks. got_from u (r.doings n.0) ++ ks) (got-more u made rest))
-            ∙ in-append (got_from u (r.doings n.0)) (got_from u made ++ got_from u rest) k
-            ∙ ap (λ b. is_in (got_from u (r.doings n.0)) k || b) (in-append (got_from u made) (got_from u rest) k)
-            ∙ grind (arith, h)
-
-        there : (k ≤ count_of t later u n) × (is_in (later.dropped u.0 n.0) k ≡ false)
-        there =
-            handed-in (later.dropped u.0 n.0) (count_of t later u n) k
-            (taken-handed t later u n (w u.0 n.0) (w n.0 u.0) (facts u n joined)
-            (known-have-begun w u n (known_now u n joined)) k got_now)
+    sent_of n made rest is near =
+        takes-sent t later n w (λ u. facts u n) (λ u joined. known-have-begun w u n (known_now u n joined))
+        (r.doings n.0) made rest is (λ u k h. channel-near t n u (near u k h))
 
     round_at : (n : NodeId) (y : AfterTurns) → Here n y → comes_to_end y.end ≡ true → IsRoundAt t lines r later n
     round_at n y is ended = record {
@@ -159,30 +140,11 @@ module _ (t : Network) (lines : List Disturb) (r : Record) (wires : Wires) (many
 
     cut_at : (n : NodeId) (y : AfterTurns) → Here n y → is_at_limit y.end ≡ true → length y.station.log ≡ 50000 →
         is_starved y.end ≡ false → (cut : IsCutAt t lines r later n) × ((w : Waiting) × (cut.left ≡ Some w))
-    cut_at n y is limit full fed = (
-      record {
-        made = c.made;
-        left = Some c.left;
-        all = whole;
-        cut = c.cut;
-        limit = inr (log_full n y is full);
-        order = order n;
-        sent = sent_of n c.made (Left c.left ∷ []) whole near;
-      },
-      (c.left, refl),
-    )
-      where
-        c : EndsCut t lines n true (r.doings n.0) is.done.added
-        c = is.done.cut limit
-
-        whole : later.doings n.0 ≡ r.doings n.0 ++ (c.made ++ Left c.left ∷ [])
-        whole = is.whole_is ∙ ap (λ ds. r.doings n.0 ++ ds) c.all
-
-        near : (u : NodeId) (k : ℕ) → is_in (got_from u c.made) k ≡ true → Contains (neighbours t n) u
-        near u k h =
-            is.done.from_near fed u k (ap (λ ds. is_in (got_from u ds) k) c.all
-            ∙ ap (λ ks. is_in ks k) (got-more u c.made (Left c.left ∷ []))
-            ∙ in-append (got_from u c.made) [] k ∙ ap (λ b. b || false) h)
+    cut_at n y is limit full fed =
+        let c = is.done.cut limit in
+        cut-there t lines r later n is.done.added c is.whole_is (log_full n y is full) (order n)
+        (λ rest whole. sent_of n c.made rest whole (λ u k h. is.done.from_near fed u k (cut-got t lines r later n
+        is.done.added c u k h)))
 
     some_cut : (n : NodeId) (y : AfterTurns) → Here n y → HasHaltedFull y → IsCutAt t lines r later n
     some_cut n y is h = go (is_at_limit y.end) refl

@@ -27,8 +27,10 @@ use Rattle.fleet_rounds.specs.OneWorker.{IsKnownAround, IsPartAt, IsPartRound, I
 use Rattle.fleet_rounds.specs.Turns.{AfterTurns, HasMadeRound}
 use Rattle.fleet_rounds.proofs.Alone.{dropped-apart, dropped-else, drops-alone, later, now, part, row, standing-alone}
 use Rattle.fleet_rounds.proofs.Alone.{takes-alone, wired}
+use Rattle.fleet_rounds.proofs.AloneTurns.{AloneTurns}
 use Rattle.fleet_rounds.proofs.Begun.{all-begun}
 use Rattle.fleet_rounds.proofs.Choosing.{Between}
+use Rattle.fleet_rounds.proofs.KnownTurns.{KnownTurns}
 use Rattle.fleet_rounds.proofs.Nodes.{channel-near, joins-nodes, same-node}
 use Rattle.fleet_rounds.proofs.OneNode.{is-node-round}
 use Rattle.fleet_rounds.proofs.Partial.{among-more, other-way, standing-fewer, standing-still}
@@ -43,14 +45,28 @@ module _ (t : Network) (lines : List Disturb) (before : Record) (ns : List NodeI
     (fresh : is_among ns n.0 ≡ false) (around : IsKnownAround t w n)
     (b : Between (IsStationAt t lines q w) (HasMadeRound many) n y)
     (placed : AllZip (IsPlaced t lines q w n y.station) (ids_of t) ys) where
-  abbrev pub after : Record
-  after = later t lines q w xs way.stands n node many y b around.out ys placed
+  abbrev pub alone : AloneTurns t lines q w
+  alone = record {
+    xs = xs;
+    all = way.stands;
+    n = n;
+    node = node;
+    many = many;
+    y = y;
+    made = b;
+    known = around.out;
+    ys = ys;
+    placed = placed;
+  }
 
-  abbrev pub turned : TurnedAt t lines q w n y (part t lines q w xs way.stands n node many y b around.out ys placed).0
-  turned = now t lines q w xs way.stands n node many y b around.out ys placed
+  abbrev pub after : Record
+  after = later t lines q w alone
+
+  abbrev pub turned : TurnedAt t lines q w n y (part t lines q w alone).0
+  turned = now t lines q w alone
 
   abbrev pub did : List Doing
-  did = (part t lines q w xs way.stands n node many y b around.out ys placed).0.0
+  did = (part t lines q w alone).0.0
 
   -- the node had done nothing
   pub was-still : q.doings n.0 ≡ before.doings n.0
@@ -69,7 +85,7 @@ module _ (t : Network) (lines : List Disturb) (before : Record) (ns : List NodeI
     added = turned.done.added;
     all = here-did ∙ turned.whole_is ∙ ap (λ ds. ds ++ turned.done.added) was-still;
     turn = subst (λ ds. IsTurnOf t lines n true ds turned.done.added) was-still (turned.done.whole ended);
-    taken = λ u k joined h. takes-alone t lines q w xs way.stands n node many y b around.out ys placed ended u joined
+    taken = λ u k joined h. takes-alone t lines q w alone ended u joined
         (around.into u joined) k (standing-still t lines before q ns way.part u n fresh k h);
     near = λ u k h. channel-near t n u (turned.done.from_near (not-starved y.end ended) u k h);
   }
@@ -126,7 +142,7 @@ module _ (t : Network) (lines : List Disturb) (before : Record) (ns : List NodeI
   }
     where
       f : DropsAt t q after n d
-      f = drops-alone t lines q w xs way.stands n node many y b around.out ys placed d joined
+      f = drops-alone t lines q w alone d joined
 
       fewer : length (standing t q n d) ≤ length (standing t before n d)
       fewer = standing-fewer t lines before q ns way.part n d fresh (is_among ns d.0) refl
@@ -139,7 +155,7 @@ module _ (t : Network) (lines : List Disturb) (before : Record) (ns : List NodeI
   drops_here d false apart = record {
     more = [];
     all =
-        dropped-apart t lines q w xs way.stands n node many y b around.out ys placed d apart
+        dropped-apart t lines q w alone d apart
         ∙ way.part.still n d fresh ∙ sym (append-nil (before.dropped n.0 d.0));
     later = tt;
     may = tt;
@@ -153,7 +169,7 @@ module _ (t : Network) (lines : List Disturb) (before : Record) (ns : List NodeI
       let f = way.part.drops u d in
       record {
         more = f.more;
-        all = dropped-else t lines q w xs way.stands n node many y b around.out ys placed u d.0 e ∙ f.all;
+        all = dropped-else t lines q w alone u d.0 e ∙ f.all;
         later = f.later;
         may =
             each-more (MayDrop t before q u d) (MayDrop t before after u d) (λ k m. record {
@@ -177,32 +193,38 @@ module _ (t : Network) (lines : List Disturb) (before : Record) (ns : List NodeI
     others = λ m h. elsewhere m (outside m h).1 ∙ way.part.others m (outside m h).0;
     drops = λ u d. drops-now u d (nat_eq u.0 n.0) refl;
     still = λ u d h.
-        dropped-else t lines q w xs way.stands n node many y b around.out ys placed u d.0 (outside u.0 h).1
+        dropped-else t lines q w alone u d.0 (outside u.0 h).1
         ∙ way.part.still u d (outside u.0 h).0;
   }
 
   abbrev pub wires : Wires
-  wires = wired t lines q w xs way.stands n node many y b around.out ys placed
+  wires = wired t lines q w alone
 
   -- after the look what came is a first part of what stood there
   pub begun-here : ((u : NodeId) → is_channel t u n ≡ true → HasBegun wires u n) → (u : NodeId) →
       is_channel t u n ≡ true → IsPrefix (received (wires n.0 u.0).into) (gone_of (w u.0 n.0))
   begun-here looked u joined =
       subst (λ l. IsPrefix (received (wires n.0 u.0).into) (gone_of l))
-      (ap (λ c. cond c (row t lines q w xs way.stands n node many y b around.out ys placed) (w u.0) n.0)
+      (ap (λ c. cond c (row t lines q w alone) (w u.0) n.0)
       (joins-nodes t u n joined).other) (looked u joined)
+
+  abbrev pub known_turns : ((u : NodeId) → is_channel t u n ≡ true → HasBegun wires u n) → KnownTurns t lines q w
+  known_turns looked = record {
+    alone = alone;
+    begun = way.begun;
+    in_known = around.into;
+    after_begun = begun-here looked;
+  }
 
   -- the round goes on
   pub goes-on : ((u : NodeId) → is_channel t u n ≡ true → HasBegun wires u n) → comes_to_end y.end ≡ true →
       IsUnderWay t lines before (ns ++ n ∷ []) after wires ys
   goes-on looked ended = record {
-    stands = standing-alone t lines q w xs way.stands n node many y b around.out ys placed;
-    begun = all-begun t lines q w xs way.stands way.begun n node many y b around.out ys placed around.into
-        (begun-here looked);
+    stands = standing-alone t lines q w alone;
+    begun = all-begun t lines q w (known_turns looked);
     part = part_now ended;
     exact =
         fold-append (node_round t lines) (record { made = before; stopped = None }) ns (n ∷ [])
         ∙ ap (λ (e : RoundEnd). node_round t lines e n) way.exact
-        ∙ is-node-round t lines q w xs way.stands way.begun n node many y b around.out ys placed around.into
-        (begun-here looked) ended;
+        ∙ is-node-round t lines q w (known_turns looked) ended;
   }

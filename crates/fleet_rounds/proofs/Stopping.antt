@@ -1,18 +1,17 @@
 -- With one worker a round is over where a node halts at its limit.
-use Rattle.std.proofs.Common.{◌≡◌, List, [], ◌∷◌, ◌++◌, length, refl, sym, ap, ◌∙◌, arith, append-nil, true, false, ℕ}
-use Rattle.std.proofs.Common.{subst, inl, inr, ◌≤◌, Bool, nat_eq, ◌<◌}
-use Rattle.std.specs.Prelude.{None, Some, ◌||◌}
+use Rattle.std.proofs.Common.{◌≡◌, List, [], ◌++◌, length, refl, sym, ap, ◌∙◌, arith, append-nil, true, false, ℕ}
+use Rattle.std.proofs.Common.{subst, inl, Bool, nat_eq, ◌<◌}
+use Rattle.std.specs.Prelude.{None, Some}
 use Rattle.std.specs.List.{AllZip}
 use Rattle.ason_base.specs.Network.{Network, is_node_id}
 use Rattle.ason_base.specs.declared.commands.Disturb.{Disturb}
 use Rattle.ason_base.specs.declared.ids.NodeId.{NodeId}
 use Rattle.world_rules.specs.WorldRuns.{is_channel}
 use Rattle.world_merge.specs.Logs.{log_of}
-use Rattle.round_rules.specs.Doings.{Doing, Left, Waiting, deeds_in}
-use Rattle.round_rules.specs.Halts.{IsCutTurnOf}
+use Rattle.round_rules.specs.Doings.{Doing, Waiting, deeds_in}
 use Rattle.round_rules.specs.OneWorker.{ids_of}
 use Rattle.round_rules.specs.Records.{Record, log_at}
-use Rattle.round_rules.specs.Rings.{count_of, got_from, is_in}
+use Rattle.round_rules.specs.Rings.{got_from, is_in}
 use Rattle.round_rules.specs.Rounds.{TakesInOrder, TakesWhatWasSent}
 use Rattle.round_rules.specs.Unfinished.{IsCutAt, IsUnfinished, IsUnfinishedBy, leaves}
 use Rattle.station_doings.specs.States.{StationState}
@@ -22,21 +21,22 @@ use Rattle.fleet_rounds.specs.OneWorker.{AllBegun, AreNext, IsKnownAround, IsPar
 use Rattle.fleet_rounds.specs.OneWorker.{is_among}
 use Rattle.fleet_rounds.specs.Rounding.{HasHaltedFull}
 use Rattle.fleet_rounds.specs.Turns.{AfterTurns, HasMadeRound}
-use Rattle.fleet_rounds.proofs.Alone.{grown-alone, later, now, part, standing-alone, wired}
+use Rattle.fleet_rounds.proofs.Alone.{grown-alone, later, part, standing-alone, wired}
+use Rattle.fleet_rounds.proofs.AloneTurns.{AloneTurns}
 use Rattle.fleet_rounds.proofs.Begun.{all-begun}
 use Rattle.fleet_rounds.proofs.Choosing.{Between}
-use Rattle.fleet_rounds.proofs.Counting.{RingFacts, taken-handed, takes-rise}
-use Rattle.fleet_rounds.proofs.Got.{got-more}
-use Rattle.fleet_rounds.proofs.Handing.{handed-in}
+use Rattle.fleet_rounds.proofs.Counting.{RingFacts, takes-rise}
+use Rattle.fleet_rounds.proofs.KnownTurns.{turns-made}
+use Rattle.fleet_rounds.proofs.Cuts.{cut-got, cut-there, takes-sent}
 use Rattle.fleet_rounds.proofs.Next.{next-fresh, next-known, stops-at}
-use Rattle.fleet_rounds.proofs.NoLefts.{leaves-added, turn-none}
-use Rattle.fleet_rounds.proofs.NoPosts.{no-turn, whole-cut}
+use Rattle.fleet_rounds.proofs.NoLefts.{leaves-added}
+use Rattle.fleet_rounds.proofs.NoPosts.{no-turn, turn-adds, whole-cut}
 use Rattle.fleet_rounds.proofs.Nodes.{channel-near, same-node}
-use Rattle.fleet_rounds.proofs.Numbers.{in-append}
 use Rattle.fleet_rounds.proofs.OneHalt.{ends-here}
 use Rattle.fleet_rounds.proofs.OneTurn.{EndsCut}
-use Rattle.fleet_rounds.proofs.Rounding.{TurnedAt, ring-facts}
-use Rattle.fleet_rounds.proofs.Stepping.{begun-here, drops-now, elsewhere, goes-on, here-did, other-than, was-still}
+use Rattle.fleet_rounds.proofs.Rounding.{ring-facts}
+use Rattle.fleet_rounds.proofs.Stepping.{alone, drops-now, elsewhere, goes-on, here-did, known_turns, other-than}
+use Rattle.fleet_rounds.proofs.Stepping.{was-still}
 
 module _ (t : Network) (lines : List Disturb) (before : Record) (ns : List NodeId) (q : Record) (w : Wires)
     (xs : List StationState) (n : NodeId) (many : ℕ) (y : AfterTurns) (ys : List StationState)
@@ -44,24 +44,19 @@ module _ (t : Network) (lines : List Disturb) (before : Record) (ns : List NodeI
     (fresh : is_among ns n.0 ≡ false) (next : AreNext t ns n) (around : IsKnownAround t w n)
     (b : Between (IsStationAt t lines q w) (HasMadeRound many) n y)
     (placed : AllZip (IsPlaced t lines q w n y.station) (ids_of t) ys) where
-  abbrev after : Record
-  after = later t lines q w xs way.stands n node many y b around.out ys placed
+  abbrev turns : AloneTurns t lines q w
+  turns = alone t lines before ns q w xs n many y ys way node fresh around b placed
 
-  abbrev turned : TurnedAt t lines q w n y (part t lines q w xs way.stands n node many y b around.out ys placed).0
-  turned = now t lines q w xs way.stands n node many y b around.out ys placed
-
-  abbrev wires : Wires
-  wires = wired t lines q w xs way.stands n node many y b around.out ys placed
+  open turns-made t lines q w turns use {turned, after, wires}
 
   module _ (looked : (u : NodeId) → is_channel t u n ≡ true → HasBegun wires u n) (halted : HasHaltedFull y)
       (limit : is_at_limit y.end ≡ true) where
     stands_now : AreStanding t lines after wires ys
-    stands_now = standing-alone t lines q w xs way.stands n node many y b around.out ys placed
+    stands_now = standing-alone t lines q w turns
 
     begun_now : AllBegun t wires
     begun_now =
-        all-begun t lines q w xs way.stands way.begun n node many y b around.out ys placed around.into
-        (begun-here t lines before ns q w xs n many y ys way node fresh around b placed looked)
+        all-begun t lines q w (known_turns t lines before ns q w xs n many y ys way node fresh around b placed looked)
 
     facts_now : (u d : NodeId) → is_channel t u d ≡ true → RingFacts t after u d (wires u.0 d.0) (wires d.0 u.0)
     facts_now = ring-facts t lines after wires ys stands_now
@@ -73,26 +68,8 @@ module _ (t : Network) (lines : List Disturb) (before : Record) (ns : List NodeI
     sent_now : (m : NodeId) (made_by rest : List Doing) → after.doings m.0 ≡ before.doings m.0 ++ (made_by ++ rest) →
         ((u : NodeId) (k : ℕ) → is_in (got_from u made_by) k ≡ true → is_channel t u m ≡ true) →
         TakesWhatWasSent t after m made_by
-    sent_now m made_by rest is near u k h = (near u k h, there.0, there.1)
-      where
-        joined : is_channel t u m ≡ true
-        joined = near u k h
-
-        got_now : is_in (got_from u (after.doings m.0)) k ≡ true
-        got_now =
-            ap (λ ds. is_in (got_from u ds) k) is
-            ∙ ap (λ ks. is_in ks k) (got-more u (before.doings m.0) (made_by ++ rest)
-            ∙ ap (λ ks. got_from u (before.doings m.0) ++ ks) (got-more u made_by rest))
-            ∙ in-append (got_from u (before.doings m.0)) (got_from u made_by ++ got_from u rest) k
-            ∙ ap (λ c. is_in (got_from u (before.doings m.0)) k || c)
-            (in-append (got_from u made_by) (got_from u rest) k)
-            ∙ grind (arith, h)
-
-        there : (k ≤ count_of t after u m) × (is_in (after.dropped u.0 m.0) k ≡ false)
-        there =
-            handed-in (after.dropped u.0 m.0) (count_of t after u m) k
-            (taken-handed t after u m (wires u.0 m.0) (wires m.0 u.0) (facts_now u m joined) (begun_now u m joined) k
-            got_now)
+    sent_now m made_by rest is near =
+        takes-sent t after m wires (λ u. facts_now u m) (λ u. begun_now u m) (before.doings m.0) made_by rest is near
 
     -- a node that made its part before
     cut_earlier : (m : NodeId) → is_among ns m.0 ≡ true → IsCutAt t lines before after m
@@ -136,32 +113,20 @@ module _ (t : Network) (lines : List Disturb) (before : Record) (ns : List NodeI
         ∙ ap length (sym turned.done.stands.stands.sound.log) ∙ halted.full limit
 
     cut_here : (cut : IsCutAt t lines before after n) × ((i : Waiting) × (cut.left ≡ Some i))
-    cut_here = (
-      record {
-        made = c.made;
-        left = Some c.left;
-        all = whole;
-        cut = subst (λ ks. IsCutTurnOf t lines n true ks c.made) (was-still t lines before ns q w xs n many y ys way
-            node fresh around b placed) c.cut;
-        limit = inr full_now;
-        order = order_now n;
-        sent = sent_now n c.made (Left c.left ∷ []) whole near;
-      },
-      (c.left, refl),
-    )
+    cut_here =
+        cut-there t lines before after n turned.done.added c (here_did ∙ turned.whole_is
+        ∙ ap (λ ks. ks ++ turned.done.added) was_still) full_now (order_now n)
+        (λ rest whole. sent_now n c.made rest whole (λ u k h. channel-near t n u (turned.done.from_near halted.fed u k
+        (cut-got t lines before after n turned.done.added c u k h))))
       where
-        c : EndsCut t lines n true (q.doings n.0) turned.done.added
-        c = turned.done.cut limit
+        was_still : q.doings n.0 ≡ before.doings n.0
+        was_still = was-still t lines before ns q w xs n many y ys way node fresh around b placed
 
-        whole : after.doings n.0 ≡ before.doings n.0 ++ (c.made ++ Left c.left ∷ [])
-        whole = (here-did t lines before ns q w xs n many y ys way node fresh around b placed) ∙ turned.whole_is ∙
-            (λ i. (was-still t lines before ns q w xs n many y ys way node fresh around b placed) i ++ c.all i)
+        here_did : after.doings n.0 ≡ (part t lines q w turns).0.0
+        here_did = here-did t lines before ns q w xs n many y ys way node fresh around b placed
 
-        near : (u : NodeId) (k : ℕ) → is_in (got_from u c.made) k ≡ true → is_channel t u n ≡ true
-        near u k h =
-            channel-near t n u (turned.done.from_near halted.fed u k (ap (λ ks. is_in (got_from u ks) k) c.all
-            ∙ ap (λ ks. is_in ks k) (got-more u c.made (Left c.left ∷ []))
-            ∙ in-append (got_from u c.made) [] k ∙ ap (λ x. x || false) h))
+        c : EndsCut t lines n true (before.doings n.0) turned.done.added
+        c = subst (λ ks. EndsCut t lines n true ks turned.done.added) was_still (turned.done.cut limit)
 
     cut_at : (m : NodeId) (c d : Bool) → is_among ns m.0 ≡ c → nat_eq m.0 n.0 ≡ d → IsCutAt t lines before after m
     cut_at m true d e f = cut_earlier m e
@@ -203,7 +168,7 @@ module _ (t : Network) (lines : List Disturb) (before : Record) (ns : List NodeI
         let p : IsPartAt t lines before q m = way.part.nodes m e in
         leaves-added before after m p.added
         (elsewhere t lines before ns q w xs n many y ys way node fresh around b placed m.0 other ∙ p.all)
-        ∙ turn-none t lines m true (before.doings m.0) p.added p.turn
+        ∙ (turn-adds t lines m true (before.doings m.0) p.added p.turn).1
     left_none m false e other =
         leaves-added before after m []
         (elsewhere t lines before ns q w xs n many y ys way node fresh around b placed m.0 other ∙ way.part.others m.0 e
@@ -227,20 +192,22 @@ module _ (t : Network) (lines : List Disturb) (before : Record) (ns : List NodeI
         full = full_now;
       };
       one = λ e. stops-at t lines before q after ns n next way.exact
-          (ends-here t lines q w xs way.stands way.begun n node many y b around.out ys placed around.into
-          (begun-here t lines before ns q w xs n many y ys way node fresh around b placed looked) limit);
+          (ends-here t lines q w
+          (known_turns t lines before ns q w xs n many y ys way node fresh around b placed looked) limit);
     }
 
 -- A node makes its turns: the round goes on, or is over.
 pub nodes-go-on : NodesGoOn
-nodes-go-on t lines before ns q w xs n x many y ys way next around is made placed = record {
-  after = later t lines q w xs way.stands n node many y b around.out ys placed;
-  wires_after = wired t lines q w xs way.stands n node many y b around.out ys placed;
-  stands = standing-alone t lines q w xs way.stands n node many y b around.out ys placed;
-  grown = grown-alone t lines q w xs way.stands n node many y b around.out ys placed;
-  goes_on = goes-on t lines before ns q w xs n many y ys way node fresh around b placed;
-  ends = is_stopped t lines before ns q w xs n many y ys way node fresh next around b placed;
-}
+nodes-go-on t lines before ns q w xs n x many y ys way next around is made placed =
+    let turns = alone t lines before ns q w xs n many y ys way node fresh around b placed in
+    record {
+      after = later t lines q w turns;
+      wires_after = wired t lines q w turns;
+      stands = standing-alone t lines q w turns;
+      grown = grown-alone t lines q w turns;
+      goes_on = goes-on t lines before ns q w xs n many y ys way node fresh around b placed;
+      ends = is_stopped t lines before ns q w xs n many y ys way node fresh next around b placed;
+    }
   where
     node : is_node_id t.nodes n ≡ true
     node = next-known t ns n next

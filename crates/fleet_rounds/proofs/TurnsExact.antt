@@ -1,11 +1,11 @@
 -- With all known in its rings what a node's first turn popped is a function of the record.
-use Rattle.std.proofs.Common.{◌≡◌, List, ◌++◌, refl, sym, ap, ◌∙◌, append-nil, append_assoc, true, false, ℕ}
+use Rattle.std.proofs.Common.{◌≡◌, List, ◌++◌, refl, sym, ap, ◌∙◌, append-nil, append_assoc, true, false}
 use Rattle.std.proofs.Common.{Bool, cond, subst}
 use Rattle.std.specs.Prelude.{None, Some}
 use Rattle.std.specs.List.{AllByRecursion, AllZip, Contains}
 use mathlib.Core.List.{IsPrefix}
 use Rattle.rtrb.specs.Ring.{known_items, received}
-use Rattle.ason_base.specs.Network.{Network, is_node_id}
+use Rattle.ason_base.specs.Network.{Network}
 use Rattle.ason_base.specs.declared.commands.Disturb.{Disturb}
 use Rattle.ason_base.specs.declared.ids.NodeId.{NodeId}
 use Rattle.world_rules.specs.WorldRuns.{is_channel, neighbours}
@@ -17,28 +17,27 @@ use Rattle.round_rules.specs.Doings.{Doing, deeds_in}
 use Rattle.round_rules.specs.Functions.{Popped, tick_if}
 use Rattle.round_rules.specs.Held.{due_in}
 use Rattle.round_rules.specs.Limits.{Progress, turn_to}
-use Rattle.round_rules.specs.OneWorker.{after_turns, all_popped, due_popped, ids_of, node_end, turns_to}
+use Rattle.round_rules.specs.OneWorker.{after_turns, all_popped, due_popped, node_end, turns_to}
 use Rattle.round_rules.specs.Records.{IsRecord, Record, deeds_at}
 use Rattle.round_rules.proofs.Desks.{deeds-more}
 use Rattle.round_rules.proofs.Ending.{halts-are-last}
 use Rattle.station_doings.specs.Moves.{HasMoved, IsDrained}
 use Rattle.station_doings.specs.States.{StationState}
 use Rattle.station_doings.specs.Turned.{HaveComeTo, all_of}
-use Rattle.fleet_rounds.specs.Fleets.{AreStanding, HasBegun, IsKnown, IsStationAt, Wires}
-use Rattle.fleet_rounds.specs.OneWorker.{IsPlaced}
-use Rattle.fleet_rounds.specs.Turns.{AfterTurns, HasMadeRound}
-use Rattle.fleet_rounds.proofs.Alone.{ds, later, now, part, row, standing-alone, wired}
+use Rattle.fleet_rounds.specs.Fleets.{Wires}
+use Rattle.fleet_rounds.proofs.Alone.{standing-alone}
 use Rattle.fleet_rounds.proofs.Begun.{all-begun, wires-here}
-use Rattle.fleet_rounds.proofs.Choosing.{Between, zip-both, zip-from-map, zip-onto-map, zip-there}
+use Rattle.fleet_rounds.proofs.Choosing.{zip-both, zip-from-map, zip-onto-map, zip-there}
 use Rattle.fleet_rounds.proofs.Contents.{BearsSent, each-first, each-last, told-to, turn-same}
 use Rattle.fleet_rounds.proofs.Counting.{RingFacts, stands-there}
 use Rattle.fleet_rounds.proofs.Exact.{all-held, gone-sent}
 use Rattle.fleet_rounds.proofs.Exacts.{bears-sent, sent_in}
 use Rattle.fleet_rounds.proofs.Joined.{standing-is-a-record}
+use Rattle.fleet_rounds.proofs.KnownTurns.{KnownTurns, turns-made}
 use Rattle.fleet_rounds.proofs.Nodes.{channel-near, joins-nodes}
 use Rattle.fleet_rounds.proofs.OneTurn.{OneTurn}
 use Rattle.fleet_rounds.proofs.Popping.{ArePopped, ArePoppedOf, StoodAlone, all-popped, due-exact}
-use Rattle.fleet_rounds.proofs.Rounding.{TurnedAt, ring-facts}
+use Rattle.fleet_rounds.proofs.Rounding.{ring-facts}
 use Rattle.fleet_rounds.proofs.Stood.{TakesWhatStood, takes-what-stood}
 use Rattle.fleet_rounds.proofs.Turned.{due-is}
 use Rattle.fleet_rounds.proofs.Wired.{link-peer}
@@ -50,36 +49,16 @@ pub end-is : (t : Network) (r : Record) (n : NodeId) (p : Progress) (ks : List D
 end-is t r n p ks halted e f =
     λ i. record { made = after_turns t r n (e i); stopped = cond (f i) (Some n) None }
 
-module _ (t : Network) (lines : List Disturb) (r : Record) (w : Wires) (xs : List StationState)
-    (all : AreStanding t lines r w xs) (begun : (u d : NodeId) → is_channel t u d ≡ true → HasBegun w u d)
-    (n : NodeId) (node : is_node_id t.nodes n ≡ true) (many : ℕ) (y : AfterTurns)
-    (made : Between (IsStationAt t lines r w) (HasMadeRound many) n y)
-    (known : (d : NodeId) → is_channel t n d ≡ true → IsKnown w n d) (ys : List StationState)
-    (placed : AllZip (IsPlaced t lines r w n y.station) (ids_of t) ys)
-    (in_known : (u : NodeId) → is_channel t u n ≡ true → IsKnown w u n)
-    (after_begun : (u : NodeId) → is_channel t u n ≡ true →
-    IsPrefix (received (wired t lines r w xs all n node many y made known ys placed n.0 u.0).into)
-    (gone_of (w u.0 n.0))) where
-  abbrev turned : TurnedAt t lines r w n y (part t lines r w xs all n node many y made known ys placed).0
-  turned = now t lines r w xs all n node many y made known ys placed
-
-  abbrev after : Record
-  after = later t lines r w xs all n node many y made known ys placed
-
-  abbrev wires : Wires
-  wires = wired t lines r w xs all n node many y made known ys placed
-
-  abbrev links : ℕ → LinkState
-  links = row t lines r w xs all n node many y made known ys placed
-
-  abbrev did : List Doing
-  did = ds t lines r w xs all n node many y made known ys placed
+module _ (t : Network) (lines : List Disturb) (r : Record) (w : Wires) (k : KnownTurns t lines r w) where
+  open k use {alone, begun, in_known, after_begun}
+  open alone use {xs, all, n, y, ys}
+  open turns-made t lines r w alone use {turned, after, wires, links, did}
 
   is_record : IsRecord t after
   is_record =
       standing-is-a-record t lines after wires ys
-      (standing-alone t lines r w xs all n node many y made known ys placed)
-      (all-begun t lines r w xs all begun n node many y made known ys placed in_known after_begun)
+      (standing-alone t lines r w alone)
+      (all-begun t lines r w k)
 
   holds : AllByRecursion (BearsSent (sent_in t r n)) (deeds_in did)
   holds =
@@ -99,7 +78,7 @@ module _ (t : Network) (lines : List Disturb) (r : Record) (w : Wires) (xs : Lis
   came_of : (u : NodeId) → is_channel t u n ≡ true → IsPrefix (received (links u.0).into) (gone_of (w u.0 n.0))
   came_of u joined =
       subst (λ (l : LinkState). IsPrefix (received l.into) (gone_of (w u.0 n.0)))
-      (wires-here t lines r w xs all begun n node many y made known ys placed in_known after_begun u.0)
+      (wires-here t lines r w k u.0)
       (after_begun u joined)
 
   -- in turns that came to their end all that stood was taken, and nothing since

@@ -6,7 +6,7 @@ use Rattle.round_rules.specs.Doings.{Waiting}
 use Rattle.round_rules.specs.Unfinished.{left_of}
 use Rattle.fleet_rounds.specs.Commands.{CutRoundsPostNothing, RoundsPostNothing}
 use Rattle.fleet_rounds.specs.Fleets.{HasGrown}
-use Rattle.fleet_rounds.proofs.NoPosts.{HasNoPost, cut-posts, posts-append, turn-posts}
+use Rattle.fleet_rounds.proofs.NoPosts.{HasNoPost, cut-adds, posts-append, turn-adds}
 
 -- A round of all nodes.
 pub rounds-post-nothing : RoundsPostNothing
@@ -18,7 +18,7 @@ rounds-post-nothing t lines before after round n = go (is_node_id t.nodes n) ref
         record {
           added = f.added;
           all = f.all;
-          no_post = turn-posts t lines n true (before.doings n.0) f.added f.turn;
+          no_post = (turn-adds t lines n true (before.doings n.0) f.added f.turn).0;
         }
     go false other =
         record { added = []; all = round.others n other ∙ sym (append-nil (before.doings n.0)); no_post = refl }
@@ -38,7 +38,7 @@ cut-rounds-post-nothing t lines before after round n = go (is_node_id t.nodes n)
           added = f.made ++ left_of f.left;
           all = f.all;
           no_post =
-              posts-append f.made (left_of f.left) (cut-posts t lines n true (before.doings n.0) f.made f.cut)
+              posts-append f.made (left_of f.left) (cut-adds t lines n true (before.doings n.0) f.made f.cut).0
               (left_none f.left);
         }
     go false other =

@@ -10,11 +10,11 @@ use Rattle.round_rules.specs.Records.{Record}
 use Rattle.round_rules.specs.Rings.{count_of, got_from, is_in}
 use Rattle.round_rules.specs.Rounds.{TakesInOrder, TakesWhatWasSent}
 use Rattle.station_doings.specs.States.{StationState}
+use Rattle.station_doings.proofs.Taking.{got-more}
 use Rattle.fleet_rounds.specs.Fleets.{Wires}
 use Rattle.fleet_rounds.specs.OneWorker.{IsPartAt}
 use Rattle.fleet_rounds.specs.OneWorker.{IsUnderWay, RoundsBegin, RoundsEnd}
 use Rattle.fleet_rounds.proofs.Counting.{RingFacts, taken-handed, takes-rise}
-use Rattle.fleet_rounds.proofs.Got.{got-more}
 use Rattle.fleet_rounds.proofs.Nodes.{among-ids}
 use Rattle.fleet_rounds.proofs.Handing.{handed-in}
 use Rattle.fleet_rounds.proofs.Numbers.{in-append}
