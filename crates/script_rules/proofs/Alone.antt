@@ -19,10 +19,11 @@ use Rattle.script_rules.specs.ScriptLaws.{AreSame, OneWorkerIsAFunction, OneWork
 use Rattle.script_rules.specs.Lawful.{IsLawfulRecord}
 use Rattle.script_rules.specs.OneWorker.{after_round, line_end, lines_end, round_end, settle_end, wait_end}
 use Rattle.script_rules.specs.Outputs.{LinePrints, Prints, Shows, UnlessStopped}
-use Rattle.script_rules.specs.Stages.{ComesTo, IsNextRound, LineMakes, Settles, Stage, Waits, is_settled, is_stopped, last_of, with_line, with_noise, with_post, world_at}
+use Rattle.script_rules.specs.Stages.{ComesTo, IsNextRound, LineMakes, Stage, is_settled, is_stopped, last_of, with_line, with_noise, with_post, world_at}
 use Rattle.script_rules.proofs.Follows.{last_append}
 use Rattle.script_rules.proofs.Lawful.{HasOneTable, lawful_table}
 use Rattle.script_rules.proofs.OneTable.{one_table}
+use Rattle.script_rules.proofs.Rounds.{Goes, settles-go, waits-go}
 
 -- The next round
 
@@ -42,56 +43,34 @@ next_is t workers s a one next =
 not_two : (b : Bool) → b ≡ true → b ≡ false → ⊥
 not_two b e f = absurd (cc (e, f))
 
-settles_alone : (t : Network) (workers rounds : ℕ) (s : Stage) (xs ys : List Stage) → workers ≡ 1 →
-    Settles t workers rounds s xs → Settles t workers rounds s ys → xs ≡ ys
-settles_alone t workers zero s [] [] one x y = refl
-settles_alone t workers zero s (a ∷ xs) ys one x y = absurd x
-settles_alone t workers zero s [] (b ∷ ys) one x y = absurd y
-settles_alone t workers (suc rounds) s [] [] one x y = refl
-settles_alone t workers (suc rounds) s [] (b ∷ ys) one x y = absurd (not_two (is_settled t s) x y.0)
-settles_alone t workers (suc rounds) s (a ∷ xs) [] one x y = absurd (not_two (is_settled t s) y x.0)
-settles_alone t workers (suc rounds) s (a ∷ xs) (b ∷ ys) one x y =
+rounds_alone : (over : Stage → Bool) (t : Network) (workers rounds : ℕ) (s : Stage) (xs ys : List Stage) →
+    workers ≡ 1 → Goes over t workers rounds s xs → Goes over t workers rounds s ys → xs ≡ ys
+rounds_alone over t workers zero s [] [] one x y = refl
+rounds_alone over t workers zero s (a ∷ xs) ys one x y = absurd x
+rounds_alone over t workers zero s [] (b ∷ ys) one x y = absurd y
+rounds_alone over t workers (suc rounds) s [] [] one x y = refl
+rounds_alone over t workers (suc rounds) s [] (b ∷ ys) one x y = absurd (not_two (over s) x y.0)
+rounds_alone over t workers (suc rounds) s (a ∷ xs) [] one x y = absurd (not_two (over s) y x.0)
+rounds_alone over t workers (suc rounds) s (a ∷ xs) (b ∷ ys) one x y =
     let same : a ≡ b = sym (next_is t workers s a one x.1) ∙ next_is t workers s b one y.1 in
     let others : xs ≡ ys =
-    settles_alone t workers rounds b xs ys one (subst (λ z. Settles t workers rounds z xs) same x.2) y.2 in
-    λ i. same i ∷ others i
-
-waits_alone : (t : Network) (workers rounds : ℕ) (s : Stage) (xs ys : List Stage) → workers ≡ 1 →
-    Waits t workers rounds s xs → Waits t workers rounds s ys → xs ≡ ys
-waits_alone t workers zero s [] [] one x y = refl
-waits_alone t workers zero s (a ∷ xs) ys one x y = absurd x
-waits_alone t workers zero s [] (b ∷ ys) one x y = absurd y
-waits_alone t workers (suc rounds) s [] [] one x y = refl
-waits_alone t workers (suc rounds) s [] (b ∷ ys) one x y = absurd (not_two (is_stopped s) x y.0)
-waits_alone t workers (suc rounds) s (a ∷ xs) [] one x y = absurd (not_two (is_stopped s) y x.0)
-waits_alone t workers (suc rounds) s (a ∷ xs) (b ∷ ys) one x y =
-    let same : a ≡ b = sym (next_is t workers s a one x.1) ∙ next_is t workers s b one y.1 in
-    let others : xs ≡ ys =
-    waits_alone t workers rounds b xs ys one (subst (λ z. Waits t workers rounds z xs) same x.2) y.2 in
+    rounds_alone over t workers rounds b xs ys one (subst (λ z. Goes over t workers rounds z xs) same x.2) y.2 in
     λ i. same i ∷ others i
 
 -- where they lead is where the function leads
-settles_end : (t : Network) (workers rounds : ℕ) (s : Stage) (more : List Stage) → workers ≡ 1 →
-    Settles t workers rounds s more → last_of s more ≡ settle_end t rounds s
-settles_end t workers zero s [] one x = refl
-settles_end t workers zero s (a ∷ more) one x = absurd x
-settles_end t workers (suc rounds) s [] one x =
-    sym (ap (λ b. cond b s (settle_end t rounds (round_end t s))) x)
-settles_end t workers (suc rounds) s (a ∷ more) one x =
-    settles_end t workers rounds a more one x.2
-    ∙ (ap (settle_end t rounds) (sym (next_is t workers s a one x.1))
-    ∙ sym (ap (λ b. cond b s (settle_end t rounds (round_end t s))) x.0))
-
-waits_end : (t : Network) (workers rounds : ℕ) (s : Stage) (more : List Stage) → workers ≡ 1 →
-    Waits t workers rounds s more → last_of s more ≡ wait_end t rounds s
-waits_end t workers zero s [] one x = refl
-waits_end t workers zero s (a ∷ more) one x = absurd x
-waits_end t workers (suc rounds) s [] one x =
-    sym (ap (λ b. cond b s (wait_end t rounds (round_end t s))) x)
-waits_end t workers (suc rounds) s (a ∷ more) one x =
-    waits_end t workers rounds a more one x.2
-    ∙ (ap (wait_end t rounds) (sym (next_is t workers s a one x.1))
-    ∙ sym (ap (λ b. cond b s (wait_end t rounds (round_end t s))) x.0))
+rounds_end : (over : Stage → Bool) (end : ℕ → Stage → Stage) (t : Network) (workers : ℕ) →
+    ((s : Stage) → end 0 s ≡ s) →
+    ((rounds : ℕ) (s : Stage) → end (suc rounds) s ≡ cond (over s) s (end rounds (round_end t s))) →
+    (rounds : ℕ) (s : Stage) (more : List Stage) → workers ≡ 1 → Goes over t workers rounds s more →
+    last_of s more ≡ end rounds s
+rounds_end over end t workers none next zero s [] one x = sym (none s)
+rounds_end over end t workers none next zero s (a ∷ more) one x = absurd x
+rounds_end over end t workers none next (suc rounds) s [] one x =
+    sym (next rounds s ∙ ap (λ b. cond b s (end rounds (round_end t s))) x)
+rounds_end over end t workers none next (suc rounds) s (a ∷ more) one x =
+    rounds_end over end t workers none next rounds a more one x.2
+    ∙ (ap (end rounds) (sym (next_is t workers s a one x.1))
+    ∙ sym (next rounds s ∙ ap (λ b. cond b s (end rounds (round_end t s))) x.0))
 
 -- Lines
 
@@ -100,8 +79,12 @@ line_alone : (t : Network) (workers : ℕ) (line : Line) (s : Stage) (xs ys : Li
 line_alone t workers (Post c) s xs ys one x y = x ∙ sym y
 line_alone t workers (said.Disturb d) s xs ys one x y = x ∙ sym y
 line_alone t workers (Noise u d bytes) s xs ys one x y = x ∙ sym y
-line_alone t workers (Settle rounds) s xs ys one x y = settles_alone t workers rounds s xs ys one x y
-line_alone t workers (Wait rounds) s xs ys one x y = waits_alone t workers rounds s xs ys one x y
+line_alone t workers (Settle rounds) s xs ys one x y =
+    rounds_alone (is_settled t) t workers rounds s xs ys one (settles-go t workers rounds s xs x)
+    (settles-go t workers rounds s ys y)
+line_alone t workers (Wait rounds) s xs ys one x y =
+    rounds_alone is_stopped t workers rounds s xs ys one (waits-go t workers rounds s xs x)
+    (waits-go t workers rounds s ys y)
 line_alone t workers Show s xs ys one x y = x ∙ sym y
 
 unless_ends : (s a : Stage) (b : Bool) → last_of s (cond b [] (a ∷ [])) ≡ cond b s a
@@ -114,8 +97,12 @@ line_ends t workers (Post c) s more one x = ap (last_of s) x ∙ unless_ends s (
 line_ends t workers (said.Disturb d) s more one x = ap (last_of s) x ∙ unless_ends s (with_line t d s) (is_stopped s)
 line_ends t workers (Noise u d bytes) s more one x =
     ap (last_of s) x ∙ unless_ends s (with_noise u d bytes s) (is_stopped s)
-line_ends t workers (Settle rounds) s more one x = settles_end t workers rounds s more one x
-line_ends t workers (Wait rounds) s more one x = waits_end t workers rounds s more one x
+line_ends t workers (Settle rounds) s more one x =
+    rounds_end (is_settled t) (settle_end t) t workers (λ s. refl) (λ k s. refl) rounds s more one
+    (settles-go t workers rounds s more x)
+line_ends t workers (Wait rounds) s more one x =
+    rounds_end is_stopped (wait_end t) t workers (λ s. refl) (λ k s. refl) rounds s more one
+    (waits-go t workers rounds s more x)
 line_ends t workers Show s more one x = ap (last_of s) x
 
 pub function_end : OneWorkerIsAFunction

@@ -22,7 +22,8 @@ use Rattle.plan_reader.specs.declared.lines.Line.TheVariants as said
 use Rattle.plan_reader.specs.declared.lines.Line.TheVariants.{Noise, Post, Settle, Wait, Show}
 use Rattle.script_rules.specs.Growing.{AreGrowing, GrowsTo}
 use Rattle.script_rules.specs.ScriptLaws.{RoundLaws, ScriptsGrow}
-use Rattle.script_rules.specs.Stages.{ComesTo, IsNextRound, LineMakes, Settles, Stage, Waits, is_stopped, last_of, with_line, with_post}
+use Rattle.script_rules.specs.Stages.{ComesTo, IsNextRound, LineMakes, Stage, is_settled, is_stopped, last_of, with_line, with_post}
+use Rattle.script_rules.proofs.Rounds.{Goes, settles-go, waits-go}
 
 -- Rounds
 
@@ -70,21 +71,13 @@ next_grows laws t workers s a next =
     let each = round_grows laws t workers s a next in
     grows s.made a.made (λ n. ((each (at n)).added, (each (at n)).all))
 
-settles_grow : RoundLaws → (t : Network) (workers rounds : ℕ) (s : Stage) (more : List Stage) →
-    Settles t workers rounds s more → AreGrowing s more
-settles_grow laws t workers zero s [] x = tt
-settles_grow laws t workers zero s (a ∷ more) x = absurd x
-settles_grow laws t workers (suc rounds) s [] x = tt
-settles_grow laws t workers (suc rounds) s (a ∷ more) x =
-    (next_grows laws t workers s a x.1, settles_grow laws t workers rounds a more x.2)
-
-waits_grow : RoundLaws → (t : Network) (workers rounds : ℕ) (s : Stage) (more : List Stage) →
-    Waits t workers rounds s more → AreGrowing s more
-waits_grow laws t workers zero s [] x = tt
-waits_grow laws t workers zero s (a ∷ more) x = absurd x
-waits_grow laws t workers (suc rounds) s [] x = tt
-waits_grow laws t workers (suc rounds) s (a ∷ more) x =
-    (next_grows laws t workers s a x.1, waits_grow laws t workers rounds a more x.2)
+rounds_grow : RoundLaws → (over : Stage → Bool) (t : Network) (workers rounds : ℕ) (s : Stage) (more : List Stage) →
+    Goes over t workers rounds s more → AreGrowing s more
+rounds_grow laws over t workers zero s [] x = tt
+rounds_grow laws over t workers zero s (a ∷ more) x = absurd x
+rounds_grow laws over t workers (suc rounds) s [] x = tt
+rounds_grow laws over t workers (suc rounds) s (a ∷ more) x =
+    (next_grows laws t workers s a x.1, rounds_grow laws over t workers rounds a more x.2)
 
 post_grows : (t : Network) (c : Command) (s : Stage) (b : Bool) →
     AreGrowing s (cond b [] (with_post t c s ∷ []))
@@ -126,8 +119,10 @@ line_grows laws t workers (Post c) s more x = subst (AreGrowing s) (sym x) (post
 line_grows laws t workers (said.Disturb d) s more x = subst (AreGrowing s) (sym x) (line_kept t d s (is_stopped s))
 line_grows laws t workers (Noise u d bytes) s more x =
     subst (AreGrowing s) (sym x) (noise_grows u d bytes s (length (log_at s.made d.0) == 50000) (is_stopped s))
-line_grows laws t workers (Settle rounds) s more x = settles_grow laws t workers rounds s more x
-line_grows laws t workers (Wait rounds) s more x = waits_grow laws t workers rounds s more x
+line_grows laws t workers (Settle rounds) s more x =
+    rounds_grow laws (is_settled t) t workers rounds s more (settles-go t workers rounds s more x)
+line_grows laws t workers (Wait rounds) s more x =
+    rounds_grow laws is_stopped t workers rounds s more (waits-go t workers rounds s more x)
 line_grows laws t workers Show s more x = subst (AreGrowing s) (sym x) tt
 
 both_grow : (s : Stage) (xs ys : List Stage) → AreGrowing s xs → AreGrowing (last_of s xs) ys →

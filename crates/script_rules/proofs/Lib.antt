@@ -8,4 +8,5 @@ pub mod Nodes
 pub mod OneOrder
 pub mod OneTable
 pub mod Posts
+pub mod Rounds
 pub mod Stops

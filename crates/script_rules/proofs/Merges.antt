@@ -37,7 +37,7 @@ post_lines n (Heard s u bytes ∷ ds) = post_lines n ds
 post_lines n (Posted s c ∷ ds) = (refl, post_lines n ds)
 
 -- stamps that rise stay above where some deeds are left out
-pub all_above : (p : Deed → Bool) (n : NodeId) (r s : ℕ) (ds : List Deed) → r ≤ s → RisesAbove s ds →
+all_above : (p : Deed → Bool) (n : NodeId) (r s : ℕ) (ds : List Deed) → r ≤ s → RisesAbove s ds →
     AllByRecursion (λ (e : Entry). r < e.stamp) (map (line_of n) (filter p ds))
 all_above p n r s [] below up = tt
 all_above p n r s (d ∷ ds) below up = go (p d) (all_above p n r (stamp_of d) ds (omega (arith, below, up.0)) up.1)
@@ -47,22 +47,40 @@ all_above p n r s (d ∷ ds) below up = go (p d) (all_above p n r (stamp_of d) d
     go true rest = (omega (arith, below, up.0, line-stamp n d), rest)
     go false rest = rest
 
-before_all : (e : Entry) (s : ℕ) (m : List Entry) → e.stamp ≡ s → AllByRecursion (λ (f : Entry). s < f.stamp) m →
+-- each stamp is below all later ones
+abbrev pub IsStrict : List Entry → Type 0
+IsStrict [] = Unit {0}
+IsStrict (e ∷ m) = AllByRecursion (λ (f : Entry). e.stamp < f.stamp) m × IsStrict m
+
+-- The lines of deeds whose stamps rise are so, where some are left out, too.
+pub strict_lines : (p : Deed → Bool) (n : NodeId) (s : ℕ) (ds : List Deed) → RisesAbove s ds →
+    IsStrict (map (line_of n) (filter p ds))
+strict_lines p n s [] up = tt
+strict_lines p n s (d ∷ ds) up =
+    go (p d) (all_above p n (stamp_of d) (stamp_of d) ds (omega arith) up.1) (strict_lines p n (stamp_of d) ds up.1)
+  where
+    go : (b : Bool) → AllByRecursion (λ (e : Entry). stamp_of d < e.stamp) (map (line_of n) (filter p ds)) →
+        IsStrict (map (line_of n) (filter p ds)) → IsStrict (map (line_of n) (cond b (d ∷ filter p ds) (filter p ds)))
+    go true later rest = (
+      subst (λ k. AllByRecursion (λ (e : Entry). k < e.stamp) (map (line_of n) (filter p ds))) (sym (line-stamp n d))
+          later,
+      rest,
+    )
+    go false later rest = rest
+
+before_all : (e : Entry) (m : List Entry) → AllByRecursion (λ (f : Entry). e.stamp < f.stamp) m →
     AllByRecursion (IsBefore e) m
-before_all e s [] is all = tt
-before_all e s (f ∷ m) is all = (inl (subst (λ k. k < f.stamp) (sym is) all.0), before_all e s m is all.1)
+before_all e [] all = tt
+before_all e (f ∷ m) all = (inl all.0, before_all e m all.1)
+
+-- so they are sorted
+strict_sorted : (m : List Entry) → IsStrict m → IsSorted m
+strict_sorted [] is = tt
+strict_sorted (e ∷ m) is = (before_all e m is.0, strict_sorted m is.1)
 
 sorted_lines : (p : Deed → Bool) (n : NodeId) (s : ℕ) (ds : List Deed) → RisesAbove s ds →
     IsSorted (map (line_of n) (filter p ds))
-sorted_lines p n s [] up = tt
-sorted_lines p n s (d ∷ ds) up =
-    go (p d) (all_above p n (stamp_of d) (stamp_of d) ds (omega arith) up.1) (sorted_lines p n (stamp_of d) ds up.1)
-  where
-    go : (b : Bool) → AllByRecursion (λ (e : Entry). stamp_of d < e.stamp) (map (line_of n) (filter p ds)) →
-        IsSorted (map (line_of n) (filter p ds)) → IsSorted (map (line_of n) (cond b (d ∷ filter p ds) (filter p ds)))
-    go true later rest =
-        (before_all (line_of n d) (stamp_of d) (map (line_of n) (filter p ds)) (line-stamp n d) later, rest)
-    go false later rest = rest
+sorted_lines p n s ds up = strict_sorted (map (line_of n) (filter p ds)) (strict_lines p n s ds up)
 
 -- Logs
 

@@ -26,9 +26,10 @@ use Rattle.plan_reader.specs.Plans.{calls_after, calls_after_line, calls_after_l
 use Rattle.plan_reader.specs.declared.plan.Plan.{Plan}
 use Rattle.script_rules.specs.ScriptLaws.{PostsFollowLines, RoundLaws}
 use Rattle.script_rules.specs.Outputs.{How, Prints}
-use Rattle.script_rules.specs.Stages.{IsNextRound, LineMakes, Settles, Stage, Waits, is_stopped, last_of, with_line, with_noise, with_post, world_at}
+use Rattle.script_rules.specs.Stages.{IsNextRound, LineMakes, Settles, Stage, Waits, is_settled, is_stopped, last_of, with_line, with_noise, with_post, world_at}
 use Rattle.script_rules.proofs.Follows.{last_append}
 use Rattle.script_rules.proofs.Grows.{round_grows}
+use Rattle.script_rules.proofs.Rounds.{Goes, settles-go, waits-go}
 
 -- Once the run is stopped nothing is made
 
@@ -88,21 +89,13 @@ round_posts laws t workers s a next =
     grown : HasGrown s.made a.made 0
     grown = round_grows laws t workers s a next (at 0)
 
-settles_post : RoundLaws → (t : Network) (workers rounds : ℕ) (s : Stage) (more : List Stage) →
-    Settles t workers rounds s more → (world_at t (last_of s more)).posted ≡ (world_at t s).posted
-settles_post laws t workers zero s [] x = refl
-settles_post laws t workers zero s (a ∷ more) x = absurd x
-settles_post laws t workers (suc rounds) s [] x = refl
-settles_post laws t workers (suc rounds) s (a ∷ more) x =
-    settles_post laws t workers rounds a more x.2 ∙ round_posts laws t workers s a x.1
-
-waits_post : RoundLaws → (t : Network) (workers rounds : ℕ) (s : Stage) (more : List Stage) →
-    Waits t workers rounds s more → (world_at t (last_of s more)).posted ≡ (world_at t s).posted
-waits_post laws t workers zero s [] x = refl
-waits_post laws t workers zero s (a ∷ more) x = absurd x
-waits_post laws t workers (suc rounds) s [] x = refl
-waits_post laws t workers (suc rounds) s (a ∷ more) x =
-    waits_post laws t workers rounds a more x.2 ∙ round_posts laws t workers s a x.1
+rounds_post : RoundLaws → (over : Stage → Bool) (t : Network) (workers rounds : ℕ) (s : Stage) (more : List Stage) →
+    Goes over t workers rounds s more → (world_at t (last_of s more)).posted ≡ (world_at t s).posted
+rounds_post laws over t workers zero s [] x = refl
+rounds_post laws over t workers zero s (a ∷ more) x = absurd x
+rounds_post laws over t workers (suc rounds) s [] x = refl
+rounds_post laws over t workers (suc rounds) s (a ∷ more) x =
+    rounds_post laws over t workers rounds a more x.2 ∙ round_posts laws t workers s a x.1
 
 posted_calls : (t : Network) (w : World) (c : Command) → (runs.posted t w c).posted ≡ calls_after w.posted c
 posted_calls t w (Setup n from to protected both via backup) = refl
@@ -152,8 +145,10 @@ line_posts laws t workers (Noise u d bytes) s more x going =
     ap (λ ss. (world_at t (last_of s ss)).posted) x
     ∙ one_stage_posts t s (with_noise u d bytes s) (is_stopped s)
     (noise_posts t u d bytes s (length (log_at s.made d.0) == 50000))
-line_posts laws t workers (Settle rounds) s more x going = settles_post laws t workers rounds s more x
-line_posts laws t workers (Wait rounds) s more x going = waits_post laws t workers rounds s more x
+line_posts laws t workers (Settle rounds) s more x going =
+    rounds_post laws (is_settled t) t workers rounds s more (settles-go t workers rounds s more x)
+line_posts laws t workers (Wait rounds) s more x going =
+    rounds_post laws is_stopped t workers rounds s more (waits-go t workers rounds s more x)
 line_posts laws t workers Show s more x going = ap (λ ss. (world_at t (last_of s ss)).posted) x
 
 pub posts_follow : PostsFollowLines

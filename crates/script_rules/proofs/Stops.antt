@@ -10,29 +10,22 @@ use Rattle.plan_reader.specs.declared.lines.Line.{Line}
 use Rattle.plan_reader.specs.declared.lines.Line.TheVariants as said
 use Rattle.plan_reader.specs.declared.lines.Line.TheVariants.{Noise, Post, Settle, Wait, Show}
 use Rattle.script_rules.specs.ScriptLaws.{StopsAreFull}
-use Rattle.script_rules.specs.Stages.{ComesTo, IsFull, LineMakes, Settles, Stage, Waits, is_stopped, last_of, with_line, with_noise, with_post}
+use Rattle.script_rules.specs.Stages.{ComesTo, IsFull, LineMakes, Stage, is_settled, is_stopped, last_of, with_line, with_noise, with_post}
 use Rattle.script_rules.proofs.Follows.{last_append}
+use Rattle.script_rules.proofs.Rounds.{Goes, settles-go, waits-go}
 
 comes_full : (t : Network) (lines : List Disturb) (workers : ℕ) (before after : Record) (o : Option NodeId) →
     ComesTo t lines workers before after o → IsFull after o
 comes_full t lines workers before after None comes = tt
 comes_full t lines workers before after (Some n) comes = comes.stopped.full
 
-settles_full : (t : Network) (workers rounds : ℕ) (s : Stage) (more : List Stage) → IsFull s.made s.stopped →
-    Settles t workers rounds s more → IsFull (last_of s more).made (last_of s more).stopped
-settles_full t workers zero s [] full x = full
-settles_full t workers zero s (a ∷ more) full x = absurd x
-settles_full t workers (suc rounds) s [] full x = full
-settles_full t workers (suc rounds) s (a ∷ more) full x =
-    settles_full t workers rounds a more (comes_full t s.lines workers s.made a.made a.stopped x.1.comes) x.2
-
-waits_full : (t : Network) (workers rounds : ℕ) (s : Stage) (more : List Stage) → IsFull s.made s.stopped →
-    Waits t workers rounds s more → IsFull (last_of s more).made (last_of s more).stopped
-waits_full t workers zero s [] full x = full
-waits_full t workers zero s (a ∷ more) full x = absurd x
-waits_full t workers (suc rounds) s [] full x = full
-waits_full t workers (suc rounds) s (a ∷ more) full x =
-    waits_full t workers rounds a more (comes_full t s.lines workers s.made a.made a.stopped x.1.comes) x.2
+rounds_full : (over : Stage → Bool) (t : Network) (workers rounds : ℕ) (s : Stage) (more : List Stage) →
+    IsFull s.made s.stopped → Goes over t workers rounds s more → IsFull (last_of s more).made (last_of s more).stopped
+rounds_full over t workers zero s [] full x = full
+rounds_full over t workers zero s (a ∷ more) full x = absurd x
+rounds_full over t workers (suc rounds) s [] full x = full
+rounds_full over t workers (suc rounds) s (a ∷ more) full x =
+    rounds_full over t workers rounds a more (comes_full t s.lines workers s.made a.made a.stopped x.1.comes) x.2
 
 -- one stage more, where it is full or stopped by nothing
 one_full : (s a : Stage) → (is_stopped s ≡ false → IsFull a.made a.stopped) → IsFull s.made s.stopped →
@@ -74,8 +67,10 @@ line_full t workers (said.Disturb d) s more full x =
 line_full t workers (Noise u d bytes) s more full x =
     subst (λ ss. IsFull (last_of s ss).made (last_of s ss).stopped) (sym x)
     (one_full s (with_noise u d bytes s) (noise_full u d bytes s) full)
-line_full t workers (Settle rounds) s more full x = settles_full t workers rounds s more full x
-line_full t workers (Wait rounds) s more full x = waits_full t workers rounds s more full x
+line_full t workers (Settle rounds) s more full x =
+    rounds_full (is_settled t) t workers rounds s more full (settles-go t workers rounds s more x)
+line_full t workers (Wait rounds) s more full x =
+    rounds_full is_stopped t workers rounds s more full (waits-go t workers rounds s more x)
 line_full t workers Show s more full x =
     subst (λ ss. IsFull (last_of s ss).made (last_of s ss).stopped) (sym x) full
 
