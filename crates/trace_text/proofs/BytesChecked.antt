@@ -1,10 +1,11 @@
 -- What bytes are checked to be.
 use Rattle.std.proofs.Common.{◌≡◌, ◌∙◌, ◌⊎◌, ℕ, Bool, cond, true, false, List, Option, Some, None, Ok, Err, bytes_eq, codes, inl, inr, refl, ap, sym, subst}
+use Rattle.ason_base.specs.declared.commands.Entry.{Entry}
 use Rattle.plan_reader.specs.declared.plan.Plan.{Plan}
-use Rattle.trace_text.specs.Checks.{AreChecked, AreFound, AreMigrated, ChecksAs, IsChecked, IsFaultBy, IsFoundAfter, IsWrongAfter}
+use Rattle.trace_text.specs.Checks.{AreFound, ChecksAs, IsChecked, IsFaultBy, IsFoundAfter, IsWrongAfter}
 use Rattle.trace_text.specs.LinesRead.{LinesRead}
-use Rattle.trace_text.specs.TraceForms.{TraceHead, head_in, head_of, if_version, is_version_2, lines_behind, or_uncounted, plan_in, version_of, with_version}
-use Rattle.trace_text.specs.TraceRead.{IsPlanIn}
+use Rattle.trace_text.specs.TraceForms.{TraceHead, head_in, head_of, if_version, is_version_2, lines_behind, of_lines, or_uncounted, plan_in, version_of, with_version}
+use Rattle.trace_text.specs.TraceRead.{IsPlanIn, IsTraceOf}
 use Rattle.trace_text.specs.Words.{parted}
 use Rattle.trace_text.specs.declared.checking.FoundRun.{FoundRun}
 use Rattle.trace_text.specs.declared.read.TraceFault.{TraceFault}
@@ -46,41 +47,40 @@ pub bytes_checked : (bytes : List ℕ) (h : TraceHead) (p : Plan) (ls : LinesRea
     (record { version = h.version; events = f.events; left_out = f.left_out; plan = p; rows = f.rows })
 bytes_checked bytes h p ls f begun spelled lines found = by_version (head_known bytes h begun)
   where
-    of_version : (v : ℕ) → h.version ≡ v → head_of bytes ≡ Some (record { version = v; plan = h.plan; rest = h.rest })
-    of_version v is = begun ∙ λ i. Some (record { version = is i; plan = h.plan; rest = h.rest })
+    found_at : (v : ℕ) → h.version ≡ v → AreFound (is_version_2 v) p ls f
+    found_at v is = subst (λ (k : ℕ). AreFound (is_version_2 k) p ls f) is found
+
+    trace_at : (v : ℕ) (es : List Entry) (text : List ℕ) → h.version ≡ v → of_lines ls ≡ Ok (es, text) →
+        IsTraceOf bytes (record { version = v; plan_bytes = h.plan; plan = p; entries = es; table = text })
+    trace_at v es text is form = record {
+      rest = h.rest;
+      head = begun ∙ λ i. Some (record { version = is i; plan = h.plan; rest = h.rest });
+      plan = subst (λ (k : ℕ). IsPlanIn k h.plan (Ok p)) is spelled;
+      form = ap or_uncounted lines ∙ form;
+    }
 
     by_version : (h.version ≡ 2) ⊎ (h.version ≡ 1) → IsChecked bytes
         (record { version = h.version; events = f.events; left_out = f.left_out; plan = p; rows = f.rows })
     by_version (inl is) =
-        let are : AreChecked p ls f = subst (λ (v : ℕ). AreFound (is_version_2 v) p ls f) is found in
+        let are = found_at 2 is in
         inl (record {
           version = is;
           plan_bytes = h.plan;
           entries = ls.entries;
-          trace = record {
-            rest = h.rest;
-            head = of_version 2 is;
-            plan = subst (λ (v : ℕ). IsPlanIn v h.plan (Ok p)) is spelled;
-            form = ap or_uncounted lines ∙ are.form;
-          };
+          trace = trace_at 2 ls.entries _ is are.form;
           run = are.run;
           table = are.table;
           events = are.events;
           left_out = are.left_out;
         })
     by_version (inr is) =
-        let are : AreMigrated p ls f = subst (λ (v : ℕ). AreFound (is_version_2 v) p ls f) is found in
+        let are = found_at 1 is in
         inr (record {
           version = is;
           plan_bytes = h.plan;
           entries = ls.entries;
           text = are.text;
-          trace = record {
-            rest = h.rest;
-            head = of_version 1 is;
-            plan = subst (λ (v : ℕ). IsPlanIn v h.plan (Ok p)) is spelled;
-            form = ap or_uncounted lines ∙ are.form;
-          };
+          trace = trace_at 1 ls.entries are.text is are.form;
           run = are.run;
           kept = are.kept;
           table = are.table;

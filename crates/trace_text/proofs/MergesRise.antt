@@ -1,18 +1,18 @@
 -- The entries of a merge are events of their nodes, and rise.
-use Rattle.std.proofs.Common.{◌≡◌, ◌<◌, ◌≤◌, ◌==◌, ℕ, Bool, true, false, cond, nat_lt, not, List, [], ◌∷◌, inl, inr, filter, map, Option, Some, None, refl, ap, sym, ◌∙◌, subst, arith}
+use Rattle.std.proofs.Common.{◌≡◌, ◌<◌, ◌≤◌, ◌==◌, ℕ, Bool, true, false, cond, nat_lt, not, List, [], ◌∷◌, inl, inr, filter, Option, Some, None, refl, ap, sym, ◌∙◌, subst, arith}
 use Rattle.std.specs.List.{AllByRecursion}
 use Rattle.std.proofs.lemmas.Bool.Decides.{nat_tests}
 use Rattle.ason_base.specs.declared.commands.Entry.{Entry}
 use Rattle.ason_base.specs.declared.commands.Event.{Event}
 use Rattle.ason_base.specs.declared.commands.Event.TheVariants.{Deliver, Noise, Tick, Desk, Post}
 use Rattle.ason_base.specs.declared.ids.NodeId.{NodeId}
-use Rattle.world_merge.specs.Deeds.{Deed, Handled, Heard, Posted, Ticked, Took, stamp_of}
+use Rattle.world_merge.specs.Deeds.{Deed, Handled, Heard, Posted, Ticked, Took}
 use Rattle.world_merge.specs.Histories.{at}
-use Rattle.world_merge.specs.Logs.{RisesAbove, is_posted, line_of, log_of, posts_of}
+use Rattle.world_merge.specs.Logs.{is_posted, log_of, posts_of}
 use Rattle.world_merge.specs.Orders.{IsBefore, IsMerge, IsSorted, is_of, is_post}
 use Rattle.world_merge.specs.Orders as orders
 use Rattle.round_rules.specs.Records.{IsRecord, Record, deeds_at, log_at, posts_in}
-use Rattle.script_rules.proofs.Merges.{all_above}
+use Rattle.script_rules.proofs.Merges.{IsStrict, strict_lines}
 use Rattle.ason_base.specs.Network.{Network}
 use Rattle.trace_text.specs.LinesRead.{node_before, place_before, place_of, rises}
 use Rattle.trace_text.specs.declared.reading.Place.{Place}
@@ -87,33 +87,6 @@ merge_own r m is =
     (subst (AllByRecursion IsOwn) (sym is.all_posts) (own_posts (at 0) (deeds_at r 0)))
 
 -- Rising
-
--- each stamp is below all later ones
-abbrev IsStrict : List Entry → Type 0
-IsStrict [] = Unit {0}
-IsStrict (e ∷ m) = AllByRecursion (λ (f : Entry). e.stamp < f.stamp) m × IsStrict m
-
-line_stamp : (n : NodeId) (d : Deed) → (line_of n d).stamp ≡ stamp_of d
-line_stamp n (Ticked s) = refl
-line_stamp n (Handled s) = refl
-line_stamp n (Took s u k x) = refl
-line_stamp n (Heard s u bytes) = refl
-line_stamp n (Posted s c) = refl
-
-strict_lines : (p : Deed → Bool) (n : NodeId) (s : ℕ) (ds : List Deed) → RisesAbove s ds →
-    IsStrict (map (line_of n) (filter p ds))
-strict_lines p n s [] up = tt
-strict_lines p n s (d ∷ ds) up =
-    go (p d) (all_above p n (stamp_of d) (stamp_of d) ds (omega arith) up.1) (strict_lines p n (stamp_of d) ds up.1)
-  where
-    go : (b : Bool) → AllByRecursion (λ (f : Entry). stamp_of d < f.stamp) (map (line_of n) (filter p ds)) →
-        IsStrict (map (line_of n) (filter p ds)) → IsStrict (map (line_of n) (cond b (d ∷ filter p ds) (filter p ds)))
-    go true above more = (
-      subst (λ (s : ℕ). AllByRecursion (λ (f : Entry). s < f.stamp) (map (line_of n) (filter p ds)))
-          (sym (line_stamp n d)) above,
-      more,
-    )
-    go false above more = more
 
 strict_behind : (b : Bool) (e : Entry) (m : List Entry) → IsStrict (cond b (e ∷ m) m) → IsStrict m
 strict_behind true e m is = is.1

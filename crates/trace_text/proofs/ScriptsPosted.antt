@@ -19,10 +19,11 @@ use Rattle.round_rules.specs.Records.{Record, deeds_at, log_at, posts_in}
 use Rattle.round_rules.proofs.Desks.{deeds-more}
 use Rattle.script_rules.specs.ScriptLaws.{RoundLaws}
 use Rattle.script_rules.specs.Outputs.{How, Prints, script_of}
-use Rattle.script_rules.specs.Stages.{IsNextRound, LineMakes, Settles, Stage, Waits, is_stopped, last_of, new_stage, with_line, with_noise, with_post}
+use Rattle.script_rules.specs.Stages.{IsNextRound, LineMakes, Stage, is_settled, is_stopped, last_of, new_stage, with_line, with_noise, with_post}
 use Rattle.script_rules.proofs.Follows.{last_append}
 use Rattle.script_rules.proofs.Grows.{lines_more, round_grows}
 use Rattle.script_rules.proofs.Posts.{lines_none}
+use Rattle.script_rules.proofs.Rounds.{Goes, settles-go, waits-go}
 use Rattle.world_merge.specs.Deeds.{Heard, Posted}
 use Rattle.world_merge.specs.Histories.{at}
 use Rattle.world_merge.specs.Logs.{is_posted, line_of, posts_of}
@@ -64,21 +65,13 @@ round_gives laws t workers s a next =
     grown : HasGrown s.made a.made 0
     grown = round_grows laws t workers s a next (at 0)
 
-settles_give : RoundLaws → (t : Network) (workers rounds : ℕ) (s : Stage) (more : List Stage) →
-    Settles t workers rounds s more → given (last_of s more) ≡ given s
-settles_give laws t workers zero s [] x = refl
-settles_give laws t workers zero s (a ∷ more) x = absurd x
-settles_give laws t workers (suc rounds) s [] x = refl
-settles_give laws t workers (suc rounds) s (a ∷ more) x =
-    settles_give laws t workers rounds a more x.2 ∙ round_gives laws t workers s a x.1
-
-waits_give : RoundLaws → (t : Network) (workers rounds : ℕ) (s : Stage) (more : List Stage) →
-    Waits t workers rounds s more → given (last_of s more) ≡ given s
-waits_give laws t workers zero s [] x = refl
-waits_give laws t workers zero s (a ∷ more) x = absurd x
-waits_give laws t workers (suc rounds) s [] x = refl
-waits_give laws t workers (suc rounds) s (a ∷ more) x =
-    waits_give laws t workers rounds a more x.2 ∙ round_gives laws t workers s a x.1
+rounds_give : RoundLaws → (over : Stage → Bool) (t : Network) (workers rounds : ℕ) (s : Stage) (more : List Stage) →
+    Goes over t workers rounds s more → given (last_of s more) ≡ given s
+rounds_give laws over t workers zero s [] x = refl
+rounds_give laws over t workers zero s (a ∷ more) x = absurd x
+rounds_give laws over t workers (suc rounds) s [] x = refl
+rounds_give laws over t workers (suc rounds) s (a ∷ more) x =
+    rounds_give laws over t workers rounds a more x.2 ∙ round_gives laws t workers s a x.1
 
 noised_gives : (u d : NodeId) (bytes : List ℕ) (r : Record) →
     posted_in (posts_in (noised u d bytes r)) ≡ posted_in (posts_in r)
@@ -171,8 +164,12 @@ module _ (laws : RoundLaws) (p : Plan) (how : How) where
       ap (λ ss. given (last_of s ss)) x
       ∙ unless_gives s (with_noise u d bytes s) (is_stopped s)
       (noise_gives u d bytes s (length (log_at s.made d.0) == 50000))
-  line_gives (Settle rounds) s more x none = settles_give laws p.topology how.workers rounds s more x
-  line_gives (Wait rounds) s more x none = waits_give laws p.topology how.workers rounds s more x
+  line_gives (Settle rounds) s more x none =
+      rounds_give laws (is_settled p.topology) p.topology how.workers rounds s more
+      (settles-go p.topology how.workers rounds s more x)
+  line_gives (Wait rounds) s more x none =
+      rounds_give laws is_stopped p.topology how.workers rounds s more
+      (waits-go p.topology how.workers rounds s more x)
   line_gives Show s more x none = ap (λ ss. given (last_of s ss)) x
 
   lines_post : (lines : List Line) (s : Stage) (more : List Stage) (text : List ℕ) → Prints p how lines s more text →
