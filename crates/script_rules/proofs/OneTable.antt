@@ -41,6 +41,13 @@ leg_ranks =
     let by_node = on_total (λ (g : LegRow). g.node.0) nat_cmp_total in
     ranks_by (then_total (then_total by_ingress (then_total by_tunnel by_number)) by_node) (λ g. g)
 
+-- two numbers of which neither is less are equal
+neither_less : (a b : ℕ) → nat_lt a b ≡ false → nat_lt b a ≡ false → a ≡ b
+neither_less a b this that =
+    let first = ltb-false a b this in
+    let second = ltb-false b a that in
+    omega arith
+
 -- numbers that tie are equal, and what comes after them ties
 tie : (a b : ℕ) (s t : Bool) → (nat_lt a b || (a == b && s)) ≡ false → (nat_lt b a || (b == a && t)) ≡ false →
     (a ≡ b) × (s ≡ false) × (t ≡ false)
@@ -48,9 +55,7 @@ tie a b s t this that = (same, rest a b s same this, rest b a t (sym same) that)
   where
     same : a ≡ b
     same =
-        let first = ltb-false a b (or_parts (nat_lt a b) (a == b && s) this).0 in
-        let second = ltb-false b a (or_parts (nat_lt b a) (b == a && t) that).0 in
-        omega arith
+        neither_less a b (or_parts (nat_lt a b) (a == b && s) this).0 (or_parts (nat_lt b a) (b == a && t) that).0
 
     rest : (a b : ℕ) (s : Bool) → a ≡ b → (nat_lt a b || (a == b && s)) ≡ false → s ≡ false
     rest a b s e h = sym (ap (λ c. c && s) (eq-eqb a b e)) ∙ (or_parts (nat_lt a b) (a == b && s) h).1
@@ -100,10 +105,7 @@ one_call_row s fit x y here there this that = here.3 ∙ (rows ∙ sym there.3)
         (sym (call_order x y) ∙ this) (sym (call_order y x) ∙ that)
 
     ingress : x.ingress.0 ≡ y.ingress.0
-    ingress =
-        let first = ltb-false x.ingress.0 y.ingress.0 levels.1 in
-        let second = ltb-false y.ingress.0 x.ingress.0 levels.2 in
-        omega arith
+    ingress = neither_less x.ingress.0 y.ingress.0 levels.1 levels.2
 
     node : here.0 ≡ there.0
     node =
@@ -154,10 +156,7 @@ one_leg_row s one x y here there this that = here.3 ∙ (rows ∙ sym there.3)
     third = tie x.lsp.lsp y.lsp.lsp (nat_lt x.node.0 y.node.0) (nat_lt y.node.0 x.node.0) second.1 second.2
 
     same_node : x.node.0 ≡ y.node.0
-    same_node =
-        let less = ltb-false x.node.0 y.node.0 third.1 in
-        let more = ltb-false y.node.0 x.node.0 third.2 in
-        omega arith
+    same_node = neither_less x.node.0 y.node.0 third.1 third.2
 
     node : here.0 ≡ there.0
     node =
