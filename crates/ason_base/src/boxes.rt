@@ -34,9 +34,7 @@ impl<T: Drop> Boxed<T> {
 }
 
 impl<T: Copied> Copied for Boxed<T> {
-    fn copy(&self, alloc: Global) -> Result<Boxed<T>, OutOfMemory>
-        ensures { IfOk result (λ b. b ≡ self.now) }
-    {
+    fn copy(&self, alloc: Global) -> Result<Boxed<T>, OutOfMemory> {
         let value = self.value.copy(alloc)?;
         Boxed::new(alloc, value)
     }

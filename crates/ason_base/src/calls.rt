@@ -1,8 +1,7 @@
 //! Calls and legs as tables show them.
 
-ghost use Rattle.std.specs.Prelude.{◌≡◌, IfOk};
-
 use crate::codes::ErrCode;
+use crate::copied;
 use crate::copies::Copied;
 use crate::ids::{CallNo, LinkId, Lsp, NodeId, OutOfMemory};
 use crate::items::Items;
@@ -113,11 +112,7 @@ pub struct TableRows {
 }
 
 impl Copied for TableRows {
-    fn copy(&self, alloc: Global) -> Result<TableRows, OutOfMemory>
-        ensures { IfOk result (λ r. r ≡ self.now) }
-    {
-        let calls = self.calls.copy(alloc)?;
-        let legs = self.legs.copy(alloc)?;
-        Ok(TableRows { calls, legs })
+    fn copy(&self, alloc: Global) -> Result<TableRows, OutOfMemory> {
+        copied!(self, alloc; TableRows { ; calls, legs })
     }
 }

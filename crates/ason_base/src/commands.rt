@@ -1,8 +1,7 @@
 //! What operators and fibres tell the controllers, and what is logged of it.
 
-ghost use Rattle.std.specs.Prelude.{◌≡◌, IfOk};
-
 use crate::boxes::Boxed;
+use crate::copied;
 use crate::copies::Copied;
 use crate::ids::{CallNo, Fibre, LinkId, NodeId, OutOfMemory};
 use crate::lists::Bytes;
@@ -59,9 +58,7 @@ pub enum Command {
 }
 
 impl Copied for Command {
-    fn copy(&self, alloc: Global) -> Result<Command, OutOfMemory>
-        ensures { IfOk result (λ r. r ≡ self.now) }
-    {
+    fn copy(&self, alloc: Global) -> Result<Command, OutOfMemory> {
         match self {
             Command::Setup {
                 call,
@@ -139,9 +136,7 @@ pub enum DeskItem {
 }
 
 impl Copied for DeskItem {
-    fn copy(&self, alloc: Global) -> Result<DeskItem, OutOfMemory>
-        ensures { IfOk result (λ r. r ≡ self.now) }
-    {
+    fn copy(&self, alloc: Global) -> Result<DeskItem, OutOfMemory> {
         match self {
             DeskItem::Order(command) => {
                 let command = command.copy(alloc)?;
@@ -181,9 +176,7 @@ pub enum Event {
 }
 
 impl Copied for Event {
-    fn copy(&self, alloc: Global) -> Result<Event, OutOfMemory>
-        ensures { IfOk result (λ r. r ≡ self.now) }
-    {
+    fn copy(&self, alloc: Global) -> Result<Event, OutOfMemory> {
         match self {
             Event::Deliver { to, from, number } => Ok(Event::Deliver {
                 to: *to,
@@ -237,15 +230,8 @@ pub struct Entry {
 }
 
 impl Copied for Entry {
-    fn copy(&self, alloc: Global) -> Result<Entry, OutOfMemory>
-        ensures { IfOk result (λ r. r ≡ self.now) }
-    {
-        let event = self.event.copy(alloc)?;
-        Ok(Entry {
-            stamp: self.stamp,
-            node: self.node,
-            event,
-        })
+    fn copy(&self, alloc: Global) -> Result<Entry, OutOfMemory> {
+        copied!(self, alloc; Entry { stamp, node; event })
     }
 }
 

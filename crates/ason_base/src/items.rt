@@ -73,9 +73,7 @@ impl<T: Copy + Drop> Items<T> {
 }
 
 impl<T: Copy + Drop> Copied for Items<T> {
-    fn copy(&self, alloc: Global) -> Result<Items<T>, OutOfMemory>
-        ensures { IfOk result (λ r. r ≡ self.now) }
-    {
+    fn copy(&self, alloc: Global) -> Result<Items<T>, OutOfMemory> {
         let items = Vec::from_slice(alloc, &self.items)?;
         Ok(Items { items })
     }

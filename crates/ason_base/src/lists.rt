@@ -79,9 +79,7 @@ impl Srlgs {
 }
 
 impl Copied for Srlgs {
-    fn copy(&self, alloc: Global) -> Result<Srlgs, OutOfMemory>
-        ensures { IfOk result (λ r. r ≡ self.now) }
-    {
+    fn copy(&self, alloc: Global) -> Result<Srlgs, OutOfMemory> {
         let numbers = Vec::from_slice(alloc, &self.numbers)?;
         Ok(Srlgs { numbers })
     }

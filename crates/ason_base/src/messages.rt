@@ -1,8 +1,9 @@
 //! Messages of RSVP-TE (RFC 2205, RFC 3473, RFC 4872) as nodes understand them, and the packets that carry them.
 
-ghost use Rattle.std.specs.Prelude.{◌≡◌, IfOk};
+ghost use Rattle.std.specs.Prelude.{◌≡◌};
 
 use crate::codes::ErrCode;
+use crate::copied;
 use crate::copies::Copied;
 use crate::ids::{LinkId, Lsp, NodeId, OutOfMemory};
 use crate::items::Items;
@@ -25,9 +26,7 @@ pub enum PathRole {
 }
 
 impl Copied for PathRole {
-    fn copy(&self, alloc: Global) -> Result<PathRole, OutOfMemory>
-        ensures { IfOk result (λ r. r ≡ self.now) }
-    {
+    fn copy(&self, alloc: Global) -> Result<PathRole, OutOfMemory> {
         match self {
             PathRole::Work { guard } => Ok(PathRole::Work { guard: *guard }),
             PathRole::Back {
@@ -103,9 +102,7 @@ pub enum Msg {
 }
 
 impl Copied for Msg {
-    fn copy(&self, alloc: Global) -> Result<Msg, OutOfMemory>
-        ensures { IfOk result (λ m. m ≡ self.now) }
-    {
+    fn copy(&self, alloc: Global) -> Result<Msg, OutOfMemory> {
         match self {
             Msg::Path {
                 lsp,
@@ -243,19 +240,8 @@ impl Packet {
 }
 
 impl Copied for Packet {
-    fn copy(&self, alloc: Global) -> Result<Packet, OutOfMemory>
-        ensures { IfOk result (λ p. p ≡ self.now) }
-    {
-        let acks = self.acks.copy(alloc)?;
-        let body = match &self.body {
-            None => None,
-            Some(msg) => Some(msg.copy(alloc)?),
-        };
-        Ok(Packet {
-            id: self.id,
-            acks,
-            body,
-        })
+    fn copy(&self, alloc: Global) -> Result<Packet, OutOfMemory> {
+        copied!(self, alloc; Packet { id; acks, body })
     }
 }
 

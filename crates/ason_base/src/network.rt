@@ -5,6 +5,7 @@ ghost use Rattle.std.specs.List.{list_any};
 ghost use Rattle.std.specs.Option.{option_copied};
 ghost use Rattle.ason_base.specs.Network.{AreLinks, AreNodes, FaultOf, IsTopology, are_ends, find_link, find_node, is_after, is_channel, is_distinct, is_link, is_link_at, is_node_at, is_node_id, joins, receiver_of, row_of, sender_of};
 
+use crate::copied;
 use crate::copies::{Copied, copy_all};
 use crate::ids::{Fibre, LinkId, NodeId, OutOfMemory};
 use crate::lists::{Numbers, Srlgs};
@@ -38,18 +39,8 @@ pub struct LinkSpec {
 }
 
 impl Copied for LinkSpec {
-    fn copy(&self, alloc: Global) -> Result<LinkSpec, OutOfMemory>
-        ensures { IfOk result (λ r. r ≡ self.now) }
-    {
-        let srlgs = self.srlgs.copy(alloc)?;
-        Ok(LinkSpec {
-            id: self.id,
-            low: self.low,
-            high: self.high,
-            labels: self.labels,
-            metric: self.metric,
-            srlgs,
-        })
+    fn copy(&self, alloc: Global) -> Result<LinkSpec, OutOfMemory> {
+        copied!(self, alloc; LinkSpec { id, low, high, labels, metric; srlgs })
     }
 }
 
@@ -104,17 +95,8 @@ pub fn rows_of(alloc: Global, links: &[LinkSpec]) -> Result<Vec<TeRow>, OutOfMem
 }
 
 impl Copied for TeRow {
-    fn copy(&self, alloc: Global) -> Result<TeRow, OutOfMemory>
-        ensures { IfOk result (λ r. r ≡ self.now) }
-    {
-        let srlgs = self.srlgs.copy(alloc)?;
-        Ok(TeRow {
-            link: self.link,
-            low: self.low,
-            high: self.high,
-            metric: self.metric,
-            srlgs,
-        })
+    fn copy(&self, alloc: Global) -> Result<TeRow, OutOfMemory> {
+        copied!(self, alloc; TeRow { link, low, high, metric; srlgs })
     }
 }
 
@@ -269,9 +251,7 @@ impl Topology {
 }
 
 impl Copied for Topology {
-    fn copy(&self, alloc: Global) -> Result<Topology, OutOfMemory>
-        ensures { IfOk result (λ t. t ≡ self.now) }
-    {
+    fn copy(&self, alloc: Global) -> Result<Topology, OutOfMemory> {
         let nodes = Vec::from_slice(alloc, &self.nodes)?;
         let links = copy_all(alloc, &self.links)?;
         Ok(Topology {

@@ -1,9 +1,10 @@
 //! What a node keeps of LSPs and calls, and what it sends.
 
-ghost use Rattle.std.specs.Prelude.{◌≡◌, [], ◌∷◌, ◌++◌, All, IfOk, IsTrue, OnErr, OnOk};
+ghost use Rattle.std.specs.Prelude.{◌≡◌, [], ◌∷◌, ◌++◌, All, IsTrue, OnErr, OnOk};
 ghost use Rattle.ason_base.specs.Lsps.{has_fibre, is_other_fibre, without_fibre};
 
 use crate::calls::{CallState, Cause, Phase, Role};
+use crate::copied;
 use crate::copies::Copied;
 use crate::ids::{CallNo, Fibre, Lsp, NodeId, OutOfMemory};
 use crate::items::Items;
@@ -76,9 +77,7 @@ impl Fibres {
 }
 
 impl Copied for Fibres {
-    fn copy(&self, alloc: Global) -> Result<Fibres, OutOfMemory>
-        ensures { IfOk result (λ r. r ≡ self.now) }
-    {
+    fn copy(&self, alloc: Global) -> Result<Fibres, OutOfMemory> {
         let fibres = Vec::from_slice(alloc, &self.fibres)?;
         Ok(Fibres { fibres })
     }
@@ -119,9 +118,7 @@ pub struct Leg {
 }
 
 impl Copied for Leg {
-    fn copy(&self, alloc: Global) -> Result<Leg, OutOfMemory>
-        ensures { IfOk result (λ r. r ≡ self.now) }
-    {
+    fn copy(&self, alloc: Global) -> Result<Leg, OutOfMemory> {
         let route = self.route.copy(alloc)?;
         let path_role = self.path_role.copy(alloc)?;
         let risks = self.risks.copy(alloc)?;
@@ -191,24 +188,10 @@ pub struct CallRec {
 }
 
 impl Copied for CallRec {
-    fn copy(&self, alloc: Global) -> Result<CallRec, OutOfMemory>
-        ensures { IfOk result (λ r. r ≡ self.now) }
-    {
-        let backup = self.backup.copy(alloc)?;
-        let work_reports = self.work_reports.copy(alloc)?;
-        let back_reports = self.back_reports.copy(alloc)?;
-        Ok(CallRec {
-            call: self.call,
-            egress: self.egress,
-            protected: self.protected,
-            backup,
-            state: self.state,
-            work: self.work,
-            back: self.back,
-            work_reports,
-            back_reports,
-            cause: self.cause,
-            ticks: self.ticks,
+    fn copy(&self, alloc: Global) -> Result<CallRec, OutOfMemory> {
+        copied!(self, alloc; CallRec {
+            call, egress, protected, state, work, back, cause, ticks;
+            backup, work_reports, back_reports
         })
     }
 }
@@ -248,11 +231,8 @@ impl Out {
 }
 
 impl Copied for Out {
-    fn copy(&self, alloc: Global) -> Result<Out, OutOfMemory>
-        ensures { IfOk result (λ r. r ≡ self.now) }
-    {
-        let msg = self.msg.copy(alloc)?;
-        Ok(Out { to: self.to, msg })
+    fn copy(&self, alloc: Global) -> Result<Out, OutOfMemory> {
+        copied!(self, alloc; Out { to; msg })
     }
 }
 

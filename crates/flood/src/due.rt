@@ -3,7 +3,7 @@
 ghost use Rattle.std.specs.Prelude.{◌≡◌, ◌<◌, ◌==◌, ◌++◌, AllPairs, not, filter, IfOk, OnOk, map};
 ghost use Rattle.flood.specs.State.{age_after_tick, goes_at, older};
 
-use ason_base::{Copied, NodeId, OutOfMemory, TeRow};
+use ason_base::{Copied, NodeId, OutOfMemory, TeRow, copied};
 use hop_reliable::ages::{is_due, older_age};
 use std::alloc::Global;
 use std::collections::VecDeque;
@@ -18,16 +18,8 @@ pub struct Due {
 }
 
 impl Copied for Due {
-    fn copy(&self, alloc: Global) -> Result<Due, OutOfMemory>
-        ensures { IfOk result (λ d. d ≡ self.now) }
-    {
-        let row = self.row.copy(alloc)?;
-        Ok(Due {
-            number: self.number,
-            age: self.age,
-            origin: self.origin,
-            row,
-        })
+    fn copy(&self, alloc: Global) -> Result<Due, OutOfMemory> {
+        copied!(self, alloc; Due { number, age, origin; row })
     }
 }
 

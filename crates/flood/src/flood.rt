@@ -10,7 +10,7 @@ use crate::neighbours::{
     sent_at_tick, take_ack, unqueue_first,
 };
 use crate::sends::{FloodOut, FloodSends};
-use ason_base::{Copied, LinkId, NodeId, OutOfMemory, TeRow, copy_all};
+use ason_base::{Copied, LinkId, NodeId, OutOfMemory, TeRow, copied};
 use std::alloc::Global;
 use std::marker::Model;
 
@@ -251,16 +251,8 @@ impl Flood {
 }
 
 impl Copied for Flood {
-    fn copy(&self, alloc: Global) -> Result<Flood, OutOfMemory>
-        ensures { IfOk result (λ f. f ≡ self.now) }
-    {
-        let known = self.known.copy(alloc)?;
-        let neighbours = copy_all(alloc, &self.neighbours)?;
-        Ok(Flood {
-            me: self.me,
-            known,
-            neighbours,
-        })
+    fn copy(&self, alloc: Global) -> Result<Flood, OutOfMemory> {
+        copied!(self, alloc; Flood { me; known; neighbours })
     }
 }
 

@@ -1,6 +1,6 @@
 //! The rows that a node knows, their links and their different ends.
 
-ghost use Rattle.std.specs.Prelude.{◌≡◌, ◌^◌, ◌==◌, ◌≤◌, ◌<◌, ◌+◌, ◌∷◌, ◌++◌, ◌||◌, ℕ, [], IfOk, OnErr, OnOk, length, vec_capacity, vec_len};
+ghost use Rattle.std.specs.Prelude.{◌≡◌, ◌^◌, ◌==◌, ◌≤◌, ◌<◌, ◌+◌, ◌∷◌, ◌++◌, ◌||◌, ℕ, [], OnErr, OnOk, length, vec_capacity, vec_len};
 ghost use Rattle.std.specs.List.{list_any};
 ghost use Rattle.std.specs.List.Sorted.{IsNonDecreasing};
 ghost use Rattle.flood.specs.State.{has_room, is_known, with_end, with_ends};
@@ -79,9 +79,7 @@ impl KnownRows {
 }
 
 impl Copied for KnownRows {
-    fn copy(&self, alloc: Global) -> Result<KnownRows, OutOfMemory>
-        ensures { IfOk result (λ k. k ≡ self.now) }
-    {
+    fn copy(&self, alloc: Global) -> Result<KnownRows, OutOfMemory> {
         let rows = copy_all(alloc, &self.rows)?;
         let links = Vec::from_slice(alloc, &self.links)?;
         let ends = Vec::from_slice(alloc, &self.ends)?;

@@ -163,9 +163,7 @@ impl FloodNeighbour {
 }
 
 impl Copied for FloodNeighbour {
-    fn copy(&self, alloc: Global) -> Result<FloodNeighbour, OutOfMemory>
-        ensures { IfOk result (λ n. n ≡ self.now) }
-    {
+    fn copy(&self, alloc: Global) -> Result<FloodNeighbour, OutOfMemory> {
         let due = copies(alloc, &self.due)?;
         Ok(FloodNeighbour {
             id: self.id,

@@ -214,9 +214,7 @@ impl Hop {
 }
 
 impl Copied for Hop {
-    fn copy(&self, alloc: Global) -> Result<Hop, OutOfMemory>
-        ensures { IfOk result (λ h. h ≡ self.now) }
-    {
+    fn copy(&self, alloc: Global) -> Result<Hop, OutOfMemory> {
         let mut unacked = copy_all(alloc, &self.unacked)?;
         let prepared = copy_all(alloc, &self.prepared)?;
         unacked.reserve(prepared.len())?;

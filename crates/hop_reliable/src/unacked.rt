@@ -6,7 +6,7 @@ ghost use Rattle.hop_reliable.specs.Hop.{again, is_ack_of, numbered, older, stil
 
 use crate::ages::{is_due, older_age};
 use crate::heard::EPOCH;
-use ason_base::{Copied, Ids, Msg, MsgId, OutOfMemory, Packet};
+use ason_base::{Copied, Ids, Msg, MsgId, OutOfMemory, Packet, copied};
 use std::alloc::Global;
 
 /// A message that was sent and not acknowledged. `age` counts ticks since its first sending, where 68 counts as 8.
@@ -17,15 +17,8 @@ pub struct Unacked {
 }
 
 impl Copied for Unacked {
-    fn copy(&self, alloc: Global) -> Result<Unacked, OutOfMemory>
-        ensures { IfOk result (λ w. w ≡ self.now) }
-    {
-        let msg = self.msg.copy(alloc)?;
-        Ok(Unacked {
-            number: self.number,
-            age: self.age,
-            msg,
-        })
+    fn copy(&self, alloc: Global) -> Result<Unacked, OutOfMemory> {
+        copied!(self, alloc; Unacked { number, age; msg })
     }
 }
 

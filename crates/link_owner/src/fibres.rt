@@ -143,9 +143,7 @@ impl FibreOwner {
 }
 
 impl Copied for FibreOwner {
-    fn copy(&self, alloc: Global) -> Result<FibreOwner, OutOfMemory>
-        ensures { IfOk result (λ r. r ≡ self.now) }
-    {
+    fn copy(&self, alloc: Global) -> Result<FibreOwner, OutOfMemory> {
         let claims = Vec::from_slice(alloc, &self.claims)?;
         Ok(FibreOwner {
             fibre: self.fibre,

@@ -83,9 +83,7 @@ impl MarkedFibre {
 }
 
 impl Copied for MarkedFibre {
-    fn copy(&self, alloc: Global) -> Result<MarkedFibre, OutOfMemory>
-        ensures { IfOk result (λ m. m ≡ self.now) }
-    {
+    fn copy(&self, alloc: Global) -> Result<MarkedFibre, OutOfMemory> {
         let marks = Vec::from_slice(alloc, &self.marks)?;
         Ok(MarkedFibre {
             fibre: self.fibre,

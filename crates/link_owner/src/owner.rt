@@ -12,7 +12,7 @@ use crate::fibres::FibreOwner;
 use crate::marks::{Busy, MarkedFibre, marks_place};
 use ason_base::routes::touches;
 use ason_base::{
-    Copied, Fibre, Label, LabelSet, LinkSpec, Lsp, NodeId, OutOfMemory, Topology, copy_all,
+    Copied, Fibre, Label, LabelSet, LinkSpec, Lsp, NodeId, OutOfMemory, Topology, copied,
 };
 use std::alloc::Global;
 use std::marker::Model;
@@ -173,12 +173,8 @@ impl Owner {
 }
 
 impl Copied for Owner {
-    fn copy(&self, alloc: Global) -> Result<Owner, OutOfMemory>
-        ensures { IfOk result (λ o. o ≡ self.now) }
-    {
-        let fibres = copy_all(alloc, &self.fibres)?;
-        let lit = copy_all(alloc, &self.lit)?;
-        Ok(Owner { fibres, lit })
+    fn copy(&self, alloc: Global) -> Result<Owner, OutOfMemory> {
+        copied!(self, alloc; Owner { ;; fibres, lit })
     }
 }
 

@@ -1,8 +1,6 @@
 //! What a station publishes of its node.
 
-ghost use Rattle.std.specs.Prelude.{◌≡◌, IfOk};
-
-use ason_base::{Copied, LegRows, OutOfMemory};
+use ason_base::{Copied, LegRows, OutOfMemory, copied};
 use std::alloc::Global;
 
 /// The legs of a node as the table shows them, after the first so many entries of its log.
@@ -12,14 +10,8 @@ pub struct NodeTable {
 }
 
 impl Copied for NodeTable {
-    fn copy(&self, alloc: Global) -> Result<NodeTable, OutOfMemory>
-        ensures { IfOk result (λ t. t ≡ self.now) }
-    {
-        let legs = self.legs.copy(alloc)?;
-        Ok(NodeTable {
-            entries: self.entries,
-            legs,
-        })
+    fn copy(&self, alloc: Global) -> Result<NodeTable, OutOfMemory> {
+        copied!(self, alloc; NodeTable { entries; legs })
     }
 }
 

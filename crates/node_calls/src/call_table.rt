@@ -1,6 +1,6 @@
 //! The calls of an ingress, in order of number, and the tunnel and LSP numbers that come next.
 
-ghost use Rattle.std.specs.Prelude.{◌≡◌, ◌≤◌, [], IfOk, IsSome, None, OnErr, OnOk, length, slice_get};
+ghost use Rattle.std.specs.Prelude.{◌≡◌, ◌≤◌, [], IsSome, None, OnErr, OnOk, length, slice_get};
 ghost use Rattle.std.specs.Option.{option_copied};
 ghost use Rattle.mesh_rules.specs.Calls.{call_with, find_call, with_call, without_call};
 ghost use Rattle.mesh_rules.specs.Changes.{lsp_after, tunnel_after};
@@ -183,9 +183,7 @@ impl Calls {
 }
 
 impl Copied for Calls {
-    fn copy(&self, alloc: Global) -> Result<Calls, OutOfMemory>
-        ensures { IfOk result (λ t. t ≡ self.now) }
-    {
+    fn copy(&self, alloc: Global) -> Result<Calls, OutOfMemory> {
         let list = self.list.copy(alloc)?;
         Ok(Calls {
             alloc,

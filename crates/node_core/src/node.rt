@@ -15,7 +15,7 @@ ghost use Rattle.node_rules.specs.Nodes.{IsAnswerOf, IsNode, IsWritableInput, Ma
 
 use crate::rows::{call_rows, leg_rows};
 use crate::rules::{NodeParts, on_input};
-use ason_base::{Copied, LinkId, NodeId, OutOfMemory, Outs, TableRows, Topology};
+use ason_base::{Copied, LinkId, NodeId, OutOfMemory, Outs, TableRows, Topology, copied};
 use leg_carrying::carry_out;
 use leg_table::{Calls, Change, NodeTables};
 use link_owner::Owner;
@@ -165,19 +165,8 @@ impl Node {
 }
 
 impl Copied for Node {
-    fn copy(&self, alloc: Global) -> Result<Node, OutOfMemory>
-        ensures { IfOk result (λ n. n ≡ self.now) }
-    {
-        let shares = self.shares.copy(alloc)?;
-        let calls = self.calls.copy(alloc)?;
-        let owner = self.owner.copy(alloc)?;
-        let tables = self.tables.copy(alloc)?;
-        Ok(Node {
-            tables,
-            owner,
-            shares,
-            calls,
-        })
+    fn copy(&self, alloc: Global) -> Result<Node, OutOfMemory> {
+        copied!(self, alloc; Node { ; shares, calls, owner, tables })
     }
 }
 

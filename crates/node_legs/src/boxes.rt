@@ -67,9 +67,7 @@ impl BoxedLeg {
 }
 
 impl Copied for BoxedLeg {
-    fn copy(&self, alloc: Global) -> Result<BoxedLeg, OutOfMemory>
-        ensures { IfOk result (λ b. b ≡ self.now) }
-    {
+    fn copy(&self, alloc: Global) -> Result<BoxedLeg, OutOfMemory> {
         let leg = self.leg.copy(alloc)?;
         BoxedLeg::new(alloc, leg)
     }

@@ -16,7 +16,7 @@ use ason_base::network::rows_of;
 use ason_base::routes::touches;
 use ason_base::{
     Copied, Fibre, Fibres, Label, Leg, LinkId, LinkSpec, Lsp, NodeId, NodeSpec, OutOfMemory, Phase,
-    TeRow, Topology, copy_all,
+    TeRow, Topology, copied,
 };
 use std::alloc::Global;
 use std::marker::Model;
@@ -255,21 +255,8 @@ impl NodeTables {
 }
 
 impl Copied for NodeTables {
-    fn copy(&self, alloc: Global) -> Result<NodeTables, OutOfMemory>
-        ensures { IfOk result (λ s. s ≡ self.now) }
-    {
-        let own = copy_all(alloc, &self.own)?;
-        let rows = copy_all(alloc, &self.rows)?;
-        let down = self.down.copy(alloc)?;
-        let legs = copy_all(alloc, &self.legs)?;
-        Ok(NodeTables {
-            node: self.node,
-            wait: self.wait,
-            own,
-            rows,
-            down,
-            legs,
-        })
+    fn copy(&self, alloc: Global) -> Result<NodeTables, OutOfMemory> {
+        copied!(self, alloc; NodeTables { node, wait; down; own, rows, legs })
     }
 }
 

@@ -1,6 +1,6 @@
 //! The guards of one label of a fibre.
 
-ghost use Rattle.std.specs.Prelude.{◌≡◌, ◌&&◌, ◌||◌, [], IfNone, IfOk, IfSome, OnErr, OnOk};
+ghost use Rattle.std.specs.Prelude.{◌≡◌, ◌&&◌, ◌||◌, [], IfNone, IfSome, OnErr, OnOk};
 ghost use Rattle.ason_base.specs.Lsps.{same_fibre, same_lsp};
 ghost use Rattle.ason_base.specs.Risks.{has_risk};
 ghost use Rattle.ason_base.specs.declared.ids.Lsp.{Lsp};
@@ -99,9 +99,7 @@ impl LabelGuards {
 }
 
 impl Copied for LabelGuards {
-    fn copy(&self, alloc: Global) -> Result<LabelGuards, OutOfMemory>
-        ensures { IfOk result (λ t. t ≡ self.now) }
-    {
+    fn copy(&self, alloc: Global) -> Result<LabelGuards, OutOfMemory> {
         let guarded = Vec::from_slice(alloc, &self.guarded)?;
         Ok(LabelGuards {
             fibre: self.fibre,

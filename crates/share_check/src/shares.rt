@@ -6,7 +6,7 @@ ghost use Rattle.share_check.specs.Guards.{AreApart, GuardsJust, GuardsNone, IsF
 
 use crate::guarded::Meets;
 use crate::labels::LabelGuards;
-use ason_base::{Copied, Fibre, Label, LabelSet, Lsp, OutOfMemory, RiskSet, copy_all};
+use ason_base::{Copied, Fibre, Label, LabelSet, Lsp, OutOfMemory, RiskSet, copied};
 use std::alloc::Global;
 use std::marker::Model;
 
@@ -91,11 +91,8 @@ impl Shares {
 }
 
 impl Copied for Shares {
-    fn copy(&self, alloc: Global) -> Result<Shares, OutOfMemory>
-        ensures { IfOk result (λ s. s ≡ self.now) }
-    {
-        let labels = copy_all(alloc, &self.labels)?;
-        Ok(Shares { labels })
+    fn copy(&self, alloc: Global) -> Result<Shares, OutOfMemory> {
+        copied!(self, alloc; Shares { ;; labels })
     }
 }
 

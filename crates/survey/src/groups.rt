@@ -7,7 +7,9 @@ ghost use Rattle.mesh_laws.specs.Survey.{groups_of};
 ghost use Rattle.survey.specs.Groups.{both_kinds, is_hit, is_over, links_of, with_links};
 
 use crate::views::CallView;
-use ason_base::{Copied, Group, Items, LegRow, LinkId, LinkSpec, OutOfMemory, Srlgs, Topology};
+use ason_base::{
+    Copied, Group, Items, LegRow, LinkId, LinkSpec, OutOfMemory, Srlgs, Topology, copied,
+};
 use mesh_rules::failures::is_cut;
 use std::alloc::Global;
 
@@ -18,14 +20,8 @@ pub(crate) struct GroupLinks {
 }
 
 impl Copied for GroupLinks {
-    fn copy(&self, alloc: Global) -> Result<GroupLinks, OutOfMemory>
-        ensures { IfOk result (λ r. r ≡ self.now) }
-    {
-        let links = self.links.copy(alloc)?;
-        Ok(GroupLinks {
-            group: self.group,
-            links,
-        })
+    fn copy(&self, alloc: Global) -> Result<GroupLinks, OutOfMemory> {
+        copied!(self, alloc; GroupLinks { group; links })
     }
 }
 

@@ -21,9 +21,7 @@ pub(crate) struct Slot {
 }
 
 impl Copied for Slot {
-    fn copy(&self, alloc: Global) -> Result<Slot, OutOfMemory>
-        ensures { IfOk result (λ r. r ≡ self.now) }
-    {
+    fn copy(&self, alloc: Global) -> Result<Slot, OutOfMemory> {
         let takers = copy_all(alloc, self.takers.items())?;
         Ok(Slot {
             fibre: self.fibre,

@@ -12,7 +12,7 @@ ghost use Rattle.survey.specs.Views.{takes, view_of};
 use crate::index::{LegIndex, index_of, rows_of_lsp};
 use ason_base::{
     CallRow, Copied, Items, Label, LegRow, LegRows, LinkId, NodeId, OutOfMemory, Phase, Role,
-    TableRows,
+    TableRows, copied,
 };
 use std::alloc::Global;
 
@@ -24,16 +24,8 @@ pub(crate) struct CallView {
 }
 
 impl Copied for CallView {
-    fn copy(&self, alloc: Global) -> Result<CallView, OutOfMemory>
-        ensures { IfOk result (λ r. r ≡ self.now) }
-    {
-        let live = self.live.copy(alloc)?;
-        let backup = self.backup.copy(alloc)?;
-        Ok(CallView {
-            call: self.call,
-            live,
-            backup,
-        })
+    fn copy(&self, alloc: Global) -> Result<CallView, OutOfMemory> {
+        copied!(self, alloc; CallView { call; live, backup })
     }
 }
 
