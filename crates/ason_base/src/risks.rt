@@ -47,16 +47,6 @@ pub enum RiskFault {
     OutOfMemory,
 }
 
-impl From<OutOfMemory> for RiskFault {
-    ghost use Rattle.ason_base.specs.declared.risks.RiskFault.{RiskFault};
-
-    ghost from_gives = { λ _ fault. fault ≡ RiskFault.OutOfMemory };
-
-    fn from(_: OutOfMemory) -> RiskFault {
-        RiskFault::OutOfMemory
-    }
-}
-
 impl RiskSet {
     /// No risk.
     pub fn new(alloc: Global) -> RiskSet
@@ -97,9 +87,10 @@ impl RiskSet {
         if let Some(link) = first_unknown(rows, route) {
             return Err(RiskFault::Unknown(link));
         }
-        let mut risks = gather(alloc, rows, route)?;
-        order(&mut risks)?;
-        Ok(RiskSet { risks })
+        match rising_risks(alloc, rows, route) {
+            Ok(risks) => Ok(RiskSet { risks }),
+            Err(OutOfMemory) => Err(RiskFault::OutOfMemory),
+        }
     }
 
     /// Whether no risk is in both sets.
@@ -112,9 +103,7 @@ impl RiskSet {
 }
 
 impl Copied for RiskSet {
-    fn copy(&self, alloc: Global) -> Result<RiskSet, OutOfMemory>
-        ensures { IfOk result (λ r. r ≡ self.now) }
-    {
+    fn copy(&self, alloc: Global) -> Result<RiskSet, OutOfMemory> {
         let risks = Vec::from_slice(alloc, &self.risks)?;
         Ok(RiskSet { risks })
     }
@@ -172,6 +161,16 @@ fn push_risks(risks: &mut Vec<Risk>, row: &TeRow) -> Result<(), OutOfMemory>
     }
     risks.push(Risk::Link(row.link))?;
     Ok(())
+}
+
+// The risks of the route's links, rising.
+fn rising_risks(alloc: Global, rows: &[TeRow], route: &Steps) -> Result<Vec<Risk>, OutOfMemory>
+    ensures same { IfOk result (λ v. (r : Risk) → Contains v.items r ↔ HasRisk rows.now route.now r) }
+    ensures rising { IfOk result (λ v. AreRising v.items) }
+{
+    let mut risks = gather(alloc, rows, route)?;
+    order(&mut risks)?;
+    Ok(risks)
 }
 
 // Puts the risks in order, each once.

@@ -110,7 +110,9 @@ pub(crate) fn enter<G: Gate>(
     ensures fit { PartsFit parts.new }
 {
     let me = parts.me;
-    let frames = react(&mut parts.controller, &mut parts.log, me, gate, input)?;
+    let Ok(frames) = react(&mut parts.controller, &mut parts.log, me, gate, input) else {
+        return Err(Halt::OutOfMemory);
+    };
     send_frames(&mut parts.links, frames, stamp);
     parts.clock = stamp;
     let node = Some(me);

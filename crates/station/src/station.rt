@@ -273,8 +273,12 @@ impl Station {
         if self.publisher.is_some() {
             return Err(WatchFault::Watched);
         }
-        let first = table_of(self.alloc, &self.parts)?;
-        let (publisher, viewer) = pair(rt, self.alloc, first)?;
+        let Ok(first) = table_of(self.alloc, &self.parts) else {
+            return Err(WatchFault::OutOfMemory);
+        };
+        let Ok((publisher, viewer)) = pair(rt, self.alloc, first) else {
+            return Err(WatchFault::OutOfMemory);
+        };
         match self.publisher.replace(publisher) {
             None => Ok(viewer),
             Some(_) => unreachable!(),

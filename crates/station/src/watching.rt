@@ -3,7 +3,6 @@
 ghost use Rattle.std.specs.Prelude.{◌≡◌, IfOk};
 ghost use Rattle.station.specs.Fits.{PartsFit, state_of};
 ghost use Rattle.station.specs.Watched.{table_of};
-ghost use Rattle.station.specs.declared.watching.WatchFault.{WatchFault};
 
 use crate::parts::Parts;
 use ason_base::OutOfMemory;
@@ -16,14 +15,6 @@ pub enum WatchFault {
     /// It has a viewer.
     Watched,
     OutOfMemory,
-}
-
-impl From<OutOfMemory> for WatchFault {
-    ghost from_gives = { λ _ error. error ≡ WatchFault.OutOfMemory };
-
-    fn from(_: OutOfMemory) -> WatchFault {
-        WatchFault::OutOfMemory
-    }
 }
 
 /// The legs of the node, after the whole of its log.

@@ -8,7 +8,7 @@ ghost use Rattle.world_rules.specs.Worlds.{start};
 
 use crate::faults::Fault;
 use crate::world::World;
-use ason_base::{Event, OutOfMemory, Topology};
+use ason_base::{Event, Topology};
 use std::alloc::Global;
 
 /// Why events weren't replayed.
@@ -19,14 +19,6 @@ pub enum ReplayError {
     OutOfMemory,
 }
 
-impl From<OutOfMemory> for ReplayError {
-    ghost from_gives = { λ _ error. error ≡ ReplayError.OutOfMemory };
-
-    fn from(_: OutOfMemory) -> ReplayError {
-        ReplayError::OutOfMemory
-    }
-}
-
 /// The world to which these events lead, one after the other from the start, if they are a run.
 pub fn replay(alloc: Global, t: &Topology, events: &[Event]) -> Result<World, ReplayError>
     ensures run { IfOk result (λ w. IsRun t.now (start t.now) events.now) }
@@ -34,7 +26,9 @@ pub fn replay(alloc: Global, t: &Topology, events: &[Event]) -> Result<World, Re
     ensures not_run { IfErr result
         (λ e. (i : ℕ) → e ≡ ReplayError.NotRun i → IsFirstDisabled t.now events.now i) }
 {
-    let mut world = World::new(alloc, t)?;
+    let Ok(mut world) = World::new(alloc, t) else {
+        return Err(ReplayError::OutOfMemory);
+    };
     for (place, event) in events.iter().enumerate() {
         match world.step(alloc, t, event) {
             Ok(()) => {}

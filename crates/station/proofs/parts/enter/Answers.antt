@@ -1,7 +1,5 @@
-use Rattle.std.proofs.Common.{◌∷◌, [], ◌++◌, length, refl, sym, ap, ◌∙◌, subst, arith}
-use Rattle.std.specs.Prelude.{Err, Some}
-use Rattle.std.proofs.lemmas.Result.{err_from_is_err_and}
-use Rattle.station.specs.Entering.{Enters}
+use Rattle.std.proofs.Common.{◌∷◌, [], ◌++◌, length, refl, ◌∙◌, arith}
+use Rattle.std.specs.Prelude.{Some}
 use Rattle.station.specs.Fits.{state_of}
 use Rattle.station.proofs.Fitting.{few-steps, frames-bear, may-send, parts-entered}
 use Rattle.station.proofs.parts.enter.Goals as goal
@@ -11,32 +9,28 @@ react-requires-clause-few g c =
     λ κs le.
     few-steps (state_of c.args.parts.now) c.args.stamp c.requires.able c.requires.fit.station
 
-pub returns-in_err-frames-clause-enters : goal.returns-in_err-frames-clause-enters
-returns-in_err-frames-clause-enters g c =
-    let s = state_of c.args.parts.now in
-    let m = record s { controller = c.react.new.controller; log = c.react.new.log.items } in
-    let p = err_from_is_err_and c.from_residual.result c.from_residual.ensures.1 in
-    subst (λ r. Enters r c.args.input.now c.args.event c.args.stamp s m) (sym (p.1 ∙ ap Err p.2))
-    (λ i. record s { controller = c.in_err-frames.ensures.err i; log = c.react.ensures.log i })
+pub returns-in_default-clause-enters : goal.returns-in_default-clause-enters
+returns-in_default-clause-enters g c =
+    λ i. record (state_of c.args.parts.now) { controller = c.in_default.ensures.err i; log = c.react.ensures.log i }
 
 pub send_frames-requires-clause-may : goal.send_frames-requires-clause-may
 send_frames-requires-clause-may g c =
     let parts = c.args.parts.now in
     may-send parts.controller.node.place parts.controller.steps parts.clock c.args.stamp
-    (length c.in_ok-frames.frames) parts.links.items
-    (few-steps (state_of parts) c.args.stamp c.requires.able c.requires.fit.station) c.in_ok-frames.ensures.few
+    (length c.in-Ok.frames) parts.links.items
+    (few-steps (state_of parts) c.args.stamp c.requires.able c.requires.fit.station) c.in-Ok.ensures.few
     (omega (arith, c.requires.above)) c.requires.fit.station.links
 
 pub send_frames-requires-clause-bears : goal.send_frames-requires-clause-bears
 send_frames-requires-clause-bears g c =
-    frames-bear c.args.parts.now.controller c.react.new.controller c.args.input.now c.in_ok-frames.frames
-    c.requires.read c.in_ok-frames.ensures.step
+    frames-bear c.args.parts.now.controller c.react.new.controller c.args.input.now c.in-Ok.frames
+    c.requires.read c.in-Ok.ensures.step
 
 pub returns-clause-enters : goal.returns-clause-enters
 returns-clause-enters g c = (
   record {
-    frames = c.in_ok-frames.frames;
-    step = c.in_ok-frames.ensures.step;
+    frames = c.in-Ok.frames;
+    step = c.in-Ok.ensures.step;
     few =
         few-steps (state_of c.args.parts.now) c.args.stamp c.requires.able c.requires.fit.station;
     above = c.requires.above;
@@ -51,11 +45,11 @@ returns-clause-enters g c = (
     held = refl;
     lines = refl;
   },
-  c.in_ok-frames.ensures.one,
+  c.in-Ok.ensures.one,
 )
 
 pub returns-clause-fit : goal.returns-clause-fit
 unfolding returns-clause-enters
 returns-clause-fit g c =
     parts-entered c.args.input.now c.args.event c.args.stamp c.args.parts.now _ (returns-clause-enters g c).0
-    c.in_ok-frames.ensures.few c.react.ensures.place refl c.requires.fit
+    c.in-Ok.ensures.few c.react.ensures.place refl c.requires.fit

@@ -13,4 +13,4 @@ pub loop-place-preserved : goal.loop-place-preserved
 loop-place-preserved c =
     run-next c.args.t.now c.args.events.now c.loop-place.place c.index-events-place.result c.loop-place.world
     c.step.new.self
-    c.loop-place-test.true c.index-events-place.is c.loop-place.invariant c.in-Ok.ensures.done
+    c.loop-place-test.true c.index-events-place.is c.loop-place.invariant c.in-Ok-step.ensures.done
