@@ -1,10 +1,10 @@
 //! Names of nodes and calls.
 
-ghost use Rattle.std.specs.Prelude.{◌≡◌, ◌<◌, [], ◌∷◌, ◌++◌, length, IfOk, IfSome, IsTrue, OnErr, OnOk};
+ghost use Rattle.std.specs.Prelude.{◌≡◌, ◌<◌, length, IfOk, IfSome, IsTrue};
 ghost use Rattle.plan_reader.specs.Names.{are_name_bytes, has_name, is_name, is_name_byte, is_name_rest, place_of, same_text};
 
 use crate::limits::MOST_MORE_CHARACTERS;
-use ason_base::OutOfMemory;
+use ason_base::{Items, OutOfMemory};
 use std::alloc::Global;
 use std::marker::Model;
 
@@ -83,68 +83,19 @@ impl Drop for Name {
 }
 
 /// A list of names.
-pub struct Names {
-    names: Vec<Name>,
+pub type Names = Items<Name>;
+
+/// The place of a name, from 0: none exactly where it isn't there.
+pub(crate) fn place_of(names: &Names, name: &[u8]) -> Option<usize>
+    ensures place { result ≡ place_of names.now name.now }
+    ensures within { IfSome result (λ k. k < length names.now) }
+{
+    names.items().iter().position(|n| n.is(name))
 }
 
-impl Model for Names {
-    ghost use Rattle.std.specs.Prelude.{List, ℕ};
-
-    ghost Value = { List (List ℕ) };
-
-    ghost view = { λ s. s.names.items };
-}
-
-impl Names {
-    /// No name.
-    pub fn new(alloc: Global) -> Names
-        ensures { result ≡ [] }
-    {
-        Names {
-            names: Vec::new(alloc),
-        }
-    }
-
-    /// Adds a name at the end.
-    pub fn push(&mut self, item: Name) -> Result<(), OutOfMemory>
-        ensures ok { OnOk result (self.new ≡ self.old ++ item ∷ []) }
-        ensures err { OnErr result (self.new ≡ self.old) }
-    {
-        self.names.push(item)?;
-        Ok(())
-    }
-
-    /// These names.
-    pub fn from_vec(names: Vec<Name>) -> Names
-        ensures { result ≡ names.items }
-    {
-        Names { names }
-    }
-
-    pub fn items(&self) -> &[Name]
-        ensures { result.now ≡ self.now }
-    {
-        &self.names
-    }
-
-    /// The place of a name, from 0: none exactly where it isn't there.
-    pub fn place(&self, name: &[u8]) -> Option<usize>
-        ensures place { result ≡ place_of self.now name.now }
-        ensures within { IfSome result (λ k. k < length self.now) }
-    {
-        self.names.iter().position(|n| n.is(name))
-    }
-
-    /// Whether a name is there.
-    pub fn has(&self, name: &[u8]) -> bool
-        ensures { result ≡ has_name self.now name.now }
-    {
-        self.names.iter().any(|n| n.is(name))
-    }
-}
-
-impl Drop for Names {
-    fn drop(self) {
-        let Names { names: _ } = self;
-    }
+/// Whether a name is there.
+pub(crate) fn has_name(names: &Names, name: &[u8]) -> bool
+    ensures { result ≡ has_name names.now name.now }
+{
+    names.items().iter().any(|n| n.is(name))
 }

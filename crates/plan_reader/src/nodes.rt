@@ -11,7 +11,7 @@ ghost use Rattle.plan_reader.specs.declared.faults.PlanFault.{PlanFault};
 
 use crate::faults::{EntryError, PlanEntry, PlanError, PlanKind, error_at};
 use crate::limits::MOST_NUMBER;
-use crate::names::{Name, Names, is_name};
+use crate::names::{Name, Names, has_name, is_name, place_of};
 use crate::values::{
     Shape, flag, has_strange, is_boolean_at, is_integer_at, is_text_at, lacks, number, text,
 };
@@ -99,7 +99,7 @@ impl Drop for Nodes {
 pub fn node_named(names: &Names, nodes: &[NodeSpec], name: &[u8]) -> Option<NodeId>
     ensures { result ≡ node_named names.now nodes.now name.now }
 {
-    match names.place(name) {
+    match place_of(names, name) {
         None => None,
         Some(place) => match nodes.get(place) {
             None => None,
@@ -163,7 +163,7 @@ fn read_node(alloc: Global, nodes: &mut Nodes, value: &Value) -> Result<(), Entr
     if nodes.last() >= id {
         return Err(EntryError::Fault(PlanKind::Order));
     }
-    if nodes.names.has(name) {
+    if has_name(&nodes.names, name) {
         return Err(EntryError::Fault(PlanKind::Twice));
     }
     let name = Name::new(alloc, name)?;
