@@ -12,7 +12,8 @@ ghost use Rattle.table_text.specs.BestText.{certificate_line, cost_of, metric_of
 ghost use Rattle.table_text.specs.RouteText.{plan_rows};
 
 use crate::ends::{ends_fault_text, ends_of};
-use crate::routes::{push_route, rows_of};
+use crate::routes::push_route;
+use ason_base::network::rows_of;
 use ason_base::{LinkId, NodeId, OutOfMemory, Step, TeRow};
 use pair_search::{Best, BestFault, Cert, best, verify};
 use plan_reader::Plan;

@@ -1,8 +1,8 @@
 //! The least route between two nodes of a plan, its backup, and each node's potential, as text.
 
-ghost use Rattle.std.specs.Prelude.{◌≡◌, ◌++◌, ◌∷◌, [], codes, IfOk, OnOk, map, string_bytes};
+ghost use Rattle.std.specs.Prelude.{◌≡◌, ◌++◌, ◌∷◌, [], codes, IfOk, OnOk, string_bytes};
 ghost use Rattle.std.specs.List.{flat_map};
-ghost use Rattle.ason_base.specs.Network.{IsTopology, row_of};
+ghost use Rattle.ason_base.specs.Network.{IsTopology};
 ghost use Rattle.table_text.specs.RouteText.{found_text, links_text, more_link, node_line, potential_in};
 ghost use Rattle.table_text.specs.RouteText.{potential_text, potentials_text, primary_line, route_line};
 ghost use Rattle.table_text.specs.RouteText.{route_text, routes_text};
@@ -10,7 +10,8 @@ ghost use Rattle.ason_base.specs.Texts.{Appends};
 
 use crate::ends::{ends_fault_text, ends_of};
 use crate::table::node_name;
-use ason_base::{LinkSpec, NodeId, NodeSpec, OutOfMemory, Step, TeRow};
+use ason_base::network::rows_of;
+use ason_base::{NodeId, NodeSpec, OutOfMemory, Step};
 use plan_reader::Plan;
 use route_least::{Found, RouteNetwork};
 use route_pair::{Pair, PairFault, pair_in};
@@ -50,18 +51,6 @@ fn between(alloc: Global, plan: &Plan, from: NodeId, to: NodeId) -> Result<Strin
         Err(PairFault::NoBackup(primary)) => primary_told(alloc, plan, &primary),
         Err(PairFault::OutOfMemory) => Err(OutOfMemory),
     }
-}
-
-/// The rows of these links.
-pub(crate) fn rows_of(alloc: Global, links: &[LinkSpec]) -> Result<Vec<TeRow>, OutOfMemory>
-    ensures { IfOk result (λ rows. rows.items ≡ map row_of links.now) }
-{
-    let mut rows = Vec::with_capacity(alloc, links.len())?;
-    for link in links {
-        let row = TeRow::of(alloc, link)?;
-        rows.push(row)?;
-    }
-    Ok(rows)
 }
 
 // Each has the potentials of the search for the primary route.
