@@ -10,10 +10,10 @@ use Rattle.mesh_examples.proofs.BothArmed as both_armed
 use Rattle.mesh_examples.proofs.Activating.{network}
 use Rattle.mesh_examples.proofs.Scene.{changed_at, leg, lsp, mail_on, node, ReachesRow, Seen, takes}
 
-abbrev events : List MeshEvent
+abbrev pub events : List MeshEvent
 events = both_armed.events ++ takes 2 5 ∷ []
 
-abbrev as_reached : Seen
+abbrev pub as_reached : Seen
 as_reached = record both_armed.as_reached {
   legs =
       changed_at 2 (leg 1 1 Live (Some 1) None 1 0 0 ∷ leg 1 2 Live (Some 1) None 1 0 0 ∷ [])

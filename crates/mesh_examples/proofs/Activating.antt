@@ -1,15 +1,16 @@
 -- A run after which a backup is activated: the Path that activates it is on its way to the second node.
-use Rattle.std.proofs.Common.{true, false, List, [], ◌∷◌, ◌++◌, refl}
+use Rattle.std.proofs.Common.{ℕ, true, false, List, [], ◌∷◌, ◌++◌, refl}
 use Rattle.std.specs.Prelude.{Some, None}
 use Rattle.ason_base.specs.Labels as labels
 use Rattle.ason_base.specs.Network.{Network}
 use Rattle.ason_base.specs.declared.calls.CallState.TheVariants.{Turning}
 use Rattle.ason_base.specs.declared.calls.Cause.TheVariants.{Unset}
-use Rattle.ason_base.specs.declared.calls.Phase.TheVariants.{Armed, Held, Live}
+use Rattle.ason_base.specs.declared.calls.Phase.{Phase}
+use Rattle.ason_base.specs.declared.calls.Phase.TheVariants.{Armed, Closing, Held, Live}
 use Rattle.ason_base.specs.declared.calls.Role.TheVariants.{Back}
 use Rattle.mesh_rules.specs.declared.events.MeshEvent.{MeshEvent}
 use Rattle.lsp_laws.specs.HopShapes as row
-use Rattle.mesh_examples.proofs.Scene.{alone, among, desk, down_at, fails_link, joins, learns, leg, lsp, mail_on, node, over, ReachesRow, reported, Seen, sets_up, spec, still, takes_each}
+use Rattle.mesh_examples.proofs.Scene.{alone, among, changed_at, desk, down_at, fails_link, joins, learns, leg, lsp, mail_on, node, over, ReachesRow, reported, Seen, sets_up, spec, still, takes_each}
 
 abbrev pub network : Network
 network = record {
@@ -49,6 +50,15 @@ as_reached = record (still 6 7) {
   known = 4 ∷ 4 ∷ 1 ∷ 0 ∷ 5 ∷ 4 ∷ [];
   down = down_at 6 ((6, 1) ∷ []);
   mail = mail_on 7 ((2, (1, 0)) ∷ []);
+}
+
+-- what is seen after a release at node 1: the leg of the backup there is in this phase, and so many messages are on
+-- link 2
+abbrev pub released : Seen → Phase → ℕ → Seen
+released before phase sent = record before {
+  legs = changed_at 1 (leg 1 1 Closing None (Some 1) 0 1 1 ∷ leg 1 2 phase None (Some 1) 0 3 1 ∷ []) before.legs;
+  calls = among 6 [];
+  mail = mail_on 7 ((2, (sent, 0)) ∷ (3, (1, 0)) ∷ []);
 }
 
 reaches : ReachesRow network events as_reached Back (lsp 1 1 2) (node 1) (node 5)

@@ -44,25 +44,19 @@ rows phase =
     ∷ row (lsp 1 1 2) Back 3 phase (Some (link 2)) (Some 1) None None None (Some 1)
     ∷ []
 
-abbrev states : List MeshEvent → List CallState
-states events = map (λ c. c.state) (all_call_rows network (after network start events))
+-- after the run these legs stand, and the calls are in these states
+record Shows (events : List MeshEvent) (legs : List LegRow) (states : List CallState) : Type 0 where
+  legs_are : all_leg_rows network (after network start events) ≡ legs
+  states_are : map (λ c. c.state) (all_call_rows network (after network start events)) ≡ states
 
 enabled : all_enabled network start turned ≡ true
 unfolding labels.numbers_from
 enabled = refl
 
-reserved : all_leg_rows network (after network start set_up) ≡ rows Held
+reserved : Shows set_up (rows Held) (Guarded ∷ [])
 unfolding labels.numbers_from
-reserved = refl
+reserved = record { legs_are = refl; states_are = refl }
 
-guarded : states set_up ≡ Guarded ∷ []
+carried : Shows turned (rows Live) (Turned ∷ [])
 unfolding labels.numbers_from
-guarded = refl
-
-activated : all_leg_rows network (after network start turned) ≡ rows Live
-unfolding labels.numbers_from
-activated = refl
-
-carried : states turned ≡ Turned ∷ []
-unfolding labels.numbers_from
-carried = refl
+carried = record { legs_are = refl; states_are = refl }

@@ -12,6 +12,7 @@ mod ComesToRest
 pub mod Contended
 mod Deactivating
 mod Found
+mod GuardedCall
 mod LetGoAfterContention
 mod OneNode
 mod OneOfTwoRepaired
@@ -40,6 +41,7 @@ mod TornDeactivating
 mod TornPassed
 mod TornReactivating
 mod TurnedAndBack
+mod TurnedCall
 mod TurnsAtOnce
 mod UnknownPrimary
 mod WaitEnds

@@ -77,31 +77,30 @@ held : seen (after (from_1 (ends 1 (backup false 2)) ∷ [])) ≡ (Held, Some 1)
 unfolding labels.numbers_from
 held = refl
 
+-- what two Paths leave here, one after the other
+abbrev after_two : PathRole → PathRole → List (Phase × Option ℕ)
+after_two first second = seen (after (from_1 (ends 1 first) ∷ from_1 (ends 2 second) ∷ []))
+
 -- primaries over different links: the label is shared
-shared : seen (after (from_1 (ends 1 (backup false 2)) ∷ from_1 (ends 2 (backup false 3)) ∷ [])) ≡
-    (Held, Some 1) ∷ (Held, Some 1) ∷ []
+shared : after_two (backup false 2) (backup false 3) ≡ (Held, Some 1) ∷ (Held, Some 1) ∷ []
 unfolding labels.numbers_from
 shared = refl
 
 -- over one link, or over links with one SRLG: another label
-one_link : seen (after (from_1 (ends 1 (backup false 2)) ∷ from_1 (ends 2 (backup false 2)) ∷ [])) ≡
-    (Held, Some 1) ∷ (Held, Some 2) ∷ []
+one_link : after_two (backup false 2) (backup false 2) ≡ (Held, Some 1) ∷ (Held, Some 2) ∷ []
 unfolding labels.numbers_from
 one_link = refl
 
-one_srlg : seen (after (from_1 (ends 1 (backup false 4)) ∷ from_1 (ends 2 (backup false 5)) ∷ [])) ≡
-    (Held, Some 1) ∷ (Held, Some 2) ∷ []
+one_srlg : after_two (backup false 4) (backup false 5) ≡ (Held, Some 1) ∷ (Held, Some 2) ∷ []
 unfolding labels.numbers_from
 one_srlg = refl
 
 -- a working LSP shares no label, whichever comes first
-work_after : seen (after (from_1 (ends 1 (backup false 2)) ∷ from_1 (ends 2 (Work false)) ∷ [])) ≡
-    (Held, Some 1) ∷ (Live, Some 2) ∷ []
+work_after : after_two (backup false 2) (Work false) ≡ (Held, Some 1) ∷ (Live, Some 2) ∷ []
 unfolding labels.numbers_from
 work_after = refl
 
-work_before : seen (after (from_1 (ends 1 (Work false)) ∷ from_1 (ends 2 (backup false 2)) ∷ [])) ≡
-    (Live, Some 1) ∷ (Held, Some 2) ∷ []
+work_before : after_two (Work false) (backup false 2) ≡ (Live, Some 1) ∷ (Held, Some 2) ∷ []
 unfolding labels.numbers_from
 work_before = refl
 

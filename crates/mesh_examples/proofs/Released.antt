@@ -50,16 +50,17 @@ is_guarded : calls (reached guarded) ≡ (Guarded, Unset) ∷ []
 unfolding labels.numbers_from
 is_guarded = refl
 
-abbrev released : List MeshEvent
-released = guarded ++ releases 1 1 ∷ desk 1 ∷ []
+-- the call is released after this run
+abbrev released : List MeshEvent → List MeshEvent
+released run = run ++ releases 1 1 ∷ desk 1 ∷ []
 
-torn : HasShape (reached released) Back backup (node 1) (node 2)
+torn : HasShape (reached (released guarded)) Back backup (node 1) (node 2)
 unfolding labels.numbers_from
 torn = row.TornStandby row.Closes row.NoAnswer
 
 -- node 2 confirms, and tells node 3
 abbrev confirmed : List MeshEvent
-confirmed = released ++ takes 2 1 ∷ []
+confirmed = released guarded ++ takes 2 1 ∷ []
 
 let_go : HasShape (reached confirmed) Back backup (node 1) (node 2)
 unfolding labels.numbers_from
@@ -107,19 +108,16 @@ is_bare : calls (reached (refused ++ takes 1 2 ∷ [])) ≡ (Bare, Code primary_
 unfolding labels.numbers_from
 is_bare = refl
 
-abbrev released_then : List MeshEvent
-released_then = refused ++ releases 1 1 ∷ desk 1 ∷ []
-
-torn_refused : HasShape (reached released_then) Back backup (node 1) (node 2)
+torn_refused : HasShape (reached (released refused)) Back backup (node 1) (node 2)
 unfolding labels.numbers_from
 torn_refused = row.TornRefused row.NothingLeft
 
-left : HasShape (reached (released_then ++ takes 1 2 ∷ [])) Back backup (node 1) (node 2)
+left : HasShape (reached (released refused ++ takes 1 2 ∷ [])) Back backup (node 1) (node 2)
 unfolding labels.numbers_from
 left = row.Left row.NothingLeft
 
 abbrev gone_then : List MeshEvent
-gone_then = released_then ++ takes 1 2 ∷ takes 2 1 ∷ takes 4 1 ∷ takes 1 4 ∷ []
+gone_then = released refused ++ takes 1 2 ∷ takes 2 1 ∷ takes 4 1 ∷ takes 1 4 ∷ []
 
 enabled_then : all_enabled square start gone_then ≡ true
 unfolding labels.numbers_from

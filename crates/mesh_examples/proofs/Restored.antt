@@ -3,8 +3,6 @@ use Rattle.std.proofs.Common.{◌≡◌, true, false, List, [], ◌∷◌, ◌++
 use Rattle.std.specs.Prelude.{Some}
 use Rattle.ason_base.specs.Labels as labels
 use Rattle.ason_base.specs.Network.{Network}
-use Rattle.ason_base.specs.declared.calls.CallState.TheVariants.{Turned}
-use Rattle.ason_base.specs.declared.calls.Cause.TheVariants.{Unset}
 use Rattle.ason_base.specs.declared.calls.Phase.TheVariants.{Live}
 use Rattle.ason_base.specs.declared.commands.Group.TheVariants.{Link}
 use Rattle.mesh_rules.specs.declared.events.MeshEvent.{MeshEvent}
@@ -13,7 +11,9 @@ use Rattle.mesh_rules.specs.Machine.{start}
 use Rattle.mesh_laws.specs.AloneLaw.{Alone}
 use Rattle.mesh_laws.specs.RestorationLaw.{is_guarded, is_hit}
 use Rattle.mesh_laws.proofs.alone.Law.{run_starts_calm}
-use Rattle.mesh_examples.proofs.Scene.{by_node_3, desk, down_at, fails_link, learns, link, lsp, over, Reaches, reported, Seen, sets_up, still, takes_each, triangle}
+use Rattle.mesh_examples.proofs.GuardedCall as guarded_call
+use Rattle.mesh_examples.proofs.TurnedCall as turned_call
+use Rattle.mesh_examples.proofs.Scene.{by_node_3, desk, fails_link, learns, link, lsp, Reaches, Seen, takes_each, triangle}
 
 abbrev network : Network
 network = triangle true false 2
@@ -22,21 +22,16 @@ abbrev events : List MeshEvent
 events =
     learns 1 (3 ∷ [])
     ++ learns 2 (2 ∷ [])
-    ++ learns 3 (1 ∷ [])
-    ++ sets_up 1 1 2 (over 1 1 ∷ []) (over 1 2 ∷ over 3 3 ∷ [])
-    ∷ desk 1
-    ∷ takes_each ((2, 1) ∷ (1, 2) ∷ (3, 1) ∷ (2, 3) ∷ (3, 2) ∷ (1, 3) ∷ [])
+    ++ guarded_call.events
     ++ fails_link 1
     ∷ desk 1
     ∷ desk 2
     ∷ takes_each ((1, 2) ∷ (3, 1) ∷ (2, 3) ∷ (3, 2) ∷ (1, 3) ∷ [])
 
 abbrev as_reached : Seen
-as_reached = record (still 3 3) {
+as_reached = record turned_call.as_reached {
   legs = by_node_3 2 Live;
-  calls = (reported 1 Turned Unset 1 0 ∷ []) ∷ [] ∷ [] ∷ [];
   known = 3 ∷ 3 ∷ 3 ∷ [];
-  down = down_at 3 ((1, 1) ∷ (2, 1) ∷ []);
 }
 
 reaches : Reaches network events as_reached

@@ -1,14 +1,15 @@
 -- Two guarded calls whose backups meet on link 5, which has one label. Their primaries have no risk in common, so the
 -- backups share the label.
-use Rattle.std.proofs.Common.{ℕ, true, false, List, [], ◌∷◌, ◌++◌, refl}
+use Rattle.std.proofs.Common.{ℕ, suc, true, false, List, [], ◌∷◌, ◌++◌, refl}
 use Rattle.std.specs.Prelude.{Some, None}
 use Rattle.ason_base.specs.Labels as labels
 use Rattle.ason_base.specs.Network.{Network}
-use Rattle.ason_base.specs.declared.calls.CallState.TheVariants.{Guarded}
+use Rattle.ason_base.specs.declared.calls.CallState.TheVariants.{Bare, Guarded}
+use Rattle.ason_base.specs.declared.calls.Cause.{Cause}
 use Rattle.ason_base.specs.declared.calls.Cause.TheVariants.{Unset}
 use Rattle.ason_base.specs.declared.calls.Phase.TheVariants.{Held, Live}
 use Rattle.mesh_rules.specs.declared.events.MeshEvent.{MeshEvent}
-use Rattle.mesh_examples.proofs.Scene.{among, called, desk, joins, learns, leg, over, Reaches, Seen, sets_up, spec, still, takes_each}
+use Rattle.mesh_examples.proofs.Scene.{among, called, changed_at, desk, joins, learns, leg, over, Reaches, Seen, sets_up, spec, still, takes_each, with_new}
 
 -- how many ticks the wait has, and the SRLG of link 2
 abbrev pub network_of : ℕ → ℕ → Network
@@ -58,6 +59,19 @@ as_reached = record (still 6 7) {
       ∷ (3, called 2 Guarded Unset ∷ [])
       ∷ []);
   known = 2 ∷ 2 ∷ 2 ∷ 2 ∷ 5 ∷ 5 ∷ [];
+}
+
+-- what is seen where the call of this number, from the first of these nodes, has no backup, for this cause, while the
+-- call from the other node has one
+abbrev pub one_bare : ℕ → ℕ → ℕ → Cause → Seen
+one_bare number from other cause = record as_reached {
+  legs = with_new (
+      (from, leg from 1 Live None (Some 1) 0 1 0 ∷ [])
+      ∷ (suc from, leg from 1 Live (Some 1) None 1 0 0 ∷ [])
+      ∷ (5, leg other 2 Held (Some 1) (Some 1) 2 1 1 ∷ [])
+      ∷ (6, leg other 2 Held (Some 1) (Some 1) 1 1 0 ∷ [])
+      ∷ []) as_reached.legs;
+  calls = changed_at from (called number Bare cause ∷ []) as_reached.calls;
 }
 
 reaches : Reaches network events as_reached

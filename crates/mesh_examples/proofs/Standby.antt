@@ -8,22 +8,25 @@ use Rattle.ason_base.specs.declared.calls.Phase.TheVariants.{Held, Live}
 use Rattle.ason_base.specs.declared.calls.Role.TheVariants.{Back}
 use Rattle.mesh_rules.specs.declared.events.MeshEvent.{MeshEvent}
 use Rattle.lsp_laws.specs.HopShapes as row
+use Rattle.mesh_examples.proofs.Answered.{network}
 use Rattle.mesh_examples.proofs.Reserved as reserved
-use Rattle.mesh_examples.proofs.Reserved.{network}
-use Rattle.mesh_examples.proofs.Scene.{alone, called, changed_at, leg, lsp, mail_on, node, ReachesRow, Seen, takes}
+use Rattle.mesh_examples.proofs.Scene.{alone, called, leg, lsp, mail_on, node, ReachesRow, Seen, takes_each, with_new}
 
 abbrev events : List MeshEvent
-events = reserved.events ++ takes 6 3 ∷ []
+events = reserved.events ++ takes_each ((1, 5) ∷ (2, 1) ∷ (3, 2) ∷ (4, 3) ∷ [])
 
 abbrev as_reached : Seen
 as_reached = record reserved.as_reached {
-  legs =
-      changed_at 6 (leg 6 1 Live None (Some 1) 0 1 1 ∷ leg 6 2 Held None (Some 1) 0 1 0 ∷ [])
-      reserved.as_reached.legs;
-  calls = alone 6 6 (called 1 Guarded Unset ∷ []);
+  legs = with_new (
+      (1, leg 4 2 Held (Some 1) (Some 1) 1 2 0 ∷ [])
+      ∷ (2, leg 4 2 Held (Some 1) (Some 1) 1 1 1 ∷ [])
+      ∷ (3, leg 4 2 Held (Some 1) (Some 1) 1 1 2 ∷ [])
+      ∷ (4, leg 4 1 Live None (Some 1) 0 1 0 ∷ leg 4 2 Held None (Some 1) 0 1 3 ∷ [])
+      ∷ []) reserved.as_reached.legs;
+  calls = alone 6 4 (called 1 Guarded Unset ∷ []);
   mail = mail_on 7 [];
 }
 
-reaches : ReachesRow network events as_reached Back (lsp 6 1 2) (node 6) (node 3)
+reaches : ReachesRow network events as_reached Back (lsp 4 1 2) (node 4) (node 3)
 unfolding labels.numbers_from
 reaches = record { enabled = refl; reached = refl; in_row = row.Standby }

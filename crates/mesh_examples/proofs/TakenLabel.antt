@@ -1,15 +1,12 @@
 -- Two calls whose backups meet on link 5, which has one label, and whose primaries have an SRLG in common. When the
 -- Resv of the second one comes the label is taken, and its call is bare.
 use Rattle.std.proofs.Common.{List, [], ◌∷◌, ◌++◌, refl}
-use Rattle.std.specs.Prelude.{Some, None}
 use Rattle.ason_base.specs.Codes.{label_code}
 use Rattle.ason_base.specs.Labels as labels
 use Rattle.ason_base.specs.Network.{Network}
-use Rattle.ason_base.specs.declared.calls.CallState.TheVariants.{Bare}
 use Rattle.ason_base.specs.declared.calls.Cause.TheVariants.{Code}
-use Rattle.ason_base.specs.declared.calls.Phase.TheVariants.{Held, Live}
 use Rattle.mesh_rules.specs.declared.events.MeshEvent.{MeshEvent}
-use Rattle.mesh_examples.proofs.Scene.{called, changed_at, desk, leg, Reaches, Seen, takes_each, with_new}
+use Rattle.mesh_examples.proofs.Scene.{desk, Reaches, Seen, takes_each}
 use Rattle.mesh_examples.proofs.SharedLabel as shared_label
 
 abbrev pub network : Network
@@ -27,15 +24,7 @@ events =
     ∷ (5, 6) ∷ (1, 5) ∷ (4, 6) ∷ (6, 4) ∷ (5, 6) ∷ (3, 5) ∷ [])
 
 abbrev pub as_reached : Seen
-as_reached = record shared_label.as_reached {
-  legs = with_new (
-      (3, leg 3 1 Live None (Some 1) 0 1 0 ∷ [])
-      ∷ (4, leg 3 1 Live (Some 1) None 1 0 0 ∷ [])
-      ∷ (5, leg 1 2 Held (Some 1) (Some 1) 2 1 1 ∷ [])
-      ∷ (6, leg 1 2 Held (Some 1) (Some 1) 1 1 0 ∷ [])
-      ∷ []) shared_label.as_reached.legs;
-  calls = changed_at 3 (called 2 Bare (Code label_code) ∷ []) shared_label.as_reached.calls;
-}
+as_reached = shared_label.one_bare 2 3 1 (Code label_code)
 
 reaches : Reaches network events as_reached
 unfolding labels.numbers_from
