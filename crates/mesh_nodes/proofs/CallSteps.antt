@@ -1,5 +1,5 @@
 -- What becomes of a call after a Resv or a PathErr at its ingress fits.
-use Rattle.std.proofs.Common.{◌≡◌, List, length}
+use Rattle.std.proofs.Common.{◌≡◌, Bool, true, false, cond, List, length}
 use Rattle.std.specs.Prelude.{Option, Some, None}
 use Rattle.ason_base.specs.declared.calls.Cause.{Cause}
 use Rattle.ason_base.specs.declared.calls.Cause.TheVariants.{Code}
@@ -14,6 +14,7 @@ use Rattle.mesh_rules.specs.Legs.{is_work}
 use Rattle.mesh_rules.specs.LocalNodes.{LocalNode}
 use Rattle.mesh_rules.specs.Pairs.{leaves_bare}
 use Rattle.mesh_rules.specs.State.{NodeState}
+use Rattle.mesh_rules.specs.Turns.{decide}
 use Rattle.mesh_nodes.specs.FitNodes.{CallFits, LegFits, NodeFits}
 use Rattle.mesh_nodes.specs.LocalNodes.{LocalNodeFits}
 use Rattle.mesh_nodes.specs.Sent.{AnswerFits}
@@ -33,6 +34,12 @@ module _ (p : LocalNode) (s : NodeState) (legs : List Leg) (g : Leg) (W : Type 0
   call-fits : (c : CallRec) → call_with g.lsp s.calls ≡ Some c → CallFits p c
   call-fits c called = found-one (CallFits p) (names g.lsp) s.calls c called fits.calls.each
 
+  -- where the test holds it is decided what becomes of the call, with this leg of its backup
+  decided-fits : (test : Bool) (c : CallRec) → CallFits p c → BeginsHere p legs g →
+      AnswerFits p (record s { legs = legs }) W (cond test (decide s.legs c (Some g)) nothing)
+  decided-fits true c here stands = decide-fits p s legs W fits c (Some g) here stands
+  decided-fits false c here stands = none-fits
+
   pub answered-call-fits : (o : Option CallRec) → call_with g.lsp s.calls ≡ o → length legs ≡ length s.legs →
       LegFits p s.lsp g → BeginsHere p legs g → AnswerFits p (record s { legs = legs }) W (call_answered p s g o)
   answered-call-fits None called many leg stands = none-fits
@@ -44,10 +51,8 @@ module _ (p : LocalNode) (s : NodeState) (legs : List Leg) (g : Leg) (W : Type 0
       (λ e. pair-fits p s legs c g W place fits many leg stands.begins here)
       (λ e. put-fits p s legs W fits (bare c) (record { backup = here.backup; work = here.work; back = here.back })))
       (λ e. none-fits))
-      (λ e. if_cases (AnswerFits p (record s { legs = legs }) W) (is_pairing c.state) _ _
-      (λ e. decide-fits p s legs W fits (guarded c) (Some g)
+      (λ e. decided-fits (is_pairing c.state) (guarded c)
       (record { backup = here.backup; work = here.work; back = here.back }) stands)
-      (λ e. none-fits))
 
   pub refused-call-fits : (code : ErrCode) (o : Option CallRec) → call_with g.lsp s.calls ≡ o →
       AnswerFits p (record s { legs = legs }) W (call_refused code g o)
@@ -71,17 +76,13 @@ module _ (p : LocalNode) (s : NodeState) (legs : List Leg) (g : Leg) (W : Type 0
   turned-call-fits None called stands = none-fits
   turned-call-fits (Some c) called stands =
       let here = call-fits c called in
-      if_cases (AnswerFits p (record s { legs = legs }) W) (is_turning c.state) _ _
-      (λ e. decide-fits p s legs W fits (turned c) (Some g)
-      (record { backup = here.backup; work = here.work; back = here.back }) stands)
-      (λ e. none-fits)
+      decided-fits (is_turning c.state) (turned c)
+      (record { backup = here.backup; work = here.work; back = here.back }) stands
 
   pub contended-call-fits : (o : Option CallRec) → call_with g.lsp s.calls ≡ o → BeginsHere p legs g →
       AnswerFits p (record s { legs = legs }) W (call_contended s g o)
   contended-call-fits None called stands = none-fits
   contended-call-fits (Some c) called stands =
       let here = call-fits c called in
-      if_cases (AnswerFits p (record s { legs = legs }) W) (is_turning c.state) _ _
-      (λ e. decide-fits p s legs W fits (stuck c (Code busy_code)) (Some g)
-      (record { backup = here.backup; work = here.work; back = here.back }) stands)
-      (λ e. none-fits)
+      decided-fits (is_turning c.state) (stuck c (Code busy_code))
+      (record { backup = here.backup; work = here.work; back = here.back }) stands

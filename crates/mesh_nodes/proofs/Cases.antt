@@ -27,6 +27,11 @@ pub not-false : (b : Bool) → not b ≡ false → b ≡ true
 not-false true e = refl
 not-false false e = absurd (cc e)
 
+-- what isn't true is false
+pub false-unless : (b : Bool) → (b ≡ true → ⊥) → b ≡ false
+false-unless true never = absurd (never refl)
+false-unless false never = refl
+
 pub neither_right : (a b : Bool) → (a || b) ≡ false → b ≡ false
 neither_right true b e = absurd (cc e)
 neither_right false b e = e

@@ -2,7 +2,7 @@
 use Rattle.std.proofs.Common.{◌≡◌, ◌≤◌, ◌<◌, ◌+◌, ℕ, suc, Bool, true, false, cond, not, nat_eq, List, [], ◌∷◌, length, refl, sym, ap, subst, arith}
 use Rattle.std.specs.Prelude.{Option, Some, None, IsTrue, is_some, filter}
 use Rattle.ason_base.specs.declared.calls.Phase.{Phase}
-use Rattle.ason_base.specs.declared.calls.Phase.TheVariants.{Asked, Held, Armed, Live, Closing, Falling}
+use Rattle.ason_base.specs.declared.calls.Phase.TheVariants.{Armed, Live}
 use Rattle.ason_base.specs.declared.calls.Role.{Role}
 use Rattle.ason_base.specs.declared.calls.Role.TheVariants.{Work, Back}
 use Rattle.ason_base.specs.declared.ids.CallNo.{CallNo}
@@ -22,6 +22,7 @@ use Rattle.mesh_nodes.specs.FitNodes.{CallFits, CallsFit, LegFits, LegsFit}
 use Rattle.mesh_nodes.specs.Order.{LegsRise}
 use Rattle.mesh_nodes.proofs.CallList.{all-with_call, rise-with_call, rise-without_call}
 use Rattle.mesh_nodes.proofs.LegList.{all-filter, all-then, all-with_leg, before-apart, before-before, found-all, found-lsp, rise-with_leg, rise-without_leg, same_lsp-refl}
+use Rattle.mesh_nodes.proofs.Phases.{armed-is, held-is, of-closing}
 
 -- How many legs there are
 
@@ -127,14 +128,7 @@ legs-less p next l legs fits = record {
 -- One leg
 
 closed-phase : (f : Phase) (r : Role) → is_beyond_asked (closing_phase f r) ≡ false
-closed-phase Asked Work = refl
-closed-phase Asked Back = refl
-closed-phase Held Back = refl
-closed-phase Armed Back = refl
-closed-phase Live Back = refl
-closed-phase Closing Back = refl
-closed-phase Falling Back = refl
-closed-phase _ Work = refl
+closed-phase f r = of-closing (λ q. is_beyond_asked q ≡ false) refl refl f r
 
 pub closed-fits : (p : LocalNode) (next : ℕ) (g : Leg) → LegFits p next g → LegFits p next (closed g)
 closed-fits p next g fits =
@@ -163,12 +157,10 @@ phase-fits p next f g fits beyond later =
     (λ e. fits.out_label beyond) (λ e. absurd (cc (later, e)))
 
 pub held-beyond : (f : Phase) → is_held f ≡ true → is_beyond_asked f ≡ true
-held-beyond Held e = refl
-held-beyond _ e = absurd (cc e)
+held-beyond f e = ap is_beyond_asked (held-is f e)
 
 pub armed-beyond : (f : Phase) → is_armed f ≡ true → is_beyond_asked f ≡ true
-armed-beyond Armed e = refl
-armed-beyond _ e = absurd (cc e)
+armed-beyond f e = ap is_beyond_asked (armed-is f e)
 
 pub in_use-beyond : (f : Phase) → is_in_use f ≡ true → is_beyond_asked f ≡ true
 in_use-beyond Armed e = refl

@@ -1,10 +1,12 @@
 -- An answer fits after one that changes one leg alone.
-use Rattle.std.proofs.Common.{◌≡◌, [], refl}
+use Rattle.std.proofs.Common.{◌≡◌, [], ◌∷◌, refl}
 use Rattle.std.specs.Prelude.{Option, Some, None}
 use Rattle.ason_base.specs.declared.ids.Lsp.{Lsp}
 use Rattle.ason_base.specs.declared.tables.Leg.{Leg}
-use Rattle.mesh_rules.specs.Changes.{Answer, followed_by, later, puts, removes}
-use Rattle.mesh_rules.specs.Legs.{with_leg, without_leg}
+use Rattle.mesh_rules.specs.declared.changes.LegChange.{LegChange}
+use Rattle.mesh_rules.specs.declared.changes.LegChange.TheVariants as leg
+use Rattle.mesh_rules.specs.Changes.{Answer, followed_by, later, nothing, puts, removes}
+use Rattle.mesh_rules.specs.Legs.{leg_changed, with_leg, without_leg}
 use Rattle.mesh_rules.specs.LocalNodes.{LocalNode}
 use Rattle.mesh_rules.specs.State.{NodeState}
 use Rattle.mesh_nodes.specs.Sent.{AnswerFits}
@@ -14,20 +16,20 @@ later-none None = refl
 later-none (Some x) = refl
 
 module _ (p : LocalNode) (s : NodeState) (W : Type 0) (a : Answer) where
-  pub after-puts : (h : Leg) → AnswerFits p (record s { legs = with_leg h s.legs }) W a →
-      AnswerFits p s W (followed_by (puts h []) a)
-  after-puts h fits = record {
+  -- a leg comes, changes or goes
+  after-leg : (c : LegChange) → AnswerFits p (record s { legs = leg_changed c s.legs }) W a →
+      AnswerFits p s W (followed_by (record nothing { legs = c ∷ [] }) a)
+  after-leg c fits = record {
     kept = rw (later-none a.numbers, later-none a.down) fits.kept;
     near = fits.near;
     written = fits.written;
     few = fits.few;
   }
 
+  pub after-puts : (h : Leg) → AnswerFits p (record s { legs = with_leg h s.legs }) W a →
+      AnswerFits p s W (followed_by (puts h []) a)
+  after-puts h fits = after-leg (leg.Put h) fits
+
   pub after-removes : (l : Lsp) → AnswerFits p (record s { legs = without_leg l s.legs }) W a →
       AnswerFits p s W (followed_by (removes l []) a)
-  after-removes l fits = record {
-    kept = rw (later-none a.numbers, later-none a.down) fits.kept;
-    near = fits.near;
-    written = fits.written;
-    few = fits.few;
-  }
+  after-removes l fits = after-leg (leg.Goes l) fits

@@ -181,6 +181,18 @@ module _ (p : LocalNode) (s : NodeState) (n : CallNo) (W : Type 0) (fits : NodeF
         fits.numbers;
   }
 
+  -- one leg is torn
+  tear-fits : (g : Leg) → Stands p s g →
+      AnswerFits p s W (followed_by (tears (Some g)) (changes_calls (call.Goes n ∷ [])))
+  tear-fits g stands =
+      let t = tear_to-fits p s.lsp g (following g) stands.fits refl in
+      record {
+        kept = kept (with_leg (closed g) s.legs) (closed-legs p s g fits stands);
+        near = all-append _ (tear_to g (following g)) [] t.near tt;
+        written = λ w. all-append _ (tear_to g (following g)) [] t.written tt;
+        few = few-append (tear_to g (following g)) [] t.few (omega arith);
+      }
+
   tears-fit : (a b : Option Leg) → ((g : Leg) → a ≡ Some g → Stands p s g) → ((g : Leg) → b ≡ Some g → Stands p s g) →
       AnswerFits p s W (followed_by (tears a) (followed_by (tears b) (changes_calls (call.Goes n ∷ []))))
   tears-fit None None this that = record {
@@ -190,22 +202,8 @@ module _ (p : LocalNode) (s : NodeState) (n : CallNo) (W : Type 0) (fits : NodeF
     few =
         omega arith;
   }
-  tears-fit None (Some h) this that =
-      let t = tear_to-fits p s.lsp h (following h) (that h refl).fits refl in
-      record {
-        kept = kept (with_leg (closed h) s.legs) (closed-legs p s h fits (that h refl));
-        near = all-append _ (tear_to h (following h)) [] t.near tt;
-        written = λ w. all-append _ (tear_to h (following h)) [] t.written tt;
-        few = few-append (tear_to h (following h)) [] t.few (omega arith);
-      }
-  tears-fit (Some g) None this that =
-      let t = tear_to-fits p s.lsp g (following g) (this g refl).fits refl in
-      record {
-        kept = kept (with_leg (closed g) s.legs) (closed-legs p s g fits (this g refl));
-        near = all-append _ (tear_to g (following g)) [] t.near tt;
-        written = λ w. all-append _ (tear_to g (following g)) [] t.written tt;
-        few = few-append (tear_to g (following g)) [] t.few (omega arith);
-      }
+  tears-fit None (Some h) this that = tear-fits h (that h refl)
+  tears-fit (Some g) None this that = tear-fits g (this g refl)
   tears-fit (Some g) (Some h) this that =
       let t = tear_to-fits p s.lsp g (following g) (this g refl).fits refl in
       let u = tear_to-fits p s.lsp h (following h) (that h refl).fits refl in
@@ -259,18 +257,15 @@ protect-fits p s n from W (Some c) place fits found =
 
 -- Every item
 
+-- what the order to set up a call asks for
+abbrev pub setup_request : CallNo → NodeId → NodeId → Bool → Bool → Option (List Step) → Option (List Step) →
+    SetupRequest
+setup_request n from to protected both via backup =
+    record { call = n; from = from; egress = to; protected = protected; both = both; via = via; backup = backup }
+
 pub items-fit : ItemsFit
 items-fit p s (Order (Setup n from to protected both via backup)) place fits =
-    setup-fits p s (record {
-      call =
-          n;
-      from = from;
-      egress = to;
-      protected = protected;
-      both = both;
-      via = via;
-      backup = backup;
-    }) (Unit {0}) (find_call n s.calls) place fits
+    setup-fits p s (setup_request n from to protected both via backup) (Unit {0}) (find_call n s.calls) place fits
 items-fit p s (Order (Release n from)) place fits = release-fits p s from (Unit {0}) (find_call n s.calls) fits
 items-fit p s (Order (Protect n from)) place fits =
     protect-fits p s n from (Unit {0}) (find_call n s.calls) place fits refl

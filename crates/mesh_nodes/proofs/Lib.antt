@@ -2,6 +2,7 @@ pub mod ActivationAnswers
 pub mod Activations
 pub mod Alarms
 pub mod BusyLabels
+pub mod ByKind
 pub mod CallList
 pub mod CallSteps
 mod CallsLearnNothing
@@ -17,8 +18,10 @@ pub mod LegList
 pub mod Links
 pub mod Messages
 pub mod NewNodes
+pub mod News
 pub mod Pairs
 pub mod Paths
+pub mod Phases
 pub mod Reports
 pub mod Stands
 pub mod Ticks

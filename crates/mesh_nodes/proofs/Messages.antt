@@ -107,42 +107,27 @@ resv-fits p s a x W (Some g) place fits found =
 
 module _ (p : LocalNode) (s : NodeState) (g : Leg) (e : PathFailure) (W : Type 0) (place : LocalNodeFits p)
     (fits : NodeFits p s) (stands : Stands p s g) (writable : W → IsWritableMsg e.msg) where
-  gone-fits : AnswerFits p s W (removes g.lsp [])
-  gone-fits = record {
-    kept = record {
-      legs =
-          legs-less p s.lsp g.lsp s.legs fits.legs;
-      calls = fits.calls;
-      first = fits.first;
-      numbers = fits.numbers;
-    };
-    near = tt;
-    written = λ w. tt;
-    few = omega arith;
+  -- without the leg
+  without-fits : NodeFits p (record s { legs = without_leg g.lsp s.legs })
+  without-fits = record {
+    legs = legs-less p s.lsp g.lsp s.legs fits.legs;
+    calls = fits.calls;
+    first = fits.first;
+    numbers = fits.numbers;
   }
+
+  gone-fits : AnswerFits p s W (removes g.lsp [])
+  gone-fits = record { kept = without-fits; near = tt; written = λ w. tt; few = omega arith }
 
   refused_here-fits : AnswerFits p s W (refused_here s g e.code)
   refused_here-fits =
       after-removes p s W (call_refused e.code g (call_with g.lsp s.calls)) g.lsp
-      (refused-call-fits p s (without_leg g.lsp s.legs) g W place
-      (record {
-        legs = legs-less p s.lsp g.lsp s.legs fits.legs;
-        calls = fits.calls;
-        first = fits.first;
-        numbers = fits.numbers;
-      })
-      e.code (call_with g.lsp s.calls) refl)
+      (refused-call-fits p s (without_leg g.lsp s.legs) g W place without-fits e.code (call_with g.lsp s.calls) refl)
 
   passed-fits : (o : Option Neighbour) → previous g ≡ o → AnswerFits p s W (err_passed s g e o)
   passed-fits None is = refused_here-fits
   passed-fits (Some h) is = record {
-    kept = record {
-      legs =
-          legs-less p s.lsp g.lsp s.legs fits.legs;
-      calls = fits.calls;
-      first = fits.first;
-      numbers = fits.numbers;
-    };
+    kept = without-fits;
     near = (previous-is_near p s.lsp g h stands.fits is, tt);
     written = λ w. (writable w, tt);
     few = omega arith;

@@ -1,5 +1,5 @@
 -- What a Notify and an order to try again do fits.
-use Rattle.std.proofs.Common.{ap, arith, Bool, nat_eq, not, refl, ◌∙◌, ◌≡◌}
+use Rattle.std.proofs.Common.{ap, arith, Bool, cond, nat_eq, not, refl, ◌∙◌, ◌≡◌}
 use Rattle.std.specs.Prelude.{◌&&◌, Option, Some, None, IfSome}
 use Rattle.ason_base.specs.Lsps.{is_lsp}
 use Rattle.ason_base.specs.Writable.{IsWritableMsg}
@@ -10,15 +10,15 @@ use Rattle.ason_base.specs.declared.ids.NodeId.{NodeId}
 use Rattle.ason_base.specs.declared.tables.CallRec.{CallRec}
 use Rattle.ason_base.specs.declared.tables.Leg.{Leg}
 use Rattle.mesh_rules.specs.declared.neighbours.Neighbour.{Neighbour}
-use Rattle.mesh_rules.specs.Calls.{call_with, find_call, is_stuck, is_turned, names}
+use Rattle.mesh_rules.specs.Calls.{call_with, find_call, names}
+use Rattle.mesh_rules.specs.Changes.{Answer, nothing}
 use Rattle.mesh_rules.specs.Legs.{find_leg, following, is_closing, is_node, leg_of, previous}
 use Rattle.mesh_rules.specs.LocalNodes.{LocalNode}
 use Rattle.mesh_rules.specs.Notifies.{Notice, notice_passed, notice_told, notify_with}
 use Rattle.mesh_rules.specs.Pairs.{route_from}
 use Rattle.mesh_rules.specs.Reports.{call_reported, fibre_into, fibres_after, reported, reported_on, with_back_reports, with_report, with_work_reports}
-use Rattle.mesh_rules.specs.Retries.{retries, retry_with}
+use Rattle.mesh_rules.specs.Retries.{retry_with}
 use Rattle.mesh_rules.specs.State.{NodeState}
-use Rattle.mesh_rules.specs.Turns.{has_any}
 use Rattle.mesh_nodes.specs.FitNodes.{CallFits, NodeFits}
 use Rattle.mesh_nodes.specs.Sent.{AnswerFits}
 use Rattle.mesh_nodes.proofs.Cases.{if_cases}
@@ -27,7 +27,7 @@ use Rattle.mesh_nodes.proofs.Links.{found-one}
 use Rattle.mesh_nodes.proofs.Paths.{nothing-fits}
 use Rattle.mesh_nodes.proofs.Stands.{Stands, leg-stands, previous-is_near}
 use Rattle.mesh_nodes.proofs.Turns.{BeginsHere, decide-fits, go_back-fits, turn-fits}
-use Rattle.mesh_rules.specs.Reverts.{revert_with, reverts}
+use Rattle.mesh_rules.specs.Reverts.{revert_with}
 
 -- the leg of a call's backup begins here
 pub backup-begins : (p : LocalNode) (s : NodeState) (o : Option Lsp) (q : Option Leg) → NodeFits p s →
@@ -93,36 +93,28 @@ module _ (p : LocalNode) (s : NodeState) (W : Type 0) (fits : NodeFits p s) wher
       (λ e. told-fits m g (reported m.code) (leg-stands p s m.lsp g fits found) writable)
       (λ e. nothing-fits p s W fits)
 
-  -- Retry
+  -- Orders of a call that turned, or is to turn
 
-  retries-fit : (c : CallRec) → CallFits p c → AnswerFits p s W (retries s c)
-  retries-fit c here =
-      if_cases (AnswerFits p s W) (is_stuck c.state && (has_any c.work_reports && not (has_any c.back_reports))) _ _
-      (λ e. turn-fits p s s.legs W fits c (leg_of c.back s.legs) here
-      (backup-begins p s c.back (leg_of c.back s.legs) fits here.back refl))
+  -- an order changes a call that begins here, where its test holds; else nothing
+  ordered-fits : (n : CallNo) (from : NodeId) (c : CallRec) (test : Bool) (a : Answer) → find_call n s.calls ≡ Some c →
+      (CallFits p c → IfSome (leg_of c.back s.legs) (BeginsHere p s.legs) → AnswerFits p s W a) →
+      AnswerFits p s W (cond (nat_eq from.0 p.id.0) (cond test a nothing) nothing)
+  ordered-fits n from c test a found follows =
+      let here = found-one (CallFits p) (λ b. nat_eq b.call.0 n.0) s.calls c found fits.calls.each in
+      if_cases (AnswerFits p s W) (nat_eq from.0 p.id.0) _ _
+      (λ e. if_cases (AnswerFits p s W) test a nothing
+      (λ e. follows here (backup-begins p s c.back (leg_of c.back s.legs) fits here.back refl))
+      (λ e. nothing-fits p s W fits))
       (λ e. nothing-fits p s W fits)
 
   pub retry-fits : (n : CallNo) (from : NodeId) (o : Option CallRec) → find_call n s.calls ≡ o →
       AnswerFits p s W (retry_with p s from o)
   retry-fits n from None found = nothing-fits p s W fits
   retry-fits n from (Some c) found =
-      if_cases (AnswerFits p s W) (nat_eq from.0 p.id.0) _ _
-      (λ e. retries-fit c (found-one (CallFits p) (λ b. nat_eq b.call.0 n.0) s.calls c found fits.calls.each))
-      (λ e. nothing-fits p s W fits)
-
-  -- Revert
-
-  reverts-fit : (c : CallRec) → CallFits p c → AnswerFits p s W (reverts s c)
-  reverts-fit c here =
-      if_cases (AnswerFits p s W) (is_turned c.state && not (has_any c.work_reports)) _ _
-      (λ e. go_back-fits p s s.legs W fits c (leg_of c.back s.legs) here
-      (backup-begins p s c.back (leg_of c.back s.legs) fits here.back refl))
-      (λ e. nothing-fits p s W fits)
+      ordered-fits n from c _ _ found (turn-fits p s s.legs W fits c (leg_of c.back s.legs))
 
   pub revert-fits : (n : CallNo) (from : NodeId) (o : Option CallRec) → find_call n s.calls ≡ o →
       AnswerFits p s W (revert_with p s from o)
   revert-fits n from None found = nothing-fits p s W fits
   revert-fits n from (Some c) found =
-      if_cases (AnswerFits p s W) (nat_eq from.0 p.id.0) _ _
-      (λ e. reverts-fit c (found-one (CallFits p) (λ b. nat_eq b.call.0 n.0) s.calls c found fits.calls.each))
-      (λ e. nothing-fits p s W fits)
+      ordered-fits n from c _ _ found (go_back-fits p s s.legs W fits c (leg_of c.back s.legs))

@@ -4,8 +4,8 @@ use Rattle.std.specs.Prelude.{Option, Some, None, IfSome}
 use Rattle.ason_base.specs.Codes.{busy_code}
 use Rattle.ason_base.specs.Writable.{IsWritableRole}
 use Rattle.ason_base.specs.declared.calls.CallState.{CallState}
-use Rattle.ason_base.specs.declared.calls.CallState.TheVariants.{Asking, Guarded, Stuck, Turned}
-use Rattle.ason_base.specs.declared.calls.Cause.TheVariants.{BackDown, Code}
+use Rattle.ason_base.specs.declared.calls.CallState.TheVariants.{Asking, Guarded, Stuck, Turned, Turning}
+use Rattle.ason_base.specs.declared.calls.Cause.TheVariants.{BackDown, Code, Unset}
 use Rattle.ason_base.specs.declared.calls.Phase.{Phase}
 use Rattle.ason_base.specs.declared.calls.Phase.TheVariants.{Armed, Held}
 use Rattle.ason_base.specs.declared.messages.PathRole.{PathRole}
@@ -17,7 +17,7 @@ use Rattle.mesh_rules.specs.declared.changes.CallChange.TheVariants as call
 use Rattle.mesh_rules.specs.declared.changes.LegChange.TheVariants as leg
 use Rattle.mesh_rules.specs.declared.neighbours.Neighbour.{Neighbour}
 use Rattle.mesh_rules.specs.Activations.{path_to}
-use Rattle.mesh_rules.specs.Calls.{guarded, stuck, turning}
+use Rattle.mesh_rules.specs.Calls.{guarded, stuck}
 use Rattle.mesh_rules.specs.Changes.{nothing}
 use Rattle.mesh_rules.specs.Legs.{find_leg, following, is_beyond_asked, is_contended, is_held, is_in_use, with_phase}
 use Rattle.mesh_rules.specs.LocalNodes.{LocalNode}
@@ -92,20 +92,21 @@ module _ (p : LocalNode) (s : NodeState) (legs : List Leg) (W : Type 0) (fits : 
     leg-of : (b : Leg) → BeginsHere p legs b → LegFits p s.lsp b
     leg-of b stands = found-all (LegFits p s.lsp) b.lsp legs b stands.found fits.legs.each
 
-    -- the backup's leg, which has its labels, gets another phase with its call
-    moved-fit : (c : CallRec) (b : Leg) (f : Phase) (outs : List Out) → CallFits p c → BeginsHere p legs b →
-        is_beyond_asked b.phase ≡ true → is_beyond_asked f ≡ true → OneFits p outs →
+    -- the backup's leg, which has its labels, gets another phase, and its call another state
+    moved-fit : (c : CallRec) (state : CallState) (b : Leg) (f : Phase) (outs : List Out) → CallFits p c →
+        BeginsHere p legs b → is_beyond_asked b.phase ≡ true → is_beyond_asked f ≡ true → OneFits p outs →
         AnswerFits p (record s { legs = legs }) W (record nothing {
           legs = leg.Put (with_phase f b) ∷ [];
-          calls = call.Put c ∷ [];
+          calls = call.Put (record c { state = state; cause = Unset; ticks = 0 }) ∷ [];
           sent = outs;
         })
-    moved-fit c b f outs here stands beyond later sent = record {
+    moved-fit c state b f outs here stands beyond later sent = record {
       kept = record {
         legs =
             legs-changed p s.lsp (with_phase f b) b legs fits.legs stands.found
             (phase-fits p s.lsp f b (leg-of b stands) beyond later);
-        calls = calls-put p c s.calls fits.calls here;
+        calls = calls-put p (record c { state = state; cause = Unset; ticks = 0 }) s.calls fits.calls
+            (record { backup = here.backup; work = here.work; back = here.back });
         first = fits.first;
         numbers = fits.numbers;
       };
@@ -117,15 +118,13 @@ module _ (p : LocalNode) (s : NodeState) (legs : List Leg) (W : Type 0) (fits : 
     arms-fit : (c : CallRec) (b : Leg) → CallFits p c → BeginsHere p legs b → is_held b.phase ≡ true →
         AnswerFits p (record s { legs = legs }) W (arms c b)
     arms-fit c b here stands held =
-        moved-fit (turning c) b Armed (activating_path b (following b))
-        (record { backup = here.backup; work = here.work; back = here.back }) stands (held-beyond b.phase held) refl
+        moved-fit c Turning b Armed (activating_path b (following b)) here stands (held-beyond b.phase held) refl
         (activating-sent p s.lsp b (following b) (leg-of b stands) stands.begins refl)
 
     disarms-fit : (c : CallRec) (b : Leg) → CallFits p c → BeginsHere p legs b → is_in_use b.phase ≡ true →
         AnswerFits p (record s { legs = legs }) W (disarms c b)
     disarms-fit c b here stands in_use =
-        moved-fit (guarded c) b Held (taking_path b (following b))
-        (record { backup = here.backup; work = here.work; back = here.back }) stands (in_use-beyond b.phase in_use) refl
+        moved-fit c Guarded b Held (taking_path b (following b)) here stands (in_use-beyond b.phase in_use) refl
         (taking-sent p s.lsp b (following b) (leg-of b stands) stands.begins refl)
 
     pub turn-fits : (c : CallRec) (o : Option Leg) → CallFits p c → IfSome o (BeginsHere p legs) →
