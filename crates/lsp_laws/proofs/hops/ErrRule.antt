@@ -25,7 +25,7 @@ use Rattle.lsp_laws.proofs.hops.IdleHops.{no_path_down}
 use Rattle.lsp_laws.proofs.hops.Chain.{LegFits, Hop, Chain}
 use Rattle.lsp_laws.proofs.hops.Changed.{Sends}
 use Rattle.lsp_laws.proofs.hops.Sending.{sent_by, sends_none, sends_back}
-use Rattle.lsp_laws.proofs.hops.LegKinds.{same_of, asked_phase, armed_phase, torn_not_armed, torn_is_closing, torn_not_asked}
+use Rattle.lsp_laws.proofs.hops.LegKinds.{same_of, same_phase, torn_not_armed, torn_is_closing, torn_not_asked}
 use Rattle.lsp_laws.proofs.hops.LegChanges.{Before, before_or_first, held_fits, previous_is, previous_none, following_is}
 use Rattle.lsp_laws.proofs.hops.Activation.{contention_passes, disarms}
 use Rattle.lsp_laws.proofs.hops.Downstream.{asked_lets_go, torn_goes}
@@ -113,7 +113,7 @@ module _ (t : Network) (q : Purpose) (s : Mesh) (l : Lsp) (p : Plan) (i : ℕ) (
 
     goes : (leg_kind (Some g) ≡ AskedLeg) ⊎ IsTorn (role_of q) (leg_kind (Some g)) →
         Keeps (leg_removed g failure)
-    goes (inl asked) = let is = asked_phase g.phase asked in rw is (asked_goes is (before_or_first i))
+    goes (inl asked) = let is = same_phase g.phase Asked asked in rw is (asked_goes is (before_or_first i))
     goes (inr is_torn) =
         rw (torn_not_asked (role_of q) g.phase is_torn, torn_is_closing (role_of q) g.phase is_torn) (torn is_torn)
 
@@ -186,7 +186,7 @@ module _ (t : Network) (q : Purpose) (s : Mesh) (l : Lsp) (p : Plan) (i : ℕ) (
   err_keeps false eq (Some g) here =
       let fits : LegFits t q l p i g = rw here at (chain.fits i (omega arith)) in
       elim (contention_to (role_of q) _ _ _ _ (rw (here, eq) at hop.shape)) [
-        | inl armed ↦ (let is = armed_phase g.phase armed in
+        | inl armed ↦ (let is = same_phase g.phase Armed armed in
             let kept : Keeps (leg_contended g message) = again eq g here fits is (before_or_first i) in
             rw (following_is t q l p i g fits below, same (node_at p (suc i)).0) kept)
         | inr is_torn ↦ rw (

@@ -46,7 +46,7 @@ use Rattle.mesh_nodes.proofs.Alarms.{all-append}
 use Rattle.mesh_nodes.proofs.CallList.{all-calls_found}
 use Rattle.mesh_nodes.proofs.Cases.{both_left, both_right, if_cases}
 use Rattle.lsp_laws.specs.ReportLaw.{IsOfRoute}
-use Rattle.lsp_laws.proofs.nodes.CallMoves.{IsSameCall, to-guarded, to-stuck, to-turning, waits-more}
+use Rattle.lsp_laws.proofs.nodes.CallMoves.{IsSameCall, revised-call, to-guarded, to-stuck, to-turning, waits-more}
 use Rattle.lsp_laws.proofs.nodes.CallChanges.{ArePut, EachCall, MayGo}
 use Rattle.lsp_laws.proofs.nodes.CallsHold.{message-holds, protect-holds, release-holds}
 use Rattle.lsp_laws.proofs.nodes.SetupsHold.{setup-holds}
@@ -117,21 +117,9 @@ module _ (t : Network) (s : Mesh) (n : NodeId) (o : Routes) (f : EachFollows t s
         if_cases Puts (is_held b.phase) (turn_to legs c b) (call_put c)
         (λ h. if_cases Puts (is_contended legs b) (call_put (stuck c (Code busy_code))) (arms c b)
         (λ busy. same-puts (call_put (stuck c (Code busy_code))) c (stuck c (Code busy_code))
-        (record {
-          egress = refl;
-          protected = refl;
-          backup = refl;
-          work = inl refl;
-          moves = to-stuck (IsOfRoute t o) c (Code busy_code) refl;
-        }) here)
+        (revised-call (IsOfRoute t o) c _ refl refl refl refl (to-stuck (IsOfRoute t o) c (Code busy_code) refl)) here)
         (λ free. same-puts (arms c b) c (turning c)
-        (record {
-          egress = refl;
-          protected = refl;
-          backup = refl;
-          work = inl refl;
-          moves = to-turning (IsOfRoute t o) c;
-        }) here))
+        (revised-call (IsOfRoute t o) c _ refl refl refl refl (to-turning (IsOfRoute t o) c)) here))
         (λ h. same-puts (call_put c) c c (same-call t o c) here)
 
     back-puts : (a : Answer) (c : CallRec) (b : Option Leg) → IsGiven t o n c →
@@ -140,13 +128,7 @@ module _ (t : Network) (s : Mesh) (n : NodeId) (o : Routes) (f : EachFollows t s
     back-puts a c (Some b) here =
         if_cases (λ x. ArePut (IsGiven t (grown n o a) n) x.calls) (is_in_use b.phase) (disarms c b) (call_put c)
         (λ h. same-puts a c (guarded c)
-        (record {
-          egress = refl;
-          protected = refl;
-          backup = refl;
-          work = inl refl;
-          moves = to-guarded (IsOfRoute t o) c;
-        }) here)
+        (revised-call (IsOfRoute t o) c _ refl refl refl refl (to-guarded (IsOfRoute t o) c)) here)
         (λ h. same-puts a c c (same-call t o c) here)
 
     retry-puts : (from : NodeId) (k : CallNo) (c : Option CallRec) → find_call k (s.nodes n.0).calls ≡ c →

@@ -1,5 +1,5 @@
 -- A leg of a route that closes or is connected, its kind, and its neighbours.
-use Rattle.std.proofs.Common.{◌≡◌, ◌<◌, ◌≤◌, ℕ, zero, suc, true, refl, ap, ◌∙◌, inl, inr}
+use Rattle.std.proofs.Common.{◌≡◌, ◌<◌, ◌≤◌, ℕ, zero, suc, true, refl, sym, ap, ◌∙◌, inl, inr}
 use Rattle.std.specs.Prelude.{◌⊎◌, Option, Some, None}
 use Rattle.ason_base.specs.Labels.{has}
 use Rattle.ason_base.specs.Network.{Network}
@@ -63,21 +63,7 @@ module _ (t : Network) (q : Purpose) (l : Lsp) (p : Plan) where
       KeepsLabels (local_node t (node_at p i))
       (record g { phase = f; in_label = in_label; out_label = out_label; back_out = back_out }) →
       LegFits t q l p i (record g { phase = f; in_label = in_label; out_label = out_label; back_out = back_out })
-  altered_fits i g f in_label out_label back_out fits sent phase labels = record {
-    own = fits.own;
-    egress = fits.egress;
-    role = fits.role;
-    tells = fits.tells;
-    risks = fits.risks;
-    prev = fits.prev;
-    in_fibre = fits.in_fibre;
-    next = fits.next;
-    out_fibre = fits.out_fibre;
-    route = fits.route;
-    sent = sent;
-    phase = phase;
-    labels = labels;
-  }
+  altered_fits i g f in_label out_label back_out fits sent phase labels = assumption (fits, sent, phase, labels)
 
   pub closed_fits : (i : ℕ) (g : Leg) → LegFits t q l p i g → i < hops p → LegFits t q l p i (closed g)
   closed_fits i g fits small =
@@ -179,47 +165,6 @@ module _ (t : Network) (q : Purpose) (l : Lsp) (p : Plan) where
       go Carries phase = absurd phase
       go (Guards w r) phase = (small, phase.0, phase.1)
 
-  -- and Live
-  pub held_live_fits : (i : ℕ) (g : Leg) → LegFits t q l p i g → g.phase ≡ Held → LegFits t q l p i (with_phase Live g)
-  held_live_fits i g fits held =
-      phase_fits i g Live fits (go q (let phase = fits.phase in rw held at phase))
-    where
-      go : (q : Purpose) → PhaseFits q Held i (hops p) g.in_label g.out_label →
-          PhaseFits q Live i (hops p) g.in_label g.out_label
-      go Carries phase = absurd phase
-      go (Guards w r) phase = phase
-
-  -- an Armed leg may be Live
-  pub live_fits : (i : ℕ) (g : Leg) → LegFits t q l p i g → g.phase ≡ Armed → LegFits t q l p i (with_phase Live g)
-  live_fits i g fits armed =
-      phase_fits i g Live fits (go q (let phase = fits.phase in rw armed at phase))
-    where
-      go : (q : Purpose) → PhaseFits q Armed i (hops p) g.in_label g.out_label →
-          PhaseFits q Live i (hops p) g.in_label g.out_label
-      go Carries phase = absurd phase
-      go (Guards w r) phase = (phase.1, phase.2)
-
-  -- and Held again
-  pub held_fits : (i : ℕ) (g : Leg) → LegFits t q l p i g → g.phase ≡ Armed → LegFits t q l p i (with_phase Held g)
-  held_fits i g fits armed =
-      phase_fits i g Held fits (go q (let phase = fits.phase in rw armed at phase))
-    where
-      go : (q : Purpose) → PhaseFits q Armed i (hops p) g.in_label g.out_label →
-          PhaseFits q Held i (hops p) g.in_label g.out_label
-      go Carries phase = absurd phase
-      go (Guards w r) phase = (phase.1, phase.2)
-
-  -- a backup's Live leg may be Held again
-  pub live_held_fits : (i : ℕ) (g : Leg) → LegFits t q l p i g → g.phase ≡ Live → role_of q ≡ role.Back →
-      LegFits t q l p i (with_phase Held g)
-  live_held_fits i g fits live back =
-      phase_fits i g Held fits (go q back (let phase = fits.phase in rw live at phase))
-    where
-      go : (q : Purpose) → role_of q ≡ role.Back → PhaseFits q Live i (hops p) g.in_label g.out_label →
-          PhaseFits q Held i (hops p) g.in_label g.out_label
-      go Carries back phase = absurd (cc back)
-      go (Guards w r) back phase = phase
-
   -- an Armed leg is a backup's
   pub armed_role : (i : ℕ) (g : Leg) → LegFits t q l p i g → g.phase ≡ Armed → g.role ≡ role.Back
   armed_role i g fits armed = fits.role ∙ go q (let phase = fits.phase in rw armed at phase)
@@ -243,6 +188,31 @@ module _ (t : Network) (q : Purpose) (l : Lsp) (p : Plan) where
       go q Asked beyond phase = absurd cc
       go q Closing beyond phase = absurd cc
       go q Falling beyond phase = absurd cc
+
+  -- so it may be Live, a Held one as an Armed one
+  pub held_live_fits : (i : ℕ) (g : Leg) → LegFits t q l p i g → g.phase ≡ Held → LegFits t q l p i (with_phase Live g)
+  held_live_fits i g fits held = phase_fits i g Live fits (beyond_labels i g fits (ap is_beyond_asked held))
+
+  pub live_fits : (i : ℕ) (g : Leg) → LegFits t q l p i g → g.phase ≡ Armed → LegFits t q l p i (with_phase Live g)
+  live_fits i g fits armed = phase_fits i g Live fits (beyond_labels i g fits (ap is_beyond_asked armed))
+
+  -- and a backup's may be Held, a Live one as an Armed one
+  again_fits : (i : ℕ) (g : Leg) → LegFits t q l p i g → is_beyond_asked g.phase ≡ true → role_of q ≡ role.Back →
+      LegFits t q l p i (with_phase Held g)
+  again_fits i g fits beyond back = phase_fits i g Held fits (go q back (beyond_labels i g fits beyond))
+    where
+      go : (q : Purpose) → role_of q ≡ role.Back → HasIn i g.in_label × HasOut i (hops p) g.out_label →
+          PhaseFits q Held i (hops p) g.in_label g.out_label
+      go Carries back labels = absurd (cc back)
+      go (Guards w r) back labels = labels
+
+  pub held_fits : (i : ℕ) (g : Leg) → LegFits t q l p i g → g.phase ≡ Armed → LegFits t q l p i (with_phase Held g)
+  held_fits i g fits armed =
+      again_fits i g fits (ap is_beyond_asked armed) (sym fits.role ∙ armed_role i g fits armed)
+
+  pub live_held_fits : (i : ℕ) (g : Leg) → LegFits t q l p i g → g.phase ≡ Live → role_of q ≡ role.Back →
+      LegFits t q l p i (with_phase Held g)
+  live_held_fits i g fits live back = again_fits i g fits (ap is_beyond_asked live) back
 
   -- so a label in, away from the ingress
   pub in_label_is : (i : ℕ) (g : Leg) → LegFits t q l p (suc i) g → is_beyond_asked g.phase ≡ true →

@@ -9,7 +9,7 @@ use Rattle.ason_base.specs.declared.calls.Role.{Role}
 use Rattle.ason_base.specs.declared.calls.Role.TheVariants as role
 use Rattle.ason_base.specs.declared.tables.Leg.{Leg}
 use Rattle.mesh_rules.specs.Legs.{closing_phase, is_armed, is_asked, is_beyond_asked, is_closing, reserved}
-use Rattle.lsp_laws.specs.HopShapes.{NoLeg, AskedLeg, HeldLeg, ArmedLeg, LiveLeg, IsTorn, leg_kind, phase_kind}
+use Rattle.lsp_laws.specs.HopShapes.{NoLeg, HeldLeg, LiveLeg, IsTorn, leg_kind, phase_kind}
 use Rattle.mesh_nodes.proofs.LegList.{same_lsp-refl}
 use Rattle.lsp_laws.proofs.hops.RowStates.{Stands, AskedStands, HeldStands, ArmedStands, LiveStands, is_reserved, reserved_leg, torn_leg}
 
@@ -26,31 +26,25 @@ gone_none (Some g) h = go g.phase h
     go Asked h = cc
     go _ h = cc
 
-pub asked_phase : (f : Phase) → phase_kind f ≡ AskedLeg → f ≡ Asked
-asked_phase Asked e = refl
-asked_phase _ e = absurd cc
-
-pub live_phase : (f : Phase) → phase_kind f ≡ LiveLeg → f ≡ Live
-live_phase Live e = refl
-live_phase _ e = absurd cc
-
-pub armed_phase : (f : Phase) → phase_kind f ≡ ArmedLeg → f ≡ Armed
-armed_phase Armed e = refl
-armed_phase _ e = absurd cc
-
-pub held_phase : (f : Phase) → phase_kind f ≡ HeldLeg → f ≡ Held
-held_phase Held e = refl
-held_phase _ e = absurd cc
+-- a leg's kind tells its phase
+pub same_phase : (f g : Phase) → phase_kind f ≡ phase_kind g → f ≡ g
+same_phase Asked Asked e = refl
+same_phase Held Held e = refl
+same_phase Armed Armed e = refl
+same_phase Live Live e = refl
+same_phase Closing Closing e = refl
+same_phase Falling Falling e = refl
+same_phase _ _ e = absurd (cc e)
 
 -- there is a Held leg where the kind says so
 pub held_leg : (o : Option Leg) → leg_kind o ≡ HeldLeg → (g : Leg) × (o ≡ Some g) × (g.phase ≡ Held)
 held_leg None e = absurd cc
-held_leg (Some g) e = (g, refl, held_phase g.phase e)
+held_leg (Some g) e = (g, refl, same_phase g.phase Held e)
 
 -- there is a Live leg where the kind says so
 pub live_leg : (o : Option Leg) → leg_kind o ≡ LiveLeg → (g : Leg) × (o ≡ Some g) × (g.phase ≡ Live)
 live_leg None e = absurd cc
-live_leg (Some g) e = (g, refl, live_phase g.phase e)
+live_leg (Some g) e = (g, refl, same_phase g.phase Live e)
 
 pub beyond_reserved : (f : Phase) → is_beyond_asked f ≡ true → is_reserved (phase_kind f) ≡ true
 beyond_reserved Held e = refl
@@ -98,15 +92,8 @@ reserved_kind role.Work = refl
 reserved_kind role.Back = refl
 
 pub closing_kind : (f : Phase) (r : Role) → phase_kind (closing_phase f r) ≡ torn_leg r (phase_kind f)
-closing_kind Asked role.Work = refl
-closing_kind Asked role.Back = refl
-closing_kind Held role.Work = refl
-closing_kind Held role.Back = refl
-closing_kind Armed role.Work = refl
 closing_kind Armed role.Back = refl
-closing_kind Live role.Work = refl
 closing_kind Live role.Back = refl
-closing_kind Closing role.Work = refl
-closing_kind Closing role.Back = refl
-closing_kind Falling role.Work = refl
-closing_kind Falling role.Back = refl
+closing_kind Armed role.Work = refl
+closing_kind _ role.Back = refl
+closing_kind _ role.Work = refl

@@ -9,7 +9,6 @@ use Rattle.ason_base.specs.declared.ids.Lsp.{Lsp}
 use Rattle.ason_base.specs.declared.ids.NodeId.{NodeId}
 use Rattle.ason_base.specs.declared.steps.Step.{Step}
 use Rattle.ason_base.specs.declared.network.LinkSpec.{LinkSpec}
-use Rattle.ason_base.specs.declared.calls.CallState.TheVariants.{Guarded}
 use Rattle.ason_base.specs.Codes.{label_code}
 use Rattle.ason_base.specs.declared.calls.Cause.{Cause}
 use Rattle.ason_base.specs.declared.calls.Cause.TheVariants.{Code, Full, NoBackup, Spent}
@@ -37,15 +36,15 @@ use Rattle.mesh_nodes.specs.Routes.{AreRowsOf}
 use Rattle.mesh_nodes.proofs.Cases.{both_left, if_cases}
 use Rattle.mesh_nodes.proofs.routes.Beside.{found-beside}
 use Rattle.mesh_nodes.proofs.routes.Nodes.{known-are}
-use Rattle.lsp_laws.proofs.hops.Plans.{plan, node_at, fibre_at, IsRoute, lt_true, same_node}
+use Rattle.lsp_laws.proofs.hops.Plans.{Plan, plan, node_at, fibre_at, IsRoute, lt_true, same_node}
 use Rattle.lsp_laws.proofs.hops.LegChanges.{armed_role, previous_is}
 use Rattle.lsp_laws.proofs.hops.Purposes.{Purpose, Guards}
 use Rattle.lsp_laws.proofs.hops.Risks.{recorded-fit}
 use Rattle.lsp_laws.proofs.hops.Chain.{LegFits}
 use Rattle.lsp_laws.proofs.hops.Labels.{first_back_of_link}
 use Rattle.lsp_laws.proofs.hops.Own.{IsQuiet}
-use Rattle.lsp_laws.proofs.hops.Turned.{BackStands, decide_stepped}
-use Rattle.lsp_laws.proofs.hops.Planned.{Routes, Follows, EachFollows}
+use Rattle.lsp_laws.proofs.hops.Turned.{decide_stepped, guarded_fits}
+use Rattle.lsp_laws.proofs.hops.Planned.{Routes, Planned, Follows, EachFollows}
 use Rattle.lsp_laws.proofs.hops.Stepped.{EachStepped, starts_over, stepped_quiet}
 use Rattle.lsp_laws.proofs.hops.Begun.{begins_stepped}
 
@@ -81,17 +80,22 @@ whole-made t s o l n w (Some route) (e, q, pl) here stands =
     let fits : LegFits t q l (plan route e) 0 w = rw first at (pl.chain.fits 0 (omega arith)) in
     rw (fits.egress, along t l q n e route w here pl.route fits) pl.made
 
+-- a leg has a place on the route of its LSP
+leg_place : (t : Network) (s : Mesh) (o : Routes) (l : Lsp) (n : NodeId) (g : Leg) (q : Purpose) (p : Plan) →
+    Planned t s o l q p → leg_at s l n ≡ Some g → (i : ℕ) × (n ≡ node_at p i) × LegFits t q l p i g
+leg_place t s o l n g q p pl here = elim (pl.chain.legs n) [
+  | inl none ↦ absurd (cc (none, here))
+  | inr (i, small, at_n) ↦ (let is = same_node n (node_at p i) at_n in
+      let fits : LegFits t q l p i g = rw (← is, here) at (pl.chain.fits i small) in (i, is, fits))
+]
+
 -- an LSP begins where its leg has no previous node
 pub no_previous : (t : Network) (s : Mesh) (o : Routes) (l : Lsp) (n : NodeId) (g : Leg) (c : Option (List Step)) →
     Follows t s o l c → leg_at s l n ≡ Some g → previous g ≡ None → l.ingress ≡ n
 no_previous t s o l n g None f here first = absurd (let none = f.legs n in cc (none, here))
 no_previous t s o l n g (Some route) (e, q, pl) here first =
-    elim (pl.chain.legs n) [
-      | inl none ↦ absurd (cc (none, here))
-      | inr (i, small, at_n) ↦ (let is = same_node n (node_at (plan route e) i) at_n in
-          let fits : LegFits t q l (plan route e) i g =
-          rw (← is, here) at (pl.chain.fits i small) in sym (is ∙ at_place i fits ∙ pl.route.first))
-    ]
+    let there = leg_place t s o l n g q (plan route e) pl here in
+    sym (there.1 ∙ at_place there.0 there.2 ∙ pl.route.first)
   where
     at_place : (i : ℕ) → LegFits t q l (plan route e) i g →
         node_at (plan route e) i ≡ node_at (plan route e) 0
@@ -103,12 +107,8 @@ pub armed_backup : (t : Network) (s : Mesh) (o : Routes) (l : Lsp) (n : NodeId) 
     Follows t s o l c → leg_at s l n ≡ Some g → g.phase ≡ Armed → g.role ≡ role.Back
 armed_backup t s o l n g None f here armed = absurd (let none = f.legs n in cc (none, here))
 armed_backup t s o l n g (Some route) (e, q, pl) here armed =
-    elim (pl.chain.legs n) [
-      | inl none ↦ absurd (cc (none, here))
-      | inr (i, small, at_n) ↦ (let is = same_node n (node_at (plan route e) i) at_n in
-          let fits : LegFits t q l (plan route e) i g =
-          rw (← is, here) at (pl.chain.fits i small) in armed_role t q l (plan route e) i g fits armed)
-    ]
+    let there = leg_place t s o l n g q (plan route e) pl here in
+    armed_role t q l (plan route e) there.0 g there.2 armed
 
 -- A backup beside it
 
@@ -217,16 +217,8 @@ module _ (t : Network) (s : Mesh) (n : NodeId) (o : Routes) (f : EachFollows t s
         (λ protected. pair_stepped c g here (may c refl work protected) sent)
         (λ h. put_stepped (bare c)))
         (λ h. none_stepped))
-        (λ h. if_cases Steps (is_pairing c.state) _ _ (λ h. decide_stepped t s n o f st.legs (guarded c) (Some g) fits)
-        (λ h. none_stepped))
-      where
-        fits : (b : Leg) → Some g ≡ Some b → BackStands s n Guarded b
-        fits b is =
-            let one : g ≡ b = cc is in
-            subst (BackStands s n Guarded) one (record {
-              begins = record { there = stands; ingress = ap (λ (m : NodeId). m.0) here };
-              turned = λ e. absurd (cc e);
-            })
+        (λ h. if_cases Steps (is_pairing c.state) _ _ (λ h. decide_stepped t s n o f st.legs (guarded c) (Some g)
+        (guarded_fits s n g stands here)) (λ h. none_stepped))
 
     pub refused_stepped : (code : ErrCode) (called : Option CallRec) →
         EachStepped t s n o (call_refused code g called)

@@ -2,8 +2,11 @@
 use Rattle.std.proofs.Common.{◌≡◌, ◌≢◌, ◌<◌, ◌≤◌, ℕ, suc, true, false, nat_eq, nat_lt, List, [], ◌∷◌, length, drop, refl, sym, ap, ◌∙◌, subst, arith, append-nil}
 use Rattle.std.specs.Prelude.{Option, Some, None}
 use Rattle.ason_base.specs.Labels.{has, least, up_to}
-use Rattle.ason_base.specs.Network.{Network}
+use Rattle.ason_base.specs.Network.{Network, other_end}
+use Rattle.ason_base.specs.declared.calls.Phase.{Phase}
+use Rattle.ason_base.specs.declared.calls.Phase.TheVariants.{Asked}
 use Rattle.ason_base.specs.declared.codes.ErrCode.{ErrCode}
+use Rattle.ason_base.specs.declared.ids.Fibre.{Fibre}
 use Rattle.ason_base.specs.declared.ids.Lsp.{Lsp}
 use Rattle.ason_base.specs.declared.ids.NodeId.{NodeId}
 use Rattle.ason_base.specs.declared.ids.LinkId.{LinkId}
@@ -14,11 +17,11 @@ use Rattle.ason_base.specs.declared.messages.Msg.{Msg}
 use Rattle.ason_base.specs.declared.messages.Msg.TheVariants.{Path, Resv, PathErr}
 use Rattle.ason_base.specs.declared.tables.Leg.{Leg}
 use Rattle.mesh_rules.specs.Changes.{sends}
-use Rattle.mesh_rules.specs.LocalNodes.{labels_of, own_link, fibre_in}
+use Rattle.mesh_rules.specs.LocalNodes.{labels_of, own_link, fibre_in, fibre_out}
 use Rattle.mesh_rules.specs.KnownRows.{known_rows}
 use Rattle.mesh_rules.specs.Legs.{reserved}
 use Rattle.mesh_rules.specs.Paths.{back_label, is_none, is_primary_unknown, first_failure, checks}
-use Rattle.mesh_rules.specs.Paths.{error_to, egress_leg, set_on, transit_leg}
+use Rattle.mesh_rules.specs.Paths.{asked_leg, error_to, egress_leg, set_on, transit_leg}
 use Rattle.mesh_rules.specs.Paths.{offered_labels, risks_here, at_egress, in_transit, admitted, judged}
 use Rattle.mesh_rules.specs.Paths.{role_of as asked_role}
 use Rattle.mesh_rules.specs.Messages.{on_message}
@@ -26,6 +29,7 @@ use Rattle.mesh_rules.specs.Machine.{Mesh}
 use Rattle.mesh_nodes.proofs.ChosenLabels.{has-left, least-has}
 use Rattle.lsp_laws.specs.HopShapes.{PlainPath, path_kind, phase_kind}
 use Rattle.lsp_laws.specs.HopLaw.{messages_of, leg_at, mail_between}
+use Rattle.lsp_laws.specs.LabelLaw.{KeepsLabels}
 use Rattle.lsp_laws.proofs.hops.Plans.{Plan, hops, node_at, link_at, fibre_at, IsRoute, Leads, distinct, other, lt_true, lt_false, joined, own_near, own_far, fibre_in_is, fibre_out_is}
 use Rattle.lsp_laws.proofs.hops.Labels.{back_label_of_link, back_label_same, left_of_link}
 use Rattle.mesh_nodes.proofs.LegList.{same_lsp-refl}
@@ -34,7 +38,7 @@ use Rattle.mesh_nodes.proofs.routes.Nodes.{known-are}
 use Rattle.lsp_laws.proofs.hops.Purposes.{Purpose, Tells, role_of, tells_role, has_path, plain_inactive}
 use Rattle.lsp_laws.proofs.hops.Risks.{recorded-fit}
 use Rattle.lsp_laws.proofs.hops.RowStates.{reserved_leg}
-use Rattle.lsp_laws.proofs.hops.Chain.{Hop, IsVacant, Chain, RisksFit, asked_fits, no_label_in, reserved_fits}
+use Rattle.lsp_laws.proofs.hops.Chain.{Hop, IsVacant, Chain, LegFits, PhaseFits, RisksFit, asked_fits, next_at, out_fibre_at, no_label_in, reserved_fits}
 use Rattle.lsp_laws.proofs.hops.Sending.{sends_back, sends_on}
 use Rattle.lsp_laws.proofs.hops.LegKinds.{reserved_kind}
 use Rattle.lsp_laws.proofs.hops.Downstream.{path_last, path_passed, path_answered, path_refused}
@@ -127,6 +131,39 @@ module _ (t : Network) (q : Purpose) (s : Mesh) (l : Lsp) (p : Plan) (i : ℕ) (
           recorded-fit t q (known_rows place state) purpose (λ searchable. known-are t d state searchable learnt) what.3
           known
 
+      -- the leg that the Path makes, and that it fits its place as far as the rest of it does
+      abbrev came : Option NodeId → Option Fibre → List ℕ → List Step → Phase → Option ℕ → Option ℕ → Leg
+      came on out sent further f label back = record (asked_leg place asks over.link risks offered) {
+        next = on;
+        out_fibre = out;
+        sent = sent;
+        route = further;
+        phase = f;
+        in_label = label;
+        back_in = back;
+      }
+
+      came_fits : (on : Option NodeId) (out : Option Fibre) (sent : List ℕ) (further : List Step) (f : Phase)
+          (label back : Option ℕ) → on ≡ next_at p (suc i) → out ≡ out_fibre_at t p (suc i) →
+          further ≡ drop (suc (suc i)) p.route → PhaseFits q f (suc i) (hops p) label None →
+          KeepsLabels place (came on out sent further f label back) →
+          LegFits t q l p (suc i) (came on out sent further f label back)
+      came_fits on out sent further f label back leads leaves rest phase labels = record {
+        own = refl;
+        egress = what.0;
+        role = asked_for;
+        tells = what.3;
+        risks = recorded_here;
+        prev = refl;
+        in_fibre = ap Some enters;
+        next = leads;
+        out_fibre = leaves;
+        route = rest;
+        sent = tt;
+        phase = phase;
+        labels = labels;
+      }
+
       -- the leg has its label
       kind : phase_kind (reserved (asked_role purpose)) ≡ reserved_leg (role_of q)
       kind = ap (λ r. phase_kind (reserved r)) asked_for ∙ reserved_kind (role_of q)
@@ -143,33 +180,21 @@ module _ (t : Network) (q : Purpose) (s : Mesh) (l : Lsp) (p : Plan) (i : ℕ) (
           (at_egress place asks over.link risks offered (Some y))
           (Some (egress_leg place asks over.link risks offered y)) (Resv l e over.link.id y ∷ []) []
           (rw (same_lsp-refl l) refl) (sends_back t l l.ingress p route i (Resv l e over.link.id y) below own)
+          (came_fits None None [] [] (reserved (asked_role purpose)) (Some y) None (rw stop refl) (rw stop refl)
+          (drop-further (suc i) p.route done)
+          (rw asked_for (reserved_fits q (suc i) (hops p) (Some y) None (y, refl) (λ small. absurd (omega arith))))
           (record {
-            own = refl;
-            egress = what.0;
-            role = asked_for;
-            tells = what.3;
-            risks = recorded_here;
-            prev = refl;
-            in_fibre = ap Some enters;
-            next = rw stop refl;
-            out_fibre = rw stop refl;
-            route = drop-further (suc i) p.route done;
-            sent = tt;
-            phase = rw asked_for
-                (reserved_fits q (suc i) (hops p) (Some y) None (y, refl) (λ small. absurd (omega arith)));
-            labels = record {
-              one = λ keeps a b enters leaves. absurd (cc leaves);
-              of_link = λ f z on label.
-                  let fibre : fibre_in over.link d ≡ f = cc on in
-                  let is_y : y ≡ z = cc label in
-                  subst (λ f. has (up_to (labels_of (own_link place f.link))) z ≡ true) fibre
-                  (subst (λ z. has (up_to (labels_of (own_link place (fibre_in over.link d).link))) z ≡ true) is_y
-                  (left_of_link place state.legs (asked_role purpose) risks (fibre_in over.link d) set y
-                  (least-has offered y is)));
-              one_back = λ keeps a b enters leaves. absurd (cc enters);
-              back_of_link = λ f z on label. absurd (cc label);
-            };
-          })
+            one = λ keeps a b enters leaves. absurd (cc leaves);
+            of_link = λ f z on label.
+                let fibre : fibre_in over.link d ≡ f = cc on in
+                let is_y : y ≡ z = cc label in
+                subst (λ f. has (up_to (labels_of (own_link place f.link))) z ≡ true) fibre
+                (subst (λ z. has (up_to (labels_of (own_link place (fibre_in over.link d).link))) z ≡ true) is_y
+                (left_of_link place state.legs (asked_role purpose) risks (fibre_in over.link d) set y
+                (least-has offered y is)));
+            one_back = λ keeps a b enters leaves. absurd (cc enters);
+            back_of_link = λ f z on label. absurd (cc label);
+          }))
           (path_answered q p i (leg_at s l u) l e k r set label purpose (messages_of l rest) _ plain hop_here
           (egress_leg place asks over.link risks offered y) e over.link.id y kind refl refl
           (within y (least-has offered y is)) (over.id ∙ what.1))
@@ -191,23 +216,13 @@ module _ (t : Network) (q : Purpose) (s : Mesh) (l : Lsp) (p : Plan) (i : ℕ) (
           (in_transit place state asks over.link further (Some n.link)) (Some g) [] (m ∷ [])
           (rw (same_lsp-refl l) refl)
           (rw n.far (sends_on t l l.ingress p route (suc i) m small own))
-          (record {
-            own = refl;
-            egress = what.0;
-            role = asked_for;
-            tells = what.3;
-            risks = recorded_here;
-            prev = refl;
-            in_fibre = ap Some enters;
-            next = rw more (ap Some n.far);
-            out_fibre = rw more (ap Some (fibre_out_is t p (suc i)
-                (distinct t l.ingress p route (suc i) (suc (suc i)) (omega arith) (omega arith) (omega arith)) n));
-            route = is;
-            sent = tt;
-            phase = asked_fits q (suc i) (hops p) small;
-            labels = no_label_in place g refl (back_label_same place state asks n.link)
-                (back_label_of_link place state asks n.link);
-          })
+          (came_fits (Some (other_end n.link d)) (Some (fibre_out n.link d)) (set_on place n.link offered) further Asked
+          None back (rw more (ap Some n.far))
+          (rw more (ap Some (fibre_out_is t p (suc i)
+          (distinct t l.ingress p route (suc i) (suc (suc i)) (omega arith) (omega arith) (omega arith)) n)))
+          is (asked_fits q (suc i) (hops p) small)
+          (no_label_in place g refl (back_label_same place state asks n.link)
+          (back_label_of_link place state asks n.link)))
           (path_passed q p i (leg_at s l u) l e k r set label purpose (messages_of l rest) _ plain
           hop_here g refl refl within)
           (λ _. rw (

@@ -87,13 +87,22 @@ has_path (_ ∷ ms) = has_path ms
 
 -- Labels over a hop
 
+-- a label of a leg, where there is one
+abbrev label_of : (Leg → Option ℕ) → Option Leg → Option ℕ
+label_of label None = None
+label_of label (Some g) = label g
+
 abbrev pub out_label_of : Option Leg → Option ℕ
-out_label_of None = None
-out_label_of (Some g) = g.out_label
+out_label_of o = label_of (λ g. g.out_label) o
 
 abbrev pub in_label_of : Option Leg → Option ℕ
-in_label_of None = None
-in_label_of (Some g) = g.in_label
+in_label_of o = label_of (λ g. g.in_label) o
+
+abbrev pub back_in_of : Option Leg → Option ℕ
+back_in_of o = label_of (λ g. g.back_in) o
+
+abbrev pub back_out_of : Option Leg → Option ℕ
+back_out_of o = label_of (λ g. g.back_out) o
 
 abbrev pub LabelsMeet : Option ℕ → Option ℕ → Type 0
 LabelsMeet None y = Unit {0}
@@ -126,14 +135,6 @@ AnswerFits u d (Resv l e k x) = is_reserved (leg_kind d) ≡ true → (in_label_
 AnswerFits u d _ = Unit {0}
 
 -- The way back over a hop
-
-abbrev pub back_in_of : Option Leg → Option ℕ
-back_in_of None = None
-back_in_of (Some g) = g.back_in
-
-abbrev pub back_out_of : Option Leg → Option ℕ
-back_out_of None = None
-back_out_of (Some g) = g.back_out
 
 -- until d lets go, its label for the way back is the one that u takes; both have none where the LSP is one-way
 abbrev pub BackMeets : Option Leg → Option Leg → Type 0

@@ -19,7 +19,7 @@ use Rattle.mesh_rules.specs.State.{NodeState}
 use Rattle.mesh_rules.specs.ActivationAnswers.{is_confirmed}
 use Rattle.mesh_rules.specs.Changes.{Answer, nothing, puts, to_node}
 use Rattle.mesh_rules.specs.LocalNodes.{LocalNode, labels_of, local_node, own_link}
-use Rattle.mesh_rules.specs.Legs.{closed, connected, label_through, previous, usable, with_phase}
+use Rattle.mesh_rules.specs.Legs.{closed, connected, following, is_over, label_through, previous, usable, with_phase}
 use Rattle.mesh_rules.specs.Resvs.{is_expected, passed_back}
 use Rattle.mesh_rules.specs.Messages.{arrival}
 use Rattle.mesh_rules.specs.Machine.{Mesh}
@@ -35,7 +35,7 @@ use Rattle.lsp_laws.proofs.hops.Purposes.{Purpose, LabelsMeet, in_label_of, role
 use Rattle.lsp_laws.proofs.hops.Chain.{LegFits, Hop, Chain, in_fibre_at, no_label_in}
 use Rattle.lsp_laws.proofs.hops.Changed.{Sends}
 use Rattle.lsp_laws.proofs.hops.Sending.{sent_by, sends_none, sends_back, sends_on_back}
-use Rattle.lsp_laws.proofs.hops.LegKinds.{same_of, asked_phase, armed_phase, torn_not_armed, torn_not_asked}
+use Rattle.lsp_laws.proofs.hops.LegKinds.{same_of, same_phase, torn_not_armed, torn_not_asked}
 use Rattle.lsp_laws.proofs.hops.LegChanges.{Before, before_or_first, in_label_is, in_use_out, live_fits, closed_torn, closed_fits, connected_fits, connected_kind, previous_is, previous_none, following_is}
 use Rattle.lsp_laws.proofs.hops.Activation.{goes_live, live_answers}
 use Rattle.lsp_laws.proofs.hops.ActivationRule.{resv-is}
@@ -78,6 +78,11 @@ module _ (t : Network) (q : Purpose) (s : Mesh) (l : Lsp) (p : Plan) (i : ℕ) (
   module _ (g : Leg) (here : leg_at s l (node_at p i) ≡ Some g) (fits : LegFits t q l p i g) where
     mine : same_lsp g.lsp l ≡ true
     mine = same_of g.lsp l fits.own
+
+    -- it comes from the next node, over the link to it
+    from_next : is_over (following g) (node_at p (suc i)) k ≡ true
+    from_next =
+        rw (following_is t q l p i g fits below, same (node_at p (suc i)).0, over, same (link_at p i).0) refl
 
     kind : (label : Option ℕ) → leg_kind (Some (connected g label x)) ≡ reserved_leg (role_of q)
     kind label = connected_kind t q l p i g label x fits
@@ -188,15 +193,7 @@ module _ (t : Network) (q : Purpose) (s : Mesh) (l : Lsp) (p : Plan) (i : ℕ) (
       taken : Keeps (leg_of_resv place state came x (Some g))
       taken =
           let sent : has g.sent x ≡ true = resv_sent q p i _ _ _ g l e k x asked hop_of in
-          let test : is_expected came x g ≡ true =
-          rw (
-            asked,
-            following_is t q l p i g fits below,
-            same (node_at p (suc i)).0,
-            over,
-            same
-                (link_at p i).0,
-          ) sent in
+          let test : is_expected came x g ≡ true = rw (asked, from_next) sent in
           rw test (answers (before_or_first i))
 
     -- an Armed leg is Live
@@ -256,21 +253,13 @@ module _ (t : Network) (q : Purpose) (s : Mesh) (l : Lsp) (p : Plan) (i : ℕ) (
       confirms : Keeps (leg_of_resv place state came x (Some g))
       confirms =
           let waits : is_expected came x g ≡ false = rw armed refl in
-          let test : is_confirmed came x g ≡ true =
-          rw (
-            armed,
-            following_is t q l p i g fits below,
-            same (node_at p (suc i)).0,
-            over,
-            same (link_at p i).0,
-            its_label,
-          ) (same x) in
+          let test : is_confirmed came x g ≡ true = rw (armed, from_next, its_label) (same x) in
           rw (waits, test) (confirmed_at (before_or_first i))
 
     by_kind : (r : Role) (k : LegKind) → role_of q ≡ r → leg_kind (Some g) ≡ k → TakesResv r k →
         Keeps (leg_of_resv place state came x (Some g))
-    by_kind _ _ role is ByAsked = taken (asked_phase g.phase is)
-    by_kind _ _ role is ByArmed = confirms (armed_phase g.phase is)
+    by_kind _ _ role is ByAsked = taken (same_phase g.phase Asked is)
+    by_kind _ _ role is ByArmed = confirms (same_phase g.phase Armed is)
     by_kind r k role is (ByTorn torn) =
         let torn' : IsTorn (role_of q) (leg_kind (Some g)) = rw (role, is) torn in
         rw (torn_not_asked (role_of q) g.phase torn', torn_not_armed (role_of q) g.phase torn') (kept torn')

@@ -63,6 +63,10 @@ module _ (t : Network) (l : Lsp) (from : NodeId) (p : Plan) (route : IsRoute t f
       to b (inl e) = inr (inl (small, e))
       to b (inr ne) = inl (sent-past l (node_at p (suc j)) b m [] ne)
 
+  -- the nodes around a place are two
+  around : (i : ℕ) → suc i < hops p → (node_at p (suc (suc i))).0 ≢ (node_at p i).0
+  around i small = distinct t from p route (suc (suc i)) i (omega arith) (omega arith) (omega arith)
+
   -- one message goes back, and then one goes on
   pub sends_back_on : (i : ℕ) (m n : Msg) → suc i < hops p → is_message_of l m ≡ true → is_message_of l n ≡ true →
       Sends p (suc i) (sent_by l (to_node (node_at p i) m ∷ to_node (node_at p (suc (suc i))) n ∷ [])) (m ∷ []) (n ∷ [])
@@ -70,16 +74,14 @@ module _ (t : Network) (l : Lsp) (from : NodeId) (p : Plan) (route : IsRoute t f
     to_prev =
         λ k e. let q : k ≡ i =
         omega arith in rw q (sent-first l (node_at p i) m (to_node (node_at p (suc (suc i))) n ∷ []) own ∙ ap
-        (λ ms. m ∷ ms) (sent-past l (node_at p (suc (suc i))) (node_at p i) n [] (λ e. far (sym e))));
+        (λ ms. m ∷ ms) (sent-past l (node_at p (suc (suc i))) (node_at p i) n [] (λ e. around i small (sym e))));
     to_next =
-        λ more. sent-past l (node_at p i) (node_at p (suc (suc i))) m (to_node (node_at p (suc (suc i))) n ∷ []) far ∙
+        λ more. sent-past l (node_at p i) (node_at p (suc (suc i))) m (to_node (node_at p (suc (suc i))) n ∷ [])
+        (around i small) ∙
         sent-first l (node_at p (suc (suc i))) n [] own';
     goes = λ b. to b (is_or_not b.0 (node_at p i).0) (is_or_not b.0 (node_at p (suc (suc i))).0);
   }
     where
-      far : (node_at p (suc (suc i))).0 ≢ (node_at p i).0
-      far = distinct t from p route (suc (suc i)) i (omega arith) (omega arith) (omega arith)
-
       to : (b : NodeId) → (b.0 ≡ (node_at p i).0) ⊎ (b.0 ≢ (node_at p i).0) →
           (b.0 ≡ (node_at p (suc (suc i))).0) ⊎ (b.0 ≢ (node_at p (suc (suc i))).0) →
           (sent_by l (to_node (node_at p i) m ∷ to_node (node_at p (suc (suc i))) n ∷ []) b ≡ []) ⊎ IsNext p (suc i) b
@@ -96,16 +98,13 @@ module _ (t : Network) (l : Lsp) (from : NodeId) (p : Plan) (route : IsRoute t f
     to_prev =
         λ k e. let q : k ≡ i =
         omega arith in rw q (sent-past l (node_at p (suc (suc i))) (node_at p i) n (to_node (node_at p i) m ∷ [])
-        (λ e. far (sym e)) ∙ sent-first l (node_at p i) m [] own);
+        (λ e. around i small (sym e)) ∙ sent-first l (node_at p i) m [] own);
     to_next =
         λ more. sent-first l (node_at p (suc (suc i))) n (to_node (node_at p i) m ∷ []) own' ∙ ap (λ ms. n ∷ ms)
-        (sent-past l (node_at p i) (node_at p (suc (suc i))) m [] far);
+        (sent-past l (node_at p i) (node_at p (suc (suc i))) m [] (around i small));
     goes = λ b. to b (is_or_not b.0 (node_at p i).0) (is_or_not b.0 (node_at p (suc (suc i))).0);
   }
     where
-      far : (node_at p (suc (suc i))).0 ≢ (node_at p i).0
-      far = distinct t from p route (suc (suc i)) i (omega arith) (omega arith) (omega arith)
-
       to : (b : NodeId) → (b.0 ≡ (node_at p i).0) ⊎ (b.0 ≢ (node_at p i).0) →
           (b.0 ≡ (node_at p (suc (suc i))).0) ⊎ (b.0 ≢ (node_at p (suc (suc i))).0) →
           (sent_by l (to_node (node_at p (suc (suc i))) n ∷ to_node (node_at p i) m ∷ []) b ≡ []) ⊎ IsNext p (suc i) b

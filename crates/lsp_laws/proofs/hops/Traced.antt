@@ -34,7 +34,7 @@ use Rattle.lsp_laws.specs.HopLaw.{lsp_of, is_notice, leg_at}
 use Rattle.mesh_nodes.specs.Routes.{AreRowsOf}
 use Rattle.mesh_nodes.proofs.Cases.{both_left, if_cases}
 use Rattle.mesh_nodes.proofs.LegList.{found-lsp, same_lsp-refl}
-use Rattle.lsp_laws.proofs.nodes.PhaseLegs.{armed-is}
+use Rattle.mesh_nodes.proofs.Phases.{armed-is}
 use Rattle.lsp_laws.proofs.hops.Views.{leg-here}
 use Rattle.lsp_laws.proofs.hops.Tables.{leg_after}
 use Rattle.lsp_laws.proofs.hops.InParts.{leg_of_resv, leg_part, call_part, at_ingress, call_of_err, call_of_failure, call_of_notice, call_of_resv, in-parts, notice_here}
@@ -42,7 +42,7 @@ use Rattle.lsp_laws.proofs.hops.NoticeRule.{notice_only}
 use Rattle.lsp_laws.proofs.hops.Planned.{Routes, EachFollows}
 use Rattle.lsp_laws.proofs.hops.Stepped.{EachStepped, stepped_quiet, stepped_then}
 use Rattle.lsp_laws.proofs.hops.Paired.{CallsMayPair, MayPair, answered_stepped, armed_backup, refused_stepped, no_previous, whole-route}
-use Rattle.lsp_laws.proofs.hops.Turned.{BackStands, contended_stepped, decide_stepped, turned_stepped}
+use Rattle.lsp_laws.proofs.hops.Turned.{BackFits, BackStands, contended_stepped, decide_stepped, turned_stepped}
 use Rattle.lsp_laws.proofs.hops.TakenSteps.{CallsBackHere, after_leg, reported_state, take_begins_none, take_follows, take_next}
 
 -- At a Resv that its leg expects at the ingress, the leg is connected.
@@ -177,20 +177,24 @@ module _ (t : Network) (s : Mesh) (o : Routes) (d u : NodeId) (m : Msg) (rest : 
           leg-here (without_first s u.0 d.0) d l (leg_part (local_node t d) (s.nodes d.0) u m) ∙
           ap (λ cs. leg_after l cs (leg_at s l d)) (notice_only (local_node t d) (s.nodes d.0) u m notice).legs
 
-      reported_call : (l : Lsp) (down : Bool) (fibre : Fibre) (called : Option CallRec) →
-          call_with l (s.nodes d.0).calls ≡ called → Steps (call_reported (s.nodes d.0) l down fibre called)
-      reported_call l down fibre None is = quiet
-      reported_call l down fibre (Some c) is =
-          decide_stepped t (after_leg t s d u m) d o leg_follows (s.nodes d.0).legs (with_report c l down fibre)
-          (leg_of c.back (s.nodes d.0).legs)
-          (λ b back. subst (λ state. BackStands (after_leg t s d u m) d state b) (sym (reported_state c l down fibre))
-          (record {
+      pub reported_backs : (l : Lsp) (down : Bool) (fibre : Fibre) (c : CallRec) →
+          call_with l (s.nodes d.0).calls ≡ Some c →
+          BackFits (after_leg t s d u m) d (with_report c l down fibre).state (leg_of c.back (s.nodes d.0).legs)
+      reported_backs l down fibre c is b back =
+          subst (λ state. BackStands (after_leg t s d u m) d state b) (sym (reported_state c l down fibre)) (record {
             begins = record {
               there = still b.lsp ∙ (backs d l c is b back).begins.there;
               ingress = (backs d l c is b back).begins.ingress;
             };
             turned = (backs d l c is b back).turned;
-          }))
+          })
+
+      reported_call : (l : Lsp) (down : Bool) (fibre : Fibre) (called : Option CallRec) →
+          call_with l (s.nodes d.0).calls ≡ called → Steps (call_reported (s.nodes d.0) l down fibre called)
+      reported_call l down fibre None is = quiet
+      reported_call l down fibre (Some c) is =
+          decide_stepped t (after_leg t s d u m) d o leg_follows (s.nodes d.0).legs (with_report c l down fibre)
+          (leg_of c.back (s.nodes d.0).legs) (reported_backs l down fibre c is)
 
       reported_here : (g : Leg) (down : Bool) (fibre : Option Fibre) → Steps (reported_on (s.nodes d.0) g down fibre)
       reported_here g down None = quiet

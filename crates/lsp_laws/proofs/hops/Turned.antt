@@ -1,6 +1,6 @@
 -- A backup is activated at its ingress, and its activation is taken back there: what becomes of a call whose working
 -- LSP or backup is hit.
-use Rattle.std.proofs.Common.{◌≡◌, ◌<◌, ℕ, Bool, true, false, List, refl, sym, ◌∙◌, subst, arith}
+use Rattle.std.proofs.Common.{◌≡◌, ◌<◌, ℕ, Bool, true, false, List, refl, sym, ap, ◌∙◌, subst, arith}
 use Rattle.std.specs.Prelude.{Option, Some, None}
 use Rattle.ason_base.specs.Codes.{busy_code}
 use Rattle.ason_base.specs.Network.{Network}
@@ -18,17 +18,18 @@ use Rattle.ason_base.specs.declared.messages.Msg.TheVariants.{Path}
 use Rattle.ason_base.specs.declared.tables.CallRec.{CallRec}
 use Rattle.ason_base.specs.declared.tables.Leg.{Leg}
 use Rattle.mesh_rules.specs.declared.neighbours.Neighbour.{Neighbour}
+use Rattle.mesh_rules.specs.Activations.{taken_on}
 use Rattle.mesh_rules.specs.Calls.{guarded, is_turning, stuck, turned}
 use Rattle.mesh_rules.specs.CallSteps.{call_contended, call_turned}
 use Rattle.mesh_rules.specs.Changes.{Answer, nothing}
 use Rattle.mesh_rules.specs.Legs.{following, is_contended, is_held, is_in_use, with_phase}
 use Rattle.mesh_rules.specs.Machine.{Mesh, commit}
 use Rattle.mesh_rules.specs.State.{NodeState}
-use Rattle.mesh_rules.specs.Turns.{activating, activating_path, arms, call_put, decide, decided, disarms, go_back, has_any, taking_back, taking_path, turn}
+use Rattle.mesh_rules.specs.Turns.{activating, arms, call_put, decide, decided, disarms, go_back, has_any, taking_back, turn}
 use Rattle.lsp_laws.specs.HopShapes.{ActivePath, PlainPath, path_kind}
 use Rattle.lsp_laws.specs.HopLaw.{leg_at, mail_between}
 use Rattle.mesh_nodes.proofs.Cases.{if_cases}
-use Rattle.lsp_laws.proofs.nodes.PhaseLegs.{held-is}
+use Rattle.mesh_nodes.proofs.Phases.{held-is}
 use Rattle.lsp_laws.proofs.hops.Activation.{arms_on, takes_back_on}
 use Rattle.lsp_laws.proofs.hops.Stepped.{EachStepped}
 use Rattle.lsp_laws.proofs.hops.Chain.{Chain, LegFits, PhaseFits}
@@ -114,19 +115,16 @@ module _ (t : Network) (s : Mesh) (o : Routes) (c : CallRec) (l : Lsp) (q : Purp
       (fits.egress, refl, fits.route, path.tells) refl refl (λ gone. absurd (never gone)) hop)
 
 module _ (c : CallRec) (g : Leg) where
+  -- a Path of the leg goes to the next node, if there is one
+  own_path : (r : PathRole) (h : Option Neighbour) → AllSent g.lsp (taken_on g g.route r h)
+  own_path r None = tt
+  own_path r (Some h) = (refl, refl, tt)
+
   pub own_arms : IsOf g.lsp (arms c g)
-  own_arms = record { legs = (refl, tt); sent = to_next (following g) }
-    where
-      to_next : (h : Option Neighbour) → AllSent g.lsp (activating_path g h)
-      to_next None = tt
-      to_next (Some h) = (refl, refl, tt)
+  own_arms = record { legs = (refl, tt); sent = own_path (activating g.path_role) (following g) }
 
   pub own_disarms : IsOf g.lsp (disarms c g)
-  own_disarms = record { legs = (refl, tt); sent = to_next (following g) }
-    where
-      to_next : (h : Option Neighbour) → AllSent g.lsp (taking_path g h)
-      to_next None = tt
-      to_next (Some h) = (refl, refl, tt)
+  own_disarms = record { legs = (refl, tt); sent = own_path (taking_back g.path_role) (following g) }
 
 -- What a call knows of its backup's leg b, where it may turn or go back
 
@@ -137,6 +135,16 @@ pub record BackStands (s : Mesh) (n : NodeId) (state : CallState) (b : Leg) : Ty
 
 abbrev pub BackFits : Mesh → NodeId → CallState → Option Leg → Type 0
 BackFits s n state b = (g : Leg) → b ≡ Some g → BackStands s n state g
+
+-- the backup's leg of a guarded call stands where its LSP begins
+pub guarded_fits : (s : Mesh) (n : NodeId) (g : Leg) → leg_at s g.lsp n ≡ Some g → g.lsp.ingress ≡ n →
+    BackFits s n Guarded (Some g)
+guarded_fits s n g there here b is =
+    let one : g ≡ b = cc is in
+    subst (BackStands s n Guarded) one (record {
+      begins = record { there = there; ingress = ap (λ (m : NodeId). m.0) here };
+      turned = λ e. absurd (cc e);
+    })
 
 module _ (t : Network) (s : Mesh) (n : NodeId) (o : Routes) (f : EachFollows t s o) where
   abbrev Stays : Answer → Type 0

@@ -46,16 +46,22 @@ pub without-else : (s : Mesh) (u d a b : NodeId) (l : Lsp) → (a.0 ≢ u.0) ⊎
 without-else s u d a b l (inl h) = rw (other a.0 u.0 h) refl
 without-else s u d a b l (inr h) = rw (other b.0 d.0 h, and_false (nat_eq a.0 u.0)) refl
 
--- to take a message of another LSP, or a Notify, leaves those of this one
-pub without-other : (s : Mesh) (u d a b : NodeId) (m : Msg) (rest : List Msg) (l : Lsp) → s.mail u.0 d.0 ≡ m ∷ rest →
-    is_message_of l m ≡ false → mail_between (without_first s u.0 d.0) l a b ≡ mail_between s l a b
-without-other s u d a b m rest l was apart = go (nat_eq a.0 u.0) (nat_eq b.0 d.0) refl refl
+-- to take a message that isn't one of these leaves them
+without-these : (these : Msg → Bool) (s : Mesh) (u d a b : NodeId) (m : Msg) (rest : List Msg) →
+    s.mail u.0 d.0 ≡ m ∷ rest → these m ≡ false →
+    filter these ((without_first s u.0 d.0).mail a.0 b.0) ≡ filter these (s.mail a.0 b.0)
+without-these these s u d a b m rest was apart = go (nat_eq a.0 u.0) (nat_eq b.0 d.0) refl refl
   where
     go : (x y : Bool) → nat_eq a.0 u.0 ≡ x → nat_eq b.0 d.0 ≡ y →
-        messages_of l (cond (x && y) (drop 1 (s.mail a.0 b.0)) (s.mail a.0 b.0)) ≡ messages_of l (s.mail a.0 b.0)
+        filter these (cond (x && y) (drop 1 (s.mail a.0 b.0)) (s.mail a.0 b.0)) ≡ filter these (s.mail a.0 b.0)
     go true true e f = let p : a.0 ≡ u.0 = grind arith in let q : b.0 ≡ d.0 = grind arith in rw (p, q, was, apart) refl
     go true false e f = refl
     go false y e f = refl
+
+-- to take a message of another LSP, or a Notify, leaves those of this one
+pub without-other : (s : Mesh) (u d a b : NodeId) (m : Msg) (rest : List Msg) (l : Lsp) → s.mail u.0 d.0 ≡ m ∷ rest →
+    is_message_of l m ≡ false → mail_between (without_first s u.0 d.0) l a b ≡ mail_between s l a b
+without-other s u d a b m rest l was apart = without-these (is_message_of l) s u d a b m rest was apart
 
 -- Notifies
 
@@ -83,25 +89,24 @@ none-sent l d (o ∷ outs) h =
       | false ↦ more
     ]
 
--- an answer that sends none leaves them
-pub notices-plain : (s : Mesh) (n x b : NodeId) (l : Lsp) (a : Answer) → SendsNoNotice a.sent →
+-- an answer that sends none of this LSP's there leaves them
+pub notices-unsent : (s : Mesh) (n x b : NodeId) (l : Lsp) (a : Answer) → notices_of l (sent_to b.0 a.sent) ≡ [] →
     notices_between (commit s n.0 a) l x b ≡ notices_between s l x b
-notices-plain s n x b l a plain =
+notices-unsent s n x b l a unsent =
     elim (nat_eq x.0 n.0) as
     (λ t. notices_of l (cond t (s.mail x.0 b.0 ++ sent_to b.0 a.sent) (s.mail x.0 b.0)) ≡ notices_between s l x b) [
       | true ↦
           filter-append _ (s.mail x.0 b.0) (sent_to b.0 a.sent) ∙
-          rw (none-sent l b.0 a.sent plain, append-nil) refl
+          rw (unsent, append-nil) refl
       | false ↦ refl
     ]
+
+-- and so does one that sends none at all
+pub notices-plain : (s : Mesh) (n x b : NodeId) (l : Lsp) (a : Answer) → SendsNoNotice a.sent →
+    notices_between (commit s n.0 a) l x b ≡ notices_between s l x b
+notices-plain s n x b l a plain = notices-unsent s n x b l a (none-sent l b.0 a.sent plain)
 
 -- to take a message that isn't one of this LSP's Notifies leaves them
 pub notices-without : (s : Mesh) (u d a b : NodeId) (m : Msg) (rest : List Msg) (l : Lsp) → s.mail u.0 d.0 ≡ m ∷ rest →
     is_notice_of l m ≡ false → notices_between (without_first s u.0 d.0) l a b ≡ notices_between s l a b
-notices-without s u d a b m rest l was apart = go (nat_eq a.0 u.0) (nat_eq b.0 d.0) refl refl
-  where
-    go : (x y : Bool) → nat_eq a.0 u.0 ≡ x → nat_eq b.0 d.0 ≡ y →
-        notices_of l (cond (x && y) (drop 1 (s.mail a.0 b.0)) (s.mail a.0 b.0)) ≡ notices_of l (s.mail a.0 b.0)
-    go true true e f = let p : a.0 ≡ u.0 = grind arith in let q : b.0 ≡ d.0 = grind arith in rw (p, q, was, apart) refl
-    go true false e f = refl
-    go false y e f = refl
+notices-without s u d a b m rest l was apart = without-these (is_notice_of l) s u d a b m rest was apart

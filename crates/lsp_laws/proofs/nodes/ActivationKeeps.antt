@@ -21,7 +21,7 @@ use Rattle.mesh_rules.specs.ActivationAnswers.{confirmed, contended, disarmed, i
 use Rattle.mesh_rules.specs.Activations.{armed_on, path_again}
 use Rattle.mesh_rules.specs.CallSteps.{call_contended, call_turned}
 use Rattle.mesh_rules.specs.Calls.{call_with, find_call, is_turning}
-use Rattle.mesh_rules.specs.Changes.{changed, followed_by, puts}
+use Rattle.mesh_rules.specs.Changes.{Answer, changed, followed_by, puts}
 use Rattle.mesh_rules.specs.Legs.{find_leg, following, is_active_backup, is_armed, is_beyond_asked, is_closing, is_contended, is_held, is_over, is_work, leg_of, previous, with_leg, with_phase}
 use Rattle.mesh_rules.specs.LocalNodes.{LocalNode}
 use Rattle.mesh_rules.specs.Paths.{PathRequest, path_with}
@@ -30,6 +30,7 @@ use Rattle.mesh_rules.specs.Turns.{decide}
 use Rattle.mesh_nodes.proofs.Cases.{both_left, both_right, if_cases, not-true}
 use Rattle.mesh_nodes.proofs.FitLists.{in_use-beyond}
 use Rattle.mesh_nodes.proofs.LegList.{find-with_leg, found-lsp}
+use Rattle.mesh_nodes.proofs.Phases.{armed-is, held-is}
 use Rattle.lsp_laws.specs.CallLaw.{fits, phase_of}
 use Rattle.lsp_laws.proofs.nodes.Facts.{LegFacts, NodeFacts}
 use Rattle.lsp_laws.proofs.nodes.CallKeeps.{back-is, call-found, is-backup, must_have_call}
@@ -39,7 +40,7 @@ use Rattle.lsp_laws.proofs.nodes.LegEnds.{has_previous-away, no_previous-here, p
 use Rattle.lsp_laws.proofs.nodes.LegParts.{LegPart, MayStand, part-with_leg}
 use Rattle.lsp_laws.proofs.nodes.Parts.{keeps-leg, leg_part}
 use Rattle.lsp_laws.proofs.nodes.PathKeeps.{Keeps, keeps-first}
-use Rattle.lsp_laws.proofs.nodes.PhaseLegs.{armed-back, armed-is, held-back, held-is, stands-alone, stands-unmarked}
+use Rattle.lsp_laws.proofs.nodes.PhaseLegs.{armed-back, held-back, stands-alone, stands-unmarked}
 use Rattle.lsp_laws.proofs.nodes.States.{Row}
 use Rattle.lsp_laws.proofs.nodes.States as states
 
@@ -146,31 +147,30 @@ module _ (p : LocalNode) (s : NodeState) (g : Leg) (facts : NodeFacts p.id.0 s)
       must-have : call_with g.lsp s.calls ≡ None → ⊥
       must-have none = must_have_call p.id.0 s g facts here (ap is_closing in-phase) begins none
 
-    keeps-confirmed : (o : Option Neighbour) → previous g ≡ o → Keeps p s (confirmed s g o)
-    keeps-confirmed (Some h) before = away-phase Live h refl before
-    keeps-confirmed None before = go (call_with g.lsp s.calls) refl
+    -- where it begins here its call follows by this rule
+    follows : (f : Phase) → is_beyond_asked f ≡ true → previous g ≡ None → (rule : Option CallRec → Answer) →
+        ((begins : g.lsp.ingress.0 ≡ p.id.0) (c : CallRec) → call_with g.lsp s.calls ≡ Some c →
+        Keeps p s (followed_by (puts (with_phase f g) []) (rule (Some c)))) →
+        Keeps p s (followed_by (puts (with_phase f g) []) (rule (call_with g.lsp s.calls)))
+    follows f later before rule each = go (call_with g.lsp s.calls) refl
       where
         begins : g.lsp.ingress.0 ≡ p.id.0
         begins = no_previous-here p.id.0 s.lsp g leg before
 
         go : (o : Option CallRec) → call_with g.lsp s.calls ≡ o →
-            Keeps p s (followed_by (puts (with_phase Live g) []) (call_turned s (with_phase Live g) o))
-        go None none = absurd (must-have Live refl begins none)
-        go (Some c) called =
-            rw (turns Live refl begins c called) (decides Live refl begins c called Turned Unset refl)
+            Keeps p s (followed_by (puts (with_phase f g) []) (rule o))
+        go None none = absurd (must-have f later begins none)
+        go (Some c) called = each begins c called
+
+    keeps-confirmed : (o : Option Neighbour) → previous g ≡ o → Keeps p s (confirmed s g o)
+    keeps-confirmed (Some h) before = away-phase Live h refl before
+    keeps-confirmed None before = follows Live refl before (call_turned s (with_phase Live g)) (λ begins c called.
+        rw (turns Live refl begins c called) (decides Live refl begins c called Turned Unset refl))
 
     keeps-disarmed : (m : Msg) (o : Option Neighbour) → previous g ≡ o → Keeps p s (disarmed s g m o)
     keeps-disarmed m (Some h) before = away-phase Held h refl before
-    keeps-disarmed m None before = go (call_with g.lsp s.calls) refl
-      where
-        begins : g.lsp.ingress.0 ≡ p.id.0
-        begins = no_previous-here p.id.0 s.lsp g leg before
-
-        go : (o : Option CallRec) → call_with g.lsp s.calls ≡ o →
-            Keeps p s (followed_by (puts (with_phase Held g) []) (call_contended s (with_phase Held g) o))
-        go None none = absurd (must-have Held refl begins none)
-        go (Some c) called =
-            rw (turns Held refl begins c called) (decides Held refl begins c called Stuck (Code busy_code) refl)
+    keeps-disarmed m None before = follows Held refl before (call_contended s (with_phase Held g)) (λ begins c called.
+        rw (turns Held refl begins c called) (decides Held refl begins c called Stuck (Code busy_code) refl))
 
 pub keeps-resv_again : (p : LocalNode) (s : NodeState) (a : Arrival) (x : ℕ) (g : Leg) → NodeFacts p.id.0 s →
     find_leg g.lsp s.legs ≡ Some g → Keeps p s (resv_again s a x g)

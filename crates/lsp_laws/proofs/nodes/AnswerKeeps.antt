@@ -5,7 +5,6 @@ use Rattle.ason_base.specs.Labels.{has}
 use Rattle.ason_base.specs.declared.ids.Lsp.{Lsp}
 use Rattle.ason_base.specs.declared.ids.Fibre.{Fibre}
 use Rattle.ason_base.specs.declared.ids.NodeId.{NodeId}
-use Rattle.ason_base.specs.declared.calls.Phase.{Phase}
 use Rattle.ason_base.specs.declared.calls.Phase.TheVariants.{Asked}
 use Rattle.ason_base.specs.declared.tables.Leg.{Leg}
 use Rattle.ason_base.specs.declared.tables.Out.{Out}
@@ -21,6 +20,7 @@ use Rattle.mesh_nodes.proofs.Cases.{if_cases, both_left, both_right}
 use Rattle.mesh_nodes.proofs.ChosenLabels.{through-has}
 use Rattle.lsp_laws.proofs.nodes.Facts.{NodeFacts}
 use Rattle.mesh_nodes.proofs.LegList.{found-lsp}
+use Rattle.mesh_nodes.proofs.Phases.{asked-is}
 use Rattle.lsp_laws.proofs.nodes.ConnectedLegs.{beside, alone_fibre, connected-stands, ingress-stands, ingress-takes}
 use Rattle.lsp_laws.proofs.nodes.ActivationKeeps.{keeps-contended, keeps-resv_again}
 use Rattle.lsp_laws.proofs.nodes.CallStepKeeps.{keeps-connected_here, keeps-refused_here}
@@ -28,10 +28,6 @@ use Rattle.lsp_laws.proofs.nodes.ClosedLegs.{closed-stands}
 use Rattle.lsp_laws.proofs.nodes.LegEnds.{has_previous-away, no_previous-here, over-some, previous-away}
 use Rattle.lsp_laws.proofs.nodes.Parts.{call_part, leg_part, unnamed-away, unnamed-torn, keeps-leg, keeps-gone}
 use Rattle.lsp_laws.proofs.nodes.PathKeeps.{Keeps}
-
-pub asked-is : (f : Phase) → is_asked f ≡ true → f ≡ Asked
-asked-is Asked e = refl
-asked-is _ e = absurd (cc e)
 
 -- Resv
 

@@ -3,11 +3,12 @@ use Rattle.std.proofs.Common.{◌≡◌, true, false, not, refl, ap, subst, ◌�
 use Rattle.std.specs.Prelude.{◌&&◌, Option, Some, None, is_some}
 use Rattle.std.proofs.Math.Bool.{and-false}
 use Rattle.ason_base.specs.declared.calls.Phase.{Phase}
-use Rattle.ason_base.specs.declared.calls.Phase.TheVariants.{Asked, Held, Armed, Live, Closing, Falling}
+use Rattle.ason_base.specs.declared.calls.Phase.TheVariants.{Held, Armed, Live}
 use Rattle.ason_base.specs.declared.calls.Role.{Role}
 use Rattle.ason_base.specs.declared.calls.Role.TheVariants.{Work, Back}
 use Rattle.ason_base.specs.declared.tables.Leg.{Leg}
 use Rattle.mesh_rules.specs.Legs.{closed, closing_phase, is_beyond_asked, is_closing, reserved}
+use Rattle.mesh_nodes.proofs.Phases.{of-closing}
 use Rattle.lsp_laws.specs.LabelLaw.{HasBackLabels}
 
 -- Phases
@@ -23,14 +24,7 @@ reserved-stands Work = refl
 reserved-stands Back = refl
 
 pub closed-closing : (f : Phase) (r : Role) → is_closing (closing_phase f r) ≡ true
-closed-closing Asked r = refl
-closed-closing Held r = refl
-closed-closing Armed Work = refl
-closed-closing Armed Back = refl
-closed-closing Live Work = refl
-closed-closing Live Back = refl
-closed-closing Closing r = refl
-closed-closing Falling r = refl
+closed-closing f r = of-closing (λ q. is_closing q ≡ true) refl refl f r
 
 -- Back labels
 

@@ -10,7 +10,6 @@ use Rattle.ason_base.specs.declared.ids.Fibre.{Fibre}
 use Rattle.ason_base.specs.declared.ids.LinkId.{LinkId}
 use Rattle.ason_base.specs.declared.ids.Lsp.{Lsp}
 use Rattle.ason_base.specs.declared.ids.NodeId.{NodeId}
-use Rattle.ason_base.specs.declared.messages.Msg.TheVariants.{Path, Resv, PathTear, PathErr, Notify}
 use Rattle.ason_base.specs.declared.messages.Msg.{Msg}
 use Rattle.ason_base.specs.declared.messages.PathRole.TheVariants as path
 use Rattle.ason_base.specs.declared.messages.PathRole.{PathRole}
@@ -31,7 +30,7 @@ use Rattle.mesh_rules.specs.Calls.{call_with, find_call, is_bare, is_stuck, is_t
 use Rattle.mesh_rules.specs.Changes.{Answer}
 use Rattle.mesh_rules.specs.Legs.{connected, find_leg, following, is_active_backup, is_armed, is_asked, is_closing, is_contended, is_held, is_node, is_over, label_through, leg_of, previous, with_phase}
 use Rattle.mesh_rules.specs.LocalNodes.{LocalNode, leads, own_link}
-use Rattle.mesh_rules.specs.Messages.{arrival, on_message}
+use Rattle.mesh_rules.specs.Messages.{on_message}
 use Rattle.mesh_rules.specs.Notifies.{Notice, notice_passed, notice_told, notify_with}
 use Rattle.mesh_rules.specs.Pairs.{route_from}
 use Rattle.mesh_rules.specs.PathErrs.{PathFailure, err_passed, path_err_with}
@@ -50,6 +49,7 @@ use Rattle.mesh_nodes.specs.Order.{CallsRise}
 use Rattle.mesh_nodes.proofs.Cases.{both_right, if_cases}
 use Rattle.mesh_nodes.proofs.LegList.{found-lsp}
 use Rattle.mesh_nodes.proofs.CallList.{all-calls_found}
+use Rattle.mesh_nodes.proofs.ByKind.{by-message}
 use Rattle.lsp_laws.proofs.nodes.CallMoves.{IsLone, IsSameCall, bare-lone, moves-none, revised-call, waits-more}
 use Rattle.lsp_laws.proofs.nodes.CallChanges.{AreChanges, EachCall, put-both}
 use Rattle.lsp_laws.proofs.nodes.CallSteps.{holds-call_answered, holds-call_contended, holds-call_refused, holds-call_reported, holds-call_turned, holds-go_back, holds-pair, holds-turn, stays}
@@ -185,16 +185,10 @@ module _ (Rep : Lsp → Fibre → Type 0) (G : CallNo → Type 0) (P R : CallRec
       (subst (λ l. find_leg l s.legs ≡ Some g) (sym (found-lsp m.lsp s.legs g found)) found)) (λ e. tt)
 
   pub message-holds : (u : NodeId) (m : Msg) → Holds (on_message p s u m)
-  message-holds u (Path l e k route set up r) =
-      holds-path (record { arrival = arrival l e u k; route = route; set = set; upstream = up; role = r })
-      (find_leg l s.legs)
-  message-holds u (Resv l e k x) = holds-resv (arrival l e u k) x (find_leg l s.legs)
-  message-holds u (PathTear l e k) = holds-tear (arrival l e u k) (find_leg l s.legs)
-  message-holds u (PathErr l e at gone code) =
-      holds-err u (record { lsp = l; msg = PathErr l e at gone code; removed = gone; code = code }) (find_leg l s.legs)
-  message-holds u (Notify l e at k code) =
-      holds-notify u (record { lsp = l; msg = Notify l e at k code; at = at; link = k; code = code })
-      (find_leg l s.legs) refl
+  message-holds u =
+      by-message Holds p s u (λ m. holds-path m (find_leg m.arrival.lsp s.legs))
+      (λ a x. holds-resv a x (find_leg a.lsp s.legs)) (λ a. holds-tear a (find_leg a.lsp s.legs))
+      (λ e. holds-err u e (find_leg e.lsp s.legs)) (λ m. holds-notify u m (find_leg m.lsp s.legs) refl)
 
   -- Orders of calls that are there
 

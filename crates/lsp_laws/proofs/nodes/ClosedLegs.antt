@@ -10,30 +10,17 @@ use Rattle.ason_base.specs.declared.calls.Role.TheVariants.{Work, Back}
 use Rattle.ason_base.specs.declared.tables.Leg.{Leg}
 use Rattle.mesh_rules.specs.Legs.{closed, closing_phase, find_leg, is_armed, is_at, is_held, is_marked, is_marking, is_work, reverse_of, sends, takes, uses}
 use Rattle.mesh_nodes.proofs.LabelPlaces.{either, none-at, or-first, or-second}
+use Rattle.mesh_nodes.proofs.Phases.{of-closing}
 use Rattle.lsp_laws.proofs.nodes.BackLabels.{back-closed}
 use Rattle.lsp_laws.proofs.nodes.Facts.{FitsPhase, LegFacts}
 use Rattle.lsp_laws.proofs.nodes.LegParts.{altered-facts, LegPart, MayStand}
 use Rattle.lsp_laws.proofs.nodes.Marks.{may-keep}
 
 phase_closed : (f : Phase) (r : Role) (g : Leg) → IsTrue (is_some g.next) → FitsPhase (closing_phase f r) (closed g)
-phase_closed Asked r g next = (refl, next)
-phase_closed Held r g next = (refl, next)
-phase_closed Armed Work g next = (refl, next)
-phase_closed Armed Back g next = (refl, next)
-phase_closed Live Work g next = (refl, next)
-phase_closed Live Back g next = (refl, next)
-phase_closed Closing r g next = (refl, next)
-phase_closed Falling r g next = (refl, next)
+phase_closed f r g next = of-closing (λ q. FitsPhase q (closed g)) (refl, next) (refl, next) f r
 
 closed-idle : (f : Phase) (r : Role) → (is_held (closing_phase f r) || is_armed (closing_phase f r)) ≡ true → ⊥
-closed-idle Asked r e = cc e
-closed-idle Held r e = cc e
-closed-idle Armed Work e = cc e
-closed-idle Armed Back e = cc e
-closed-idle Live Work e = cc e
-closed-idle Live Back e = cc e
-closed-idle Closing r e = cc e
-closed-idle Falling r e = cc e
+closed-idle f r = of-closing (λ q. (is_held q || is_armed q) ≡ true → ⊥) (λ e. cc e) (λ e. cc e) f r
 
 closed-facts : (n next : ℕ) (g : Leg) → IsTrue (is_some g.next) → LegFacts n next g → LegFacts n next (closed g)
 closed-facts n next g goes_on facts =

@@ -23,7 +23,7 @@ use Rattle.mesh_rules.specs.Legs.{find_leg, following, is_contended, is_held, is
 use Rattle.mesh_rules.specs.Pairs.{is_two_way}
 use Rattle.mesh_rules.specs.State.{NodeState}
 use Rattle.mesh_rules.specs.Turns.{activating_path, arms, call_put, decide, decided, disarms, go_back, has_any, taking_path, turn}
-use Rattle.mesh_nodes.proofs.Cases.{if_cases}
+use Rattle.mesh_nodes.proofs.Cases.{false-unless, if_cases}
 use Rattle.mesh_nodes.proofs.LegList.{find-with_leg, same_lsp-eq, same_lsp-refl}
 use Rattle.lsp_laws.specs.CallLaw.{FitsLegs, GuardsWork, IsNamed, fits, fits_reports, phase_of}
 use Rattle.lsp_laws.proofs.nodes.Facts.{NodeFacts}
@@ -68,17 +68,13 @@ module _ (n : ℕ) (s : NodeState) (facts : NodeFacts n s) (c : CallRec) (found 
 
   -- the working LSP is another one
   work-apart : (m : Lsp) → c.work ≡ Some m → same_lsp g.lsp m ≡ false
-  work-apart m work = go (same_lsp g.lsp m) refl
-    where
-      go : (b : Bool) → same_lsp g.lsp m ≡ b → b ≡ false
-      go false e = refl
-      go true e =
-          let there : find_leg m s.legs ≡ Some g =
-          subst (λ k. find_leg k s.legs ≡ Some g) (same_lsp-eq g.lsp m e) here in
-          let role : g.role ≡ Work = (named-leg n s.lsp s.legs Work c.egress m g
-          (named-lsp n s.lsp s.legs Work c.egress c.work m fit.work work) there).0 in
-          let mine : g.role ≡ Back = own.0 in
-          absurd (cc (role, mine))
+  work-apart m work = false-unless (same_lsp g.lsp m) (λ e.
+      let there : find_leg m s.legs ≡ Some g =
+      subst (λ k. find_leg k s.legs ≡ Some g) (same_lsp-eq g.lsp m e) here in
+      let role : g.role ≡ Work = (named-leg n s.lsp s.legs Work c.egress m g
+      (named-lsp n s.lsp s.legs Work c.egress c.work m fit.work work) there).0 in
+      let mine : g.role ≡ Back = own.0 in
+      cc (role, mine))
 
   -- The leg is in the phase f with these labels, and all others stay
 

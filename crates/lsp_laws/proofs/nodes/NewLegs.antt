@@ -1,11 +1,13 @@
 -- The legs that rules make may stand: they have the facts of a leg, and a label that they take is usable for them.
-use Rattle.std.proofs.Common.{◌≡◌, ◌<◌, ℕ, Bool, true, false, not, nat_eq, List, refl, sym, ap, subst, ◌∙◌, arith, inl, inr}
-use Rattle.std.specs.Prelude.{◌⊎◌, ◌&&◌, ◌||◌, Option, Some, None, is_some}
+use Rattle.std.proofs.Common.{◌≡◌, ◌<◌, ℕ, Bool, true, false, not, nat_eq, List, [], refl, sym, ap, subst, ◌∙◌, arith, inl, inr}
+use Rattle.std.specs.Prelude.{◌⊎◌, ◌&&◌, ◌||◌, Option, Some, None, IfSome, is_some}
 use Rattle.std.proofs.Math.Bool.{and-false, and-true}
 use Rattle.ason_base.specs.Labels.{has}
 use Rattle.ason_base.specs.declared.ids.Fibre.{Fibre}
+use Rattle.ason_base.specs.declared.ids.NodeId.{NodeId}
 use Rattle.ason_base.specs.declared.network.LinkSpec.{LinkSpec}
 use Rattle.ason_base.specs.declared.steps.Step.{Step}
+use Rattle.ason_base.specs.declared.calls.Phase.{Phase}
 use Rattle.ason_base.specs.declared.calls.Phase.TheVariants.{Asked}
 use Rattle.ason_base.specs.declared.calls.Role.{Role}
 use Rattle.ason_base.specs.declared.calls.Role.TheVariants.{Work, Back}
@@ -16,10 +18,11 @@ use Rattle.mesh_rules.specs.KnownRows.{known_rows}
 use Rattle.mesh_rules.specs.LocalNodes.{LocalNode, fibre_in, fibre_out}
 use Rattle.mesh_rules.specs.Legs.{is_armed, is_at, is_held, is_marking, is_usable, is_work, reserved, reverse, reverse_of, usable}
 use Rattle.mesh_rules.specs.State.{NodeState}
-use Rattle.mesh_rules.specs.Paths.{PathRequest, back_label, back_through, egress_leg, is_none, lacks_back, offered_labels, risks_here, role_of, transit_leg}
+use Rattle.mesh_rules.specs.Paths.{PathRequest, asked_leg, back_label, back_through, egress_leg, is_none, lacks_back, offered_labels, risks_here, role_of, transit_leg}
 use Rattle.mesh_nodes.proofs.Cases.{not-true}
 use Rattle.mesh_nodes.proofs.LabelPlaces.{at-is, either, none-at}
 use Rattle.mesh_nodes.proofs.ChosenLabels.{back-has, first-has, first-usable, has-right, some-of, usable-is}
+use Rattle.lsp_laws.specs.LabelLaw.{HasBackLabels}
 use Rattle.lsp_laws.proofs.nodes.BackLabels.{reserved-stands}
 use Rattle.lsp_laws.proofs.nodes.Facts.{FitsPhase, HasItsLabels, LabelsFit, LegFacts}
 use Rattle.lsp_laws.proofs.nodes.LegParts.{MayStand}
@@ -108,6 +111,39 @@ module _ (p : LocalNode) (s : NodeState) (m : PathRequest) (link : LinkSpec) (ne
   abbrev risks : List Risk
   risks = risks_here p s m
 
+  -- the leg that the Path makes, and what is known of it as far as the rest of it fits
+  abbrev came : Option NodeId → Option Fibre → List ℕ → List Step → Phase → Option ℕ → Option ℕ → Leg
+  came on out sent route f label back = record (asked_leg p m link risks (offered_labels p s m link)) {
+    next = on;
+    out_fibre = out;
+    sent = sent;
+    route = route;
+    phase = f;
+    in_label = label;
+    back_in = back;
+  }
+
+  came-facts : (on : Option NodeId) (out : Option Fibre) (sent : List ℕ) (route : List Step) (f : Phase)
+      (label back : Option ℕ) → is_some on ≡ not (nat_eq m.arrival.egress.0 p.id.0) → is_some out ≡ is_some on →
+      ((is_held f || is_armed f) ≡ true → role_of m.role ≡ Back) → FitsPhase f (came on out sent route f label back) →
+      IfSome label (λ x. has (offered_labels p s m link) x ≡ true) →
+      HasBackLabels (came on out sent route f label back) →
+      LegFacts p.id.0 next (came on out sent route f label back)
+  came-facts on out sent route f label back leads leaves held phase offered labels = record {
+    prev = rw far refl;
+    in_fibre = refl;
+    next_node = leads;
+    out_fibre = leaves;
+    one_end = refl;
+    number = away m.arrival.lsp.ingress.0 p.id.0 (m.arrival.lsp.lsp < next) far;
+    role = refl;
+    held = held;
+    phase = phase;
+    offered = offered;
+    sent = tt;
+    back = labels;
+  }
+
   pub egress-stands : (x : ℕ) → LabelsFit s.legs → nat_eq m.arrival.egress.0 p.id.0 ≡ true →
       has (offered_labels p s m link) x ≡ true →
       MayStand p.id.0 next s.legs (egress_leg p m link risks (offered_labels p s m link) x)
@@ -115,26 +151,14 @@ module _ (p : LocalNode) (s : NodeState) (m : PathRequest) (link : LinkSpec) (ne
       may-take p.id.0 next s.legs s.legs labels (take-same s.legs) g
       (λ f y this. inl (only f y (either (is_at g.in_fibre (Some x) f y) (is_at None None f y) this)))
       (reserved-plain (role_of m.role))
-      (record {
-        prev = rw far refl;
-        in_fibre = refl;
-        next_node = rw here refl;
-        out_fibre = refl;
-        one_end = refl;
-        number = away m.arrival.lsp.ingress.0 p.id.0 (m.arrival.lsp.lsp < next) far;
-        role = refl;
-        held = reserved-back (role_of m.role);
-        phase = phase_reserved (role_of m.role) g (refl, refl);
-        offered = offered;
-        sent = tt;
-        back = (
-          is_some m.upstream,
-          record {
-            enters = sym (and-false (is_some m.upstream));
-            leaves = rw (reserved-stands (role_of m.role), and-true (is_some m.upstream)) refl;
-          },
-        );
-      })
+      (came-facts None None [] [] (reserved (role_of m.role)) (Some x) None (rw here refl) refl
+      (reserved-back (role_of m.role)) (phase_reserved (role_of m.role) g (refl, refl)) offered (
+        is_some m.upstream,
+        record {
+          enters = sym (and-false (is_some m.upstream));
+          leaves = rw (reserved-stands (role_of m.role), and-true (is_some m.upstream)) refl;
+        },
+      ))
     where
       g : Leg
       g = egress_leg p m link risks (offered_labels p s m link) x
@@ -158,26 +182,14 @@ module _ (p : LocalNode) (s : NodeState) (m : PathRequest) (link : LinkSpec) (ne
       (λ f x this.
       inl (only f x (either (is_at g.in_fibre None f x) (is_at (reverse_of g.out_fibre) g.back_in f x) this)))
       (asked-plain (role_of m.role))
-      (record {
-        prev = rw far refl;
-        in_fibre = refl;
-        next_node = rw on refl;
-        out_fibre = refl;
-        one_end = refl;
-        number = away m.arrival.lsp.ingress.0 p.id.0 (m.arrival.lsp.lsp < next) far;
-        role = refl;
-        held = λ e. absurd (cc e);
-        phase = (refl, refl, refl);
-        offered = tt;
-        sent = tt;
-        back = (
-          is_some m.upstream,
-          record {
-            enters = back-chosen m.upstream has;
-            leaves = sym (and-true (is_some m.upstream));
-          },
-        );
-      })
+      (came-facts g.next g.out_fibre g.sent route Asked None g.back_in (rw on refl) refl (λ e. absurd (cc e))
+      (refl, refl, refl) tt (
+        is_some m.upstream,
+        record {
+          enters = back-chosen m.upstream has;
+          leaves = sym (and-true (is_some m.upstream));
+        },
+      ))
     where
       back_fibre : Fibre
       back_fibre = reverse (fibre_out out p.id)

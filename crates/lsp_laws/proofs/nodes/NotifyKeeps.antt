@@ -1,5 +1,5 @@
 -- A Notify, an order to try again, an alarm and a clear keep the facts of a node.
-use Rattle.std.proofs.Common.{◌≡◌, ℕ, Bool, true, false, cond, not, nat_eq, List, [], ◌∷◌, ◌++◌, refl, sym, ap, subst, ◌∙◌, inl, inr}
+use Rattle.std.proofs.Common.{◌≡◌, ℕ, Bool, true, false, cond, not, List, [], ◌∷◌, ◌++◌, refl, sym, ap, subst, ◌∙◌, inl, inr}
 use Rattle.std.specs.Prelude.{◌&&◌, Option, Some, None}
 use Rattle.ason_base.specs.Codes.{fibre_down_code, fibre_up_code}
 use Rattle.ason_base.specs.Lsps.{has_fibre, is_lsp, without_fibre}
@@ -25,7 +25,7 @@ use Rattle.mesh_rules.specs.Retries.{retry_with}
 use Rattle.mesh_rules.specs.State.{NodeState}
 use Rattle.mesh_rules.specs.Turns.{decide, has_any, turn}
 use Rattle.mesh_nodes.proofs.Cases.{both_left, both_right, if_cases}
-use Rattle.mesh_nodes.proofs.CallList.{called-found, called-names, found-number}
+use Rattle.mesh_nodes.proofs.CallList.{called-found, called-names}
 use Rattle.mesh_nodes.proofs.LegList.{found-lsp}
 use Rattle.lsp_laws.specs.CallLaw.{FitsLegs, phase_of}
 use Rattle.lsp_laws.proofs.nodes.Facts.{NodeFacts, same-facts}
@@ -34,7 +34,7 @@ use Rattle.lsp_laws.proofs.nodes.Decides.{backup-row, decide-after, decide-alone
 use Rattle.lsp_laws.proofs.nodes.CallTouched.{same-leg}
 use Rattle.lsp_laws.proofs.nodes.LegEnds.{leg_of-own}
 use Rattle.lsp_laws.proofs.nodes.Parts.{leg_part, work-row}
-use Rattle.lsp_laws.proofs.nodes.PathKeeps.{Keeps}
+use Rattle.lsp_laws.proofs.nodes.PathKeeps.{Keeps, keeps-ordered}
 use Rattle.lsp_laws.proofs.nodes.States.{Row, alone-reported, back-fits, row, stuck-legs}
 
 -- The call c has the LSP of the leg g, and the leg of its backup is o
@@ -157,14 +157,10 @@ pub keeps-retry : (p : LocalNode) (s : NodeState) (n : CallNo) (from : NodeId) (
     find_call n s.calls ≡ o → NodeFacts p.id.0 s → Keeps p s (retry_with p s from o)
 keeps-retry p s n from None is facts = facts
 keeps-retry p s n from (Some c) is facts =
-    let found : find_call c.call s.calls ≡ Some c =
-    subst (λ k. find_call k s.calls ≡ Some c) (sym (found-number n s.calls c is)) is in
-    if_cases (Keeps p s) (nat_eq from.0 p.id.0) _ _
-    (λ e. if_cases (Keeps p s) (is_stuck c.state && (has_any c.work_reports && not (has_any c.back_reports))) _ _
-    (λ f. keeps-turn p s facts c found (stuck-is c.state (both_left (is_stuck c.state) _ f)) (leg_of c.back s.legs)
-    refl (both_left (has_any c.work_reports) _ (both_right (is_stuck c.state) _ f)))
-    (λ f. facts))
-    (λ e. facts)
+    keeps-ordered p s n from c (is_stuck c.state && (has_any c.work_reports && not (has_any c.back_reports)))
+    (turn s.legs c (leg_of c.back s.legs)) is facts (λ found f. keeps-turn p s facts c found
+    (stuck-is c.state (both_left (is_stuck c.state) _ f)) (leg_of c.back s.legs) refl
+    (both_left (has_any c.work_reports) _ (both_right (is_stuck c.state) _ f)))
 
 -- Alarms and clears
 

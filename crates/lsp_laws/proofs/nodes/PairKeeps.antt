@@ -77,6 +77,16 @@ module _ (p : LocalNode) (s : NodeState) (legs : List Leg) (calls : List CallRec
 
   -- Without a backup
 
+  -- a call of the same working LSP names what this one names, which has no backup
+  still-names : (d : CallRec) → d.work ≡ c.work → (l : Lsp) (e : CallRec) → find_call c.call calls ≡ Some e →
+      names l e ≡ true → names l d ≡ true
+  still-names d same l e there named =
+      let mine = bare.found in let one : e ≡ c = cc (mine, there) in
+      elim (named-by c l (subst (λ y. names l y ≡ true) one named)) [
+        | inl work ↦ names-work d l (same ∙ work)
+        | inr back ↦ (let none = alone in absurd (cc (none, back)))
+      ]
+
   pub keeps-leaves_bare : (cause : Cause) → After (leaves_bare c cause)
   keeps-leaves_bare cause =
       let d = unbacked c cause in
@@ -97,15 +107,7 @@ module _ (p : LocalNode) (s : NodeState) (legs : List Leg) (calls : List CallRec
                 | inr back ↦ absurd (cc back)
               ]),
             ));
-        kept = λ e l there named never.
-            (let mine = bare.found in let one : e ≡ c = cc (mine, there) in (
-              d,
-              refl,
-              (elim (named-by c l (subst (λ y. names l y ≡ true) one named)) [
-                | inl work ↦ names-work d l work
-                | inr back ↦ (let none = alone in absurd (cc (none, back)))
-              ]),
-            ));
+        kept = λ e l there named never. (d, refl, still-names d refl l e there named);
         facts = λ e is. (let one : d ≡ e = cc is in subst (FitsLegs p.id.0 s.lsp legs) one (record {
           state = rw live refl;
           work = fit.work;
@@ -200,15 +202,7 @@ module _ (p : LocalNode) (s : NodeState) (legs : List Leg) (calls : List CallRec
           stay = λ m other. other-stays l m (Some g) legs legs' becomes other;
           apart = λ m e x other there named. unnamed m e x there named;
           only = λ e x is named. (let one : d ≡ e = cc is in only x (subst (λ y. names x y ≡ true) (sym one) named));
-          kept = λ e x there named never.
-              (let mine = bare.found in let one : e ≡ c = cc (mine, there) in (
-                d,
-                refl,
-                (elim (named-by c x (subst (λ y. names x y ≡ true) one named)) [
-                  | inl work ↦ names-work d x work
-                  | inr back ↦ (let none = alone in absurd (cc (none, back)))
-                ]),
-              ));
+          kept = λ e x there named never. (d, refl, still-names d refl x e there named);
           facts = λ e is. (let one : d ≡ e = cc is in subst (FitsLegs p.id.0 (s.lsp + 1) legs') one paired);
           number = λ e is. (let one : d ≡ e = cc is in ap (λ y. y.call) (sym one));
           wanted = λ x h same there here stands. (d, refl, names-back d x (ap Some (same_lsp-eq l x same)));

@@ -1,15 +1,20 @@
 -- A Path where no leg of its LSP stands keeps the facts of a node.
-use Rattle.std.proofs.Common.{◌≡◌, ℕ, Bool, true, false, cond, not, nat_eq, List, [], ◌∷◌, refl, arith}
+use Rattle.std.proofs.Common.{◌≡◌, ℕ, Bool, true, false, cond, not, nat_eq, List, [], ◌∷◌, refl, sym, subst, arith}
 use Rattle.std.specs.Prelude.{◌&&◌, Option, Some, None}
 use Rattle.ason_base.specs.Labels.{least}
 use Rattle.ason_base.specs.declared.codes.ErrCode.{ErrCode}
+use Rattle.ason_base.specs.declared.ids.CallNo.{CallNo}
+use Rattle.ason_base.specs.declared.ids.NodeId.{NodeId}
 use Rattle.ason_base.specs.declared.steps.Step.{Step}
+use Rattle.ason_base.specs.declared.tables.CallRec.{CallRec}
 use Rattle.ason_base.specs.declared.network.LinkSpec.{LinkSpec}
-use Rattle.mesh_rules.specs.Changes.{Answer, changed}
+use Rattle.mesh_rules.specs.Changes.{Answer, changed, nothing}
+use Rattle.mesh_rules.specs.Calls.{find_call}
 use Rattle.mesh_rules.specs.LocalNodes.{LocalNode, own_link, leads}
 use Rattle.mesh_rules.specs.State.{NodeState}
 use Rattle.mesh_rules.specs.Paths.{PathRequest, Check, back_label, is_active, lacks_back, leads_on, link_on, first_failure, checks, offered_labels, egress_leg, risks_here, transit_leg}
 use Rattle.mesh_rules.specs.Paths.{at_egress, in_transit, admitted, judged, first_path}
+use Rattle.mesh_nodes.proofs.CallList.{found-number}
 use Rattle.mesh_nodes.proofs.Cases.{if_cases, both_left, both_right, not-true}
 use Rattle.mesh_nodes.proofs.ChosenLabels.{least-has}
 use Rattle.lsp_laws.proofs.nodes.Facts.{NodeFacts}
@@ -19,6 +24,17 @@ use Rattle.lsp_laws.proofs.nodes.Parts.{keeps-leg}
 -- the answer keeps the facts
 abbrev pub Keeps : LocalNode → NodeState → Answer → Type 0
 Keeps p s a = NodeFacts p.id.0 (changed s a)
+
+-- so does an order of a call that begins here, where its test holds; else it changes nothing
+pub keeps-ordered : (p : LocalNode) (s : NodeState) (n : CallNo) (from : NodeId) (c : CallRec) (test : Bool)
+    (a : Answer) → find_call n s.calls ≡ Some c → NodeFacts p.id.0 s →
+    (find_call c.call s.calls ≡ Some c → test ≡ true → Keeps p s a) →
+    Keeps p s (cond (nat_eq from.0 p.id.0) (cond test a nothing) nothing)
+keeps-ordered p s n from c test a is facts follows =
+    let found : find_call c.call s.calls ≡ Some c =
+    subst (λ k. find_call k s.calls ≡ Some c) (sym (found-number n s.calls c is)) is in
+    if_cases (Keeps p s) (nat_eq from.0 p.id.0) _ _
+    (λ e. if_cases (Keeps p s) test a nothing (λ f. follows found f) (λ f. facts)) (λ e. facts)
 
 -- Where no check fails
 

@@ -28,14 +28,6 @@ fits-phase Armed g labels e = labels
 fits-phase Live g labels e = labels
 fits-phase _ g labels e = absurd (cc e)
 
-pub held-is : (f : Phase) → is_held f ≡ true → f ≡ Held
-held-is Held e = refl
-held-is _ e = absurd (cc e)
-
-pub armed-is : (f : Phase) → is_armed f ≡ true → f ≡ Armed
-armed-is Armed e = refl
-armed-is _ e = absurd (cc e)
-
 -- a Held or an Armed leg is a backup's
 pub held-back : (n next : ℕ) (g : Leg) → LegFacts n next g → g.phase ≡ Held → g.role ≡ Back
 held-back n next g facts is = facts.held (subst (λ f. (is_held f || is_armed f) ≡ true) (sym is) refl)

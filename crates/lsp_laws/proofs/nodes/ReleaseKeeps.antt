@@ -16,7 +16,7 @@ use Rattle.mesh_rules.specs.Legs.{closed, find_leg, has_lsp, is_closing, leg_of,
 use Rattle.mesh_rules.specs.LocalNodes.{LocalNode}
 use Rattle.mesh_rules.specs.Releases.{release_with, releases, tears}
 use Rattle.mesh_rules.specs.State.{NodeState}
-use Rattle.mesh_nodes.proofs.Cases.{if_cases, neither_left, neither_right}
+use Rattle.mesh_nodes.proofs.Cases.{false-unless, if_cases, neither_left, neither_right}
 use Rattle.mesh_nodes.proofs.CallList.{find-without_call, found-number, rise-without_call}
 use Rattle.mesh_nodes.proofs.LegList.{find-with_leg, found-lsp}
 use Rattle.lsp_laws.specs.CallLaw.{FitsLegs, IsNamed}
@@ -109,17 +109,13 @@ module _ (n : ℕ) (s : NodeState) (c : CallRec) (found : find_call c.call s.cal
 
   -- the working LSP is another one than the backup
   work-other : (l : Lsp) → c.back ≡ Some l → is_lsp c.work l ≡ false
-  work-other l back = go (is_lsp c.work l) refl
-    where
-      go : (t : Bool) → is_lsp c.work l ≡ t → t ≡ false
-      go false e = refl
-      go true e =
-          let one = (named-lsp n s.lsp s.legs Work c.egress c.work l fit.work (lsp-is c.work l e)).leg in
-          let other = (named-lsp n s.lsp s.legs Back c.egress c.back l fit.back back).leg in
-          let same : one.0 ≡ other.0 = (let p = one.1 in let q = other.1 in cc (p, q)) in
-          let role : one.0.role ≡ Back = subst (λ (g : Leg). g.role ≡ Back) (sym same) other.2 in
-          let work : one.0.role ≡ Work = one.2 in
-          absurd (cc (role, work))
+  work-other l back = false-unless (is_lsp c.work l) (λ e.
+      let one = (named-lsp n s.lsp s.legs Work c.egress c.work l fit.work (lsp-is c.work l e)).leg in
+      let other = (named-lsp n s.lsp s.legs Back c.egress c.back l fit.back back).leg in
+      let same : one.0 ≡ other.0 = (let p = one.1 in let q = other.1 in cc (p, q)) in
+      let role : one.0.role ≡ Back = subst (λ (g : Leg). g.role ≡ Back) (sym same) other.2 in
+      let work : one.0.role ≡ Work = one.2 in
+      cc (role, work))
 
   -- so the backup's leg stands after the working LSP's closed
   still-mine : (o : Option Lsp) → c.back ≡ o → IfSome (leg_of o s.legs) (IsOwn n s.legs) →

@@ -1,5 +1,5 @@
 -- A call that goes back, by an order, keeps the facts of a node.
-use Rattle.std.proofs.Common.{◌≡◌, ℕ, true, false, not, nat_eq, refl, sym, ap, subst}
+use Rattle.std.proofs.Common.{◌≡◌, ℕ, true, false, not, refl, ap, subst}
 use Rattle.std.specs.Prelude.{◌&&◌, Option, Some, None}
 use Rattle.ason_base.specs.declared.calls.CallState.{CallState}
 use Rattle.ason_base.specs.declared.calls.CallState.TheVariants.{Turned}
@@ -14,8 +14,7 @@ use Rattle.mesh_rules.specs.LocalNodes.{LocalNode}
 use Rattle.mesh_rules.specs.Reverts.{revert_with}
 use Rattle.mesh_rules.specs.State.{NodeState}
 use Rattle.mesh_rules.specs.Turns.{call_put, go_back, has_any}
-use Rattle.mesh_nodes.proofs.Cases.{both_left, both_right, if_cases, not-true}
-use Rattle.mesh_nodes.proofs.CallList.{found-number}
+use Rattle.mesh_nodes.proofs.Cases.{both_left, both_right, not-true}
 use Rattle.lsp_laws.specs.CallLaw.{FitsLegs, phase_of}
 use Rattle.lsp_laws.proofs.nodes.Facts.{NodeFacts}
 use Rattle.lsp_laws.proofs.nodes.CallParts.{names-back}
@@ -23,7 +22,7 @@ use Rattle.lsp_laws.proofs.nodes.CallTouched.{same-leg}
 use Rattle.lsp_laws.proofs.nodes.Decides.{goes_back-after, same-put}
 use Rattle.lsp_laws.proofs.nodes.LegEnds.{leg_of-own}
 use Rattle.lsp_laws.proofs.nodes.Parts.{leg_part}
-use Rattle.lsp_laws.proofs.nodes.PathKeeps.{Keeps}
+use Rattle.lsp_laws.proofs.nodes.PathKeeps.{Keeps, keeps-ordered}
 use Rattle.lsp_laws.proofs.nodes.States.{Row, row, turned-legs}
 
 turned-is : (state : CallState) → is_turned state ≡ true → state ≡ Turned
@@ -83,9 +82,5 @@ pub keeps-revert : (p : LocalNode) (s : NodeState) (n : CallNo) (from : NodeId) 
     find_call n s.calls ≡ o → NodeFacts p.id.0 s → Keeps p s (revert_with p s from o)
 keeps-revert p s n from None is facts = facts
 keeps-revert p s n from (Some c) is facts =
-    let found : find_call c.call s.calls ≡ Some c =
-    subst (λ k. find_call k s.calls ≡ Some c) (sym (found-number n s.calls c is)) is in
-    if_cases (Keeps p s) (nat_eq from.0 p.id.0) _ _
-    (λ e. if_cases (Keeps p s) (is_turned c.state && not (has_any c.work_reports)) _ _
-    (λ f. keeps-go_back p s facts c found f (leg_of c.back s.legs) refl) (λ f. facts))
-    (λ e. facts)
+    keeps-ordered p s n from c _ _ is facts
+    (λ found f. keeps-go_back p s facts c found f (leg_of c.back s.legs) refl)
