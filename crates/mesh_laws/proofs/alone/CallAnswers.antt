@@ -22,12 +22,12 @@ use Rattle.mesh_rules.specs.FirstLegs.{first_leg, first_link, is_full, lacks_fir
 use Rattle.mesh_rules.specs.KnownRows.{known_rows}
 use Rattle.mesh_rules.specs.Legs.{find_leg, is_work}
 use Rattle.mesh_rules.specs.LocalNodes.{LocalNode}
-use Rattle.mesh_rules.specs.Pairs.{backup_lsp, backup_route, begins_backup, guarding, is_two_way, leaves_bare, over_backup, pair, pair_over, route_from}
+use Rattle.mesh_rules.specs.Pairs.{backup_lsp, backup_route, begins_backup, beside_lsp, guarding, is_two_way, leaves_bare, over_backup, pair, pair_over, route_from}
 use Rattle.mesh_rules.specs.State.{NodeState}
 use Rattle.mesh_rules.specs.Turns.{activating, call_put, decide, has_any}
 use Rattle.mesh_nodes.proofs.Cases.{if_cases}
 use Rattle.lsp_laws.proofs.nodes.Facts.{SharesAll}
-use Rattle.mesh_laws.proofs.alone.Calls.{LegMayTurn, MayTurn, blocked-holds, called-holds, called-knows, decide-fine, in_state, its-backup, may-turn, turned-fine, unbacked-holds}
+use Rattle.mesh_laws.proofs.alone.Calls.{LegMayTurn, MayTurn, blocked-holds, called-holds, called-knows, decide-fine, in_state, its-backup, may-turn, pairing-holds, turned-fine, unbacked-holds}
 use Rattle.mesh_laws.proofs.alone.Facts.{CallKnows, NodeKnows, Routes}
 use Rattle.mesh_laws.proofs.alone.Fine.{CallHolds, Fine, NodeHolds, fine-call, fine-nothing}
 use Rattle.mesh_laws.proofs.alone.Groups.{RoleConcerns, has_one}
@@ -50,19 +50,7 @@ module _ (t : Network) (gs : List Group) (o : Routes) (p : LocalNode) (s : NodeS
       Fine t gs o (begins_backup p s c w out route)
   begins-fine c w out route of = record {
     legs = (idle-concerns gs (first_leg p (known_rows p s) (backup_lsp p s w out route)) refl, tt);
-    calls = (
-      record {
-        concerns = record {
-          work_reports = of.concerns.work_reports;
-          back_reports = tt;
-          free = λ e. absurd (cc e);
-          admitted = refl;
-        };
-        work = of.work;
-        back = λ e. absurd (cc e);
-      },
-      tt,
-    );
+    calls = (pairing-holds t gs o c (beside_lsp w.lsp s.lsp) of, tt);
     down = tt;
     sent = (tt, tt);
   }

@@ -11,7 +11,7 @@ use Rattle.ason_base.specs.declared.ids.Lsp.{Lsp}
 use Rattle.ason_base.specs.declared.calls.CallState.{CallState}
 use Rattle.ason_base.specs.declared.calls.CallState.TheVariants.{Asking, Bare, Blocked, Guarded, Pairing, Stuck, Turned, Turning}
 use Rattle.ason_base.specs.declared.calls.Cause.{Cause}
-use Rattle.ason_base.specs.declared.calls.Cause.TheVariants.{Code}
+use Rattle.ason_base.specs.declared.calls.Cause.TheVariants.{Code, Unset}
 use Rattle.ason_base.specs.declared.calls.Phase.TheVariants.{Held}
 use Rattle.ason_base.specs.declared.commands.Group.{Group}
 use Rattle.ason_base.specs.declared.messages.PathRole.{PathRole}
@@ -20,12 +20,13 @@ use Rattle.ason_base.specs.declared.steps.Step.{Step}
 use Rattle.ason_base.specs.declared.tables.CallRec.{CallRec}
 use Rattle.ason_base.specs.declared.tables.Leg.{Leg}
 use Rattle.mesh_rules.specs.declared.neighbours.Neighbour.{Neighbour}
-use Rattle.mesh_rules.specs.Calls.{blocked, call_with, is_stuck, names, stuck, unbacked}
+use Rattle.mesh_rules.specs.Activations.{taken_on}
+use Rattle.mesh_rules.specs.Calls.{blocked, call_with, is_stuck, names, pairing, stuck, unbacked}
 use Rattle.mesh_rules.specs.Legs.{find_leg, following, is_contended, is_held, is_in_use, is_work, leg_of, with_phase}
 use Rattle.mesh_rules.specs.LocalNodes.{LocalNode}
 use Rattle.mesh_rules.specs.Pairs.{beside_lsp}
 use Rattle.mesh_rules.specs.State.{NodeState}
-use Rattle.mesh_rules.specs.Turns.{activating, activating_path, arms, call_put, decide, decided, disarms, go_back, has_any, taking_back, taking_path, turn, turn_to}
+use Rattle.mesh_rules.specs.Turns.{activating, arms, call_put, decide, decided, disarms, go_back, has_any, taking_back, turn, turn_to}
 use Rattle.mesh_nodes.proofs.CallList.{called-names}
 use Rattle.mesh_nodes.proofs.Cases.{if_cases}
 use Rattle.mesh_nodes.proofs.LegList.{found-lsp, same_lsp-eq}
@@ -83,18 +84,26 @@ module _ (t : Network) (gs : List Group) (o : Routes) where
     back = holds.back;
   }
 
-  -- a call that has no backup any more
-  pub unbacked-holds : (c : CallRec) (cause : Cause) → CallHolds t gs o c → CallHolds t gs o (unbacked c cause)
-  unbacked-holds c cause holds = record {
+  -- a call of whose backup nothing is reported yet, or which has none any more
+  new_back-holds : (c : CallRec) (state : CallState) (back : Option Lsp) (cause : Cause) → is_stuck state ≡ false →
+      CallHolds t gs o c →
+      CallHolds t gs o (record c { state = state; back = back; back_reports = []; cause = cause; ticks = 0 })
+  new_back-holds c state back cause free holds = record {
     concerns = record {
       work_reports = holds.concerns.work_reports;
       back_reports = tt;
-      free = λ e. absurd (cc e);
-      admitted = refl;
+      free = λ e. absurd (let stuck = ap is_stuck e in cc (stuck, free));
+      admitted = rw free refl;
     };
     work = holds.work;
     back = λ e. absurd (cc e);
   }
+
+  pub unbacked-holds : (c : CallRec) (cause : Cause) → CallHolds t gs o c → CallHolds t gs o (unbacked c cause)
+  unbacked-holds c cause holds = new_back-holds c Bare None cause refl holds
+
+  pub pairing-holds : (c : CallRec) (l : Lsp) → CallHolds t gs o c → CallHolds t gs o (pairing c l)
+  pairing-holds c l holds = new_back-holds c Pairing (Some l) Unset refl holds
 
   -- a call that is blocked
   pub blocked-holds : (c : CallRec) (cause : Cause) → CallHolds t gs o c → CallHolds t gs o (blocked c cause)
@@ -111,17 +120,19 @@ module _ (t : Network) (gs : List Group) (o : Routes) where
 
   -- Turning
 
+  -- a Path of the backup to the next node, if there is one
+  path-fine : (b : Leg) (r : PathRole) → RoleConcerns t gs r → (h : Option Neighbour) →
+      AllByRecursion (OutFine t gs) (taken_on b b.route r h)
+  path-fine b r of None = tt
+  path-fine b r of (Some h) = (of, tt)
+
   arms-fine : (c : CallRec) (b : Leg) → CallHolds t gs o c → MayTurn t gs b → Fine t gs o (arms c b)
   arms-fine c b holds may = record {
     legs = ((λ mark. may.records), tt);
     calls = (in_state c Turning _ _ (λ e. absurd (cc e)) refl holds, tt);
     down = tt;
-    sent = path (following b);
+    sent = path-fine b (activating b.path_role) may.role (following b);
   }
-    where
-      path : (h : Option Neighbour) → AllByRecursion (OutFine t gs) (activating_path b h)
-      path None = tt
-      path (Some h) = (may.role, tt)
 
   -- a call turns where its backup's leg records one of the groups: no label of that is in use
   pub turn-fine : (legs : List Leg) (c : CallRec) (b : Option Leg) → CallHolds t gs o c → LegMayTurn t gs legs b →
@@ -145,12 +156,8 @@ module _ (t : Network) (gs : List Group) (o : Routes) where
     legs = (idle-concerns gs (with_phase Held b) refl, tt);
     calls = (in_state c Guarded _ _ (λ e. absurd (cc e)) refl holds, tt);
     down = tt;
-    sent = path (following b);
+    sent = path-fine b (taking_back b.path_role) (passive-back b.path_role) (following b);
   }
-    where
-      path : (h : Option Neighbour) → AllByRecursion (OutFine t gs) (taking_path b h)
-      path None = tt
-      path (Some h) = (passive-back b.path_role, tt)
 
   -- a call goes back whatever fails
   pub go_back-fine : (c : CallRec) (b : Option Leg) → CallHolds t gs o c → Fine t gs o (go_back c b)

@@ -44,6 +44,7 @@ use Rattle.mesh_rules.specs.State.{NodeState}
 use Rattle.mesh_rules.specs.Turns.{call_put, go_back, has_any, turn}
 use Rattle.mesh_rules.specs.Waits.{all_ticked, on_tick, ticked, waits}
 use Rattle.mesh_nodes.proofs.Cases.{both_left, both_right, if_cases}
+use Rattle.mesh_nodes.proofs.Items.{setup_request}
 use Rattle.mesh_nodes.proofs.LegList.{all-filter, found-all}
 use Rattle.mesh_laws.proofs.alone.CallAnswers.{pair-fine}
 use Rattle.mesh_laws.proofs.alone.Calls.{found-one, go_back-fine, in_state, leg-may_turn, turn-fine}
@@ -216,15 +217,7 @@ module _ (t : Network) (gs : List Group) (o : Routes) where
 
     order-fine : (c : Command) → Fine t gs o (on_order p s c)
     order-fine (Setup n from to protected both via backup) =
-        setup-fine (record {
-          call = n;
-          from = from;
-          egress = to;
-          protected = protected;
-          both = both;
-          via = via;
-          backup = backup;
-        }) (find_call n s.calls)
+        setup-fine (setup_request n from to protected both via backup) (find_call n s.calls)
     order-fine (Release n from) = release-fine from (find_call n s.calls)
     order-fine (Protect n from) = protect-fine n from (find_call n s.calls) refl
     order-fine (Retry n from) = retry-fine n from (find_call n s.calls) refl

@@ -5,10 +5,8 @@ use Rattle.std.proofs.lemmas.Option.{slice_get-get_or}
 use Rattle.ason_base.specs.Lsps.{is_lsp}
 use Rattle.ason_base.specs.Network.{Network, is_distinct}
 use Rattle.ason_base.specs.Risks.{has_risk}
-use Rattle.ason_base.specs.declared.calls.CallState.{CallState}
-use Rattle.ason_base.specs.declared.calls.CallState.TheVariants.{Asking, Bare, Blocked, Guarded, Pairing, Stuck, Turned, Turning}
 use Rattle.ason_base.specs.declared.calls.Phase.{Phase}
-use Rattle.ason_base.specs.declared.calls.Phase.TheVariants.{Asked, Held, Armed, Live, Closing, Falling}
+use Rattle.ason_base.specs.declared.calls.Phase.TheVariants.{Live, Closing, Falling}
 use Rattle.ason_base.specs.declared.commands.Group.{Group}
 use Rattle.ason_base.specs.declared.ids.Fibre.{Fibre}
 use Rattle.ason_base.specs.declared.ids.Lsp.{Lsp}
@@ -34,6 +32,7 @@ use Rattle.lsp_laws.proofs.hops.Planned.{EachFollows, Routes}
 use Rattle.lsp_laws.proofs.hops.Purposes.{Guards, Tells}
 use Rattle.lsp_laws.proofs.nodes.CallParts.{named-lsp}
 use Rattle.lsp_laws.proofs.nodes.Facts.{MeshFacts}
+use Rattle.lsp_laws.proofs.nodes.States.{live-work, row}
 use Rattle.mesh_laws.specs.AloneLaw.{is_on_link, is_on_route, risk_of}
 use Rattle.mesh_laws.specs.RestorationLaw.{is_guarded}
 use Rattle.mesh_laws.specs.ContendLaw.{IsHitBy, MayTurnTo}
@@ -41,19 +40,6 @@ use Rattle.mesh_laws.proofs.alone.Calls.{is_lsp-eq}
 use Rattle.mesh_laws.proofs.alone.Risks.{risk-recorded}
 use Rattle.mesh_laws.proofs.kept.Phases.{IsUp, LegsUp}
 use Rattle.mesh_laws.proofs.contends.Backups.{LiveAt, backup-of, first-leg, live-at}
-
--- the working leg of a call whose backup has its label is Live
-work-live : (state : CallState) (w : Option Phase) (f : Phase) → fits state w (Some f) ≡ true →
-    is_beyond_asked f ≡ true → w ≡ Some Live
-work-live Guarded (Some Live) Held e beyond = refl
-work-live Turning (Some Live) Armed e beyond = refl
-work-live Turned (Some Live) Live e beyond = refl
-work-live Stuck (Some Live) Held e beyond = refl
-work-live Pairing (Some Live) Asked e beyond = absurd (cc beyond)
-work-live Asking (Some Asked) f e beyond = absurd (cc e)
-work-live Bare (Some Live) f e beyond = absurd (cc e)
-work-live Blocked None f e beyond = absurd (cc e)
-work-live state w f e beyond = absurd (cc e)
 
 -- a leg that is up isn't torn
 pub up-not_closing : (q : Phase) → is_beyond_asked q ≡ true → is_closing q ≡ false
@@ -152,7 +138,8 @@ module _ (t : Network) (s : Mesh) (quiet : IsQuiet s) (o : Routes) (hops : (l : 
     guarded-call c found fit backup a_up =
         let phases : fits c.state (phase_of (leg_of c.work legs)) (Some a.phase) ≡ true =
         (let e = fit.state in rw (backup, here) at e) in
-        let live = work-live c.state (phase_of (leg_of c.work legs)) a.phase phases a_up in
+        let live = live-work c.state (phase_of (leg_of c.work legs)) a.phase
+        (row c.state (phase_of (leg_of c.work legs)) (Some a.phase) phases) in
         let work = work-of l.ingress.0 c fit (leg-there c.work legs live) in
         record {
           call = c;

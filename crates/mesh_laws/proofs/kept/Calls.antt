@@ -6,15 +6,17 @@ use Rattle.ason_base.specs.Codes.{busy_code}
 use Rattle.ason_base.specs.declared.calls.CallState.{CallState}
 use Rattle.ason_base.specs.declared.calls.CallState.TheVariants.{Asking, Bare, Blocked, Guarded, Pairing, Stuck, Turned, Turning}
 use Rattle.ason_base.specs.declared.calls.Cause.TheVariants.{Code}
+use Rattle.ason_base.specs.declared.messages.PathRole.{PathRole}
 use Rattle.ason_base.specs.declared.tables.CallRec.{CallRec}
 use Rattle.ason_base.specs.declared.tables.Leg.{Leg}
 use Rattle.mesh_rules.specs.declared.neighbours.Neighbour.{Neighbour}
+use Rattle.mesh_rules.specs.Activations.{taken_on}
 use Rattle.mesh_rules.specs.Calls.{is_turning, stuck, turned}
 use Rattle.mesh_rules.specs.CallSteps.{call_contended, call_turned}
 use Rattle.mesh_rules.specs.Changes.{nothing}
 use Rattle.mesh_rules.specs.Legs.{following, is_contended, is_held, is_in_use}
 use Rattle.mesh_rules.specs.State.{NodeState}
-use Rattle.mesh_rules.specs.Turns.{activating_path, arms, call_put, decide, decided, disarms, go_back, has_any, taking_path, turn, turn_to}
+use Rattle.mesh_rules.specs.Turns.{activating, arms, call_put, decide, decided, disarms, go_back, has_any, taking_back, turn, turn_to}
 use Rattle.mesh_nodes.proofs.Cases.{if_cases}
 use Rattle.mesh_laws.proofs.kept.Phases.{IsHere, IsHereToo, Kept, OutKept, kept-nothing}
 
@@ -23,12 +25,14 @@ module _ (legs : List Leg) where
   pub kept-call : (c : CallRec) → Kept legs (call_put c)
   kept-call c = record { legs = tt; sent = tt }
 
+  -- a Path of the backup to the next node, if there is one
+  path-kept : (b : Leg) (r : PathRole) (h : Option Neighbour) → AllByRecursion OutKept (taken_on b b.route r h)
+  path-kept b r None = tt
+  path-kept b r (Some h) = (tt, tt)
+
   arms-kept : (c : CallRec) (b : Leg) → IsHere legs b → Kept legs (arms c b)
-  arms-kept c b here = record { legs = ((refl, here), tt); sent = path (following b) }
-    where
-      path : (h : Option Neighbour) → AllByRecursion OutKept (activating_path b h)
-      path None = tt
-      path (Some h) = (tt, tt)
+  arms-kept c b here =
+      record { legs = ((refl, here), tt); sent = path-kept b (activating b.path_role) (following b) }
 
   -- a call that turns arms its backup's leg; the rule read these legs
   pub turn-kept : (read : List Leg) (c : CallRec) (b : Option Leg) → IsHereToo legs b → Kept legs (turn read c b)
@@ -40,11 +44,8 @@ module _ (legs : List Leg) where
       (λ e. kept-call c)
 
   disarms-kept : (c : CallRec) (b : Leg) → IsHere legs b → Kept legs (disarms c b)
-  disarms-kept c b here = record { legs = ((refl, here), tt); sent = path (following b) }
-    where
-      path : (h : Option Neighbour) → AllByRecursion OutKept (taking_path b h)
-      path None = tt
-      path (Some h) = (tt, tt)
+  disarms-kept c b here =
+      record { legs = ((refl, here), tt); sent = path-kept b (taking_back b.path_role) (following b) }
 
   -- a call that goes back makes it Held again
   pub go_back-kept : (c : CallRec) (b : Option Leg) → IsHereToo legs b → Kept legs (go_back c b)

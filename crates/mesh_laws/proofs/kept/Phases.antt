@@ -1,13 +1,12 @@
 -- While nothing is set up, released or protected, legs change their phases alone, and each is Held, Armed or Live.
 use Rattle.std.proofs.Common.{◌≡◌, ℕ, Bool, true, false, cond, nat_eq, List, [], ◌∷◌, ◌++◌, drop, refl, sym, ap, ◌∙◌, subst, arith}
 use Rattle.std.specs.Prelude.{◌&&◌, Option, Some, None}
-use Rattle.std.specs.List.{AllByRecursion, flat_map}
-use Rattle.ason_base.specs.Lsps.{same_lsp, same_bool}
+use Rattle.std.specs.List.{AllByRecursion}
+use Rattle.ason_base.specs.Lsps.{same_lsp}
 use Rattle.ason_base.specs.declared.ids.Lsp.{Lsp}
 use Rattle.ason_base.specs.declared.calls.Phase.TheVariants.{Held}
 use Rattle.ason_base.specs.Network.{Network}
 use Rattle.ason_base.specs.declared.ids.Fibre.{Fibre}
-use Rattle.ason_base.specs.declared.network.LinkSpec.{LinkSpec}
 use Rattle.ason_base.specs.declared.commands.Group.{Group}
 use Rattle.ason_base.specs.declared.commands.Command.{Command}
 use Rattle.ason_base.specs.declared.commands.Command.TheVariants.{Setup, Release, Protect, Retry, Revert, Fail, Repair}
@@ -20,11 +19,12 @@ use Rattle.ason_base.specs.declared.tables.Out.{Out}
 use Rattle.mesh_rules.specs.declared.changes.LegChange.{LegChange}
 use Rattle.mesh_rules.specs.declared.changes.LegChange.TheVariants as leg
 use Rattle.mesh_rules.specs.Changes.{Answer, changed, followed_by, nothing, puts, sends}
-use Rattle.mesh_rules.specs.Failures.{all_news, changed_news, is_cut, link_news, news, news_at, with_failed}
+use Rattle.mesh_rules.specs.Failures.{all_news, news, with_failed}
 use Rattle.mesh_rules.specs.Legs.{find_leg, is_beyond_asked, leg_of, legs_changed, with_leg, with_phase}
 use Rattle.mesh_rules.specs.Machine.{Mesh, commit, sent_to, with_item, without_first, without_item}
 use Rattle.mesh_nodes.proofs.Cases.{if_cases}
 use Rattle.mesh_nodes.proofs.LegList.{all-with_leg, find-with_leg, found-lsp, same_lsp-eq}
+use Rattle.mesh_nodes.proofs.News.{all-told}
 use Rattle.mesh_laws.proofs.alone.Fine.{all-append, all-drop, all-sent}
 
 -- Legs
@@ -211,28 +211,6 @@ module _ (was : Mesh) where
   news-kept true f = tt
   news-kept false f = tt
 
-  news_at-kept : (n receiver : ℕ) (cut : Bool) (f : Fibre) → AllByRecursion ItemKept (news_at n receiver cut f)
-  news_at-kept n receiver cut f =
-      if_cases (AllByRecursion ItemKept) (nat_eq receiver n) (news cut f ∷ []) [] (λ e. (news-kept cut f, tt))
-      (λ e. tt)
-
-  changed-kept : (before later : List Group) (n : ℕ) (l : LinkSpec) →
-      AllByRecursion ItemKept (changed_news before later n l)
-  changed-kept before later n l =
-      if_cases (AllByRecursion ItemKept) (same_bool (is_cut before l) (is_cut later l)) []
-      (link_news n (is_cut later l) l) (λ e. tt)
-      (λ e. all-append ItemKept
-      (news_at n l.high.0 (is_cut later l) (record { link = l.id; forward = true })) _
-      (news_at-kept n l.high.0 (is_cut later l) (record { link = l.id; forward = true }))
-      (news_at-kept n l.low.0 (is_cut later l) (record { link = l.id; forward = false })))
-
-  all_news-kept : (before later : List Group) (n : ℕ) (links : List LinkSpec) →
-      AllByRecursion ItemKept (flat_map (changed_news before later n) links)
-  all_news-kept before later n [] = tt
-  all_news-kept before later n (l ∷ links) =
-      all-append ItemKept (changed_news before later n l) _ (changed-kept before later n l)
-      (all_news-kept before later n links)
-
   -- groups that fail or are repaired
   pub failed-kept : (t : Network) (s : Mesh) (later : List Group) → MeshKept was s →
       MeshKept was (with_failed t s later)
@@ -241,7 +219,7 @@ module _ (was : Mesh) where
     up = old.up;
     mail = old.mail;
     desks = λ n. all-append ItemKept (s.desks n) (all_news t s.failed later n) (old.desks n)
-        (all_news-kept s.failed later n t.links);
+        (all-told ItemKept news-kept s.failed later n t.links);
   }
 
   -- an order on a desk

@@ -1,8 +1,12 @@
 -- What each answer and each failure keep: a call is that of a posted setup, with a working leg that is two-way just
 -- where this says so, and each order on a desk was posted.
-use Rattle.std.proofs.Common.{◌≡◌, ◌⊎◌, ℕ, Bool, true, false, nat_eq, not, List, [], ◌∷◌, drop, refl, sym, ap, subst, ◌∙◌, inl, inr}
-use Rattle.std.specs.Prelude.{Option, Some, None, flat_map}
+use Rattle.std.proofs.Common.{◌≡◌, ◌⊎◌, ℕ, Bool, true, false, not, List, [], ◌∷◌, drop, refl, sym, ap, subst, ◌∙◌, inl, inr}
+use Rattle.std.specs.Prelude.{Option, Some, None}
 use Rattle.std.specs.List.{AllByRecursion}
+use Rattle.ason_base.specs.declared.calls.CallState.{CallState}
+use Rattle.ason_base.specs.declared.calls.CallState.TheVariants.{Asking, Blocked}
+use Rattle.ason_base.specs.declared.calls.Cause.{Cause}
+use Rattle.ason_base.specs.declared.calls.Cause.TheVariants.{Unset}
 use Rattle.ason_base.specs.declared.commands.Command.TheVariants.{Setup, Release, Protect, Retry, Revert, Fail, Repair}
 use Rattle.ason_base.specs.declared.commands.DeskItem.{DeskItem}
 use Rattle.ason_base.specs.declared.commands.DeskItem.TheVariants.{Order, Alarm, Clear}
@@ -15,15 +19,14 @@ use Rattle.ason_base.specs.declared.messages.Msg.{Msg}
 use Rattle.ason_base.specs.declared.network.LinkSpec.{LinkSpec}
 use Rattle.ason_base.specs.declared.tables.CallRec.{CallRec}
 use Rattle.ason_base.specs.declared.tables.Leg.{Leg}
-use Rattle.ason_base.specs.Lsps.{same_bool}
 use Rattle.ason_base.specs.Network.{Network, row_of}
 use Rattle.mesh_rules.specs.declared.events.MeshEvent.{MeshEvent}
 use Rattle.mesh_rules.specs.Calls.{find_call, is_asking}
 use Rattle.mesh_rules.specs.Changes.{Answer, changed, learns, nothing}
 use Rattle.mesh_rules.specs.Events.{on_first, on_first_item}
 use Rattle.mesh_rules.specs.FirstLegs.{first_link}
-use Rattle.mesh_rules.specs.Setups.{SetupRequest, begins, next_lsp}
-use Rattle.mesh_rules.specs.Failures.{all_news, changed_news, is_cut, link_news, news, news_at, with_failed}
+use Rattle.mesh_rules.specs.Setups.{SetupRequest, begins, call_record, next_lsp}
+use Rattle.mesh_rules.specs.Failures.{all_news, news, with_failed}
 use Rattle.mesh_rules.specs.KnownRows.{has_row, known_rows}
 use Rattle.mesh_rules.specs.Learnt.{on_link}
 use Rattle.mesh_rules.specs.Legs.{find_leg}
@@ -36,6 +39,7 @@ use Rattle.mesh_rules.specs.Waits.{on_tick}
 use Rattle.mesh_nodes.specs.Order.{CallsRise}
 use Rattle.mesh_nodes.proofs.Alarms.{all-append}
 use Rattle.mesh_nodes.proofs.Cases.{if_cases}
+use Rattle.mesh_nodes.proofs.News.{all-told}
 use Rattle.lsp_laws.specs.CallLaw.{IsTidy}
 use Rattle.lsp_laws.specs.NodeLaw.{DeskFits, FitsDesk}
 use Rattle.lsp_laws.proofs.nodes.CallMoves.{IsSameCall, moves-none}
@@ -148,6 +152,16 @@ module _ (t : Network) (all : List MeshEvent) where
         (sent-over t s n o f w route out first ∙ ap Some one)
     over-given w route out (inr none) first l r is given = absurd (cc (none, given))
 
+    -- the call of a setup that was posted, with what is known of its working LSP
+    setup-ordered : (w : SetupRequest) (begun : CallState) (work : Option Lsp) (cause : Cause) (o' : Routes)
+        (legs : List Leg) → w.from.0 ≡ n.0 →
+        WasPosted (Setup w.call w.from w.egress w.protected w.both w.via w.backup) all →
+        ((l : Lsp) (r : List Step) → work ≡ Some l → w.via ≡ Some r → o' l ≡ Some r) →
+        ((l : Lsp) (g : Leg) → work ≡ Some l → find_leg l legs ≡ Some g → is_two_way g ≡ w.both) →
+        IsOrdered o' all n.0 legs (call_record w begun work cause)
+    setup-ordered w begun work cause o' legs here posted over ways =
+        record { from = w.from; both = w.both; via = w.via; here = here; posted = posted; over = over; ways = ways }
+
     item-puts : (i : DeskItem) → FitsDesk t n.0 i → IsPosted i →
         EachCall (Before (on_item (local_node t n) (s.nodes n.0) i)) (s.nodes n.0).calls →
         Puts (on_item (local_node t n) (s.nodes n.0) i)
@@ -166,27 +180,13 @@ module _ (t : Network) (all : List MeshEvent) where
         setup-holds MayGo p state w Later
         (λ a cause known. record {
           tidy = record { cause = ap not known; ticks = refl; paired = refl };
-          order = record {
-            from = from;
-            both = both;
-            via = via;
-            here = fits.1;
-            posted = was;
-            over = λ l r work given. absurd (cc work);
-            ways = λ l g work here. absurd (cc work);
-          };
+          order = setup-ordered w Blocked None cause (grown n o a) (now a) fits.1 was
+              (λ l r work given. absurd (cc work)) (λ l g work here. absurd (cc work));
         })
         (λ route out over first ordered has. record {
           tidy = record { cause = refl; ticks = refl; paired = refl };
-          order = record {
-            from = from;
-            both = both;
-            via = via;
-            here = fits.1;
-            posted = was;
-            over = over-given w route out over first;
-            ways = begun-way p state w out (drop 1 route) has;
-          };
+          order = setup-ordered w Asking (Some (next_lsp p state)) Unset _ _ fits.1 was
+              (over-given w route out over first) (begun-way p state w out (drop 1 route) has);
         }) (find_call k state.calls)
     item-puts (Order (Release k from)) fits was old =
         let a = on_item p state (Order (Release k from)) in
@@ -250,31 +250,6 @@ module _ (t : Network) (all : List MeshEvent) where
   news-posted true f = tt
   news-posted false f = tt
 
-  news_at-posted : (n receiver : ℕ) (cut : Bool) (f : Fibre) → AllByRecursion IsPosted (news_at n receiver cut f)
-  news_at-posted n receiver cut f =
-      if_cases (AllByRecursion IsPosted) (nat_eq receiver n) (news cut f ∷ []) [] (λ e. (news-posted cut f, tt))
-      (λ e. tt)
-
-  link_news-posted : (n : ℕ) (cut : Bool) (l : LinkSpec) → AllByRecursion IsPosted (link_news n cut l)
-  link_news-posted n cut l =
-      all-append IsPosted (news_at n l.high.0 cut (record { link = l.id; forward = true })) _
-      (news_at-posted n l.high.0 cut (record { link = l.id; forward = true }))
-      (news_at-posted n l.low.0 cut (record { link = l.id; forward = false }))
-
-  changed_news-posted : (before now : List Group) (n : ℕ) (l : LinkSpec) →
-      AllByRecursion IsPosted (changed_news before now n l)
-  changed_news-posted before now n l =
-      if_cases (AllByRecursion IsPosted) (same_bool (is_cut before l) (is_cut now l)) []
-      (link_news n (is_cut now l) l)
-      (λ e. tt) (λ e. link_news-posted n (is_cut now l) l)
-
-  each_news-posted : (before now : List Group) (n : ℕ) (links : List LinkSpec) →
-      AllByRecursion IsPosted (flat_map (changed_news before now n) links)
-  each_news-posted before now n [] = tt
-  each_news-posted before now n (l ∷ links) =
-      all-append IsPosted (changed_news before now n l) _ (changed_news-posted before now n l)
-      (each_news-posted before now n links)
-
   -- Every event
 
   pub carried-failed : (s : Mesh) (groups : List Group) → (o : Routes) → AreKept s o →
@@ -282,6 +257,6 @@ module _ (t : Network) (all : List MeshEvent) where
   carried-failed s groups o carried = record {
     calls = carried.calls;
     desks = λ n. all-append IsPosted (s.desks n) (all_news t s.failed groups n) (carried.desks n)
-        (each_news-posted s.failed groups n t.links);
+        (all-told IsPosted news-posted s.failed groups n t.links);
     down = carried.down;
   }

@@ -11,8 +11,7 @@ use Rattle.ason_base.specs.declared.ids.NodeId.{NodeId}
 use Rattle.ason_base.specs.declared.tables.CallRec.{CallRec}
 use Rattle.ason_base.specs.declared.tables.Leg.{Leg}
 use Rattle.mesh_rules.specs.Alarms.{enters, is_hit, knows_down, notice_of, notices, on_alarm, on_clear}
-use Rattle.mesh_rules.specs.Calls.{find_call}
-use Rattle.mesh_rules.specs.Changes.{Answer, changed, nothing}
+use Rattle.mesh_rules.specs.Changes.{Answer, nothing}
 use Rattle.mesh_rules.specs.Legs.{find_leg, is_closing, previous}
 use Rattle.mesh_rules.specs.LocalNodes.{LocalNode, local_node, own_link}
 use Rattle.mesh_rules.specs.Machine.{Mesh, commit, sent_to}
@@ -30,7 +29,7 @@ use Rattle.lsp_laws.proofs.hops.Plans.{Plan, distinct, fibre_at, hops, link_at, 
 use Rattle.lsp_laws.proofs.hops.Purposes.{Purpose}
 use Rattle.lsp_laws.proofs.hops.Views.{notices-else, notices-from}
 use Rattle.mesh_laws.proofs.reports.Alarmed.{elsewhere-told, hit-told, missed-told, none-told, one-told, told-all-append}
-use Rattle.mesh_laws.proofs.reports.GentleWords.{CallOf, PlaceTold, RouteTold, Stands, Untold, gentle-told, has_plain, is_waiting, line_at}
+use Rattle.mesh_laws.proofs.reports.GentleWords.{CallOf, PlaceTold, RouteTold, Stands, Untold, call-before, gentle-told, has_plain, is_waiting, line_at}
 use Rattle.mesh_laws.proofs.reports.Gentle.{commit-gentle}
 use Rattle.mesh_laws.proofs.reports.AnswerParts.{nothing-gentle}
 use Rattle.mesh_laws.proofs.reports.KnownFibres.{has-less, has-more, same_fibre-is}
@@ -63,13 +62,7 @@ module _ (t : Network) (s : Mesh) (n : NodeId) (o : Routes) (f : Fibre) (code : 
       (record { legs = refl; numbers = refl; sent = all_notices place f code (s.nodes n.0).legs })).mail
 
   call-same : (c : CallRec) → CallOf later l c → CallOf s l c
-  call-same c of = record { found = go (nat_eq l.ingress.0 n.0) of.found; named = of.named }
-    where
-      go : (b : Bool) →
-          find_call c.call (cond b (changed (s.nodes l.ingress.0) answer) (s.nodes l.ingress.0)).calls ≡ Some c →
-          find_call c.call (s.nodes l.ingress.0).calls ≡ Some c
-      go true found = found
-      go false found = found
+  call-same c of = call-before s n.0 answer l c (λ found. found) of
 
   known-elsewhere : (m : NodeId) → m.0 ≢ n.0 → (later.nodes m.0).down ≡ (s.nodes m.0).down
   known-elsewhere m apart = let far : nat_eq m.0 n.0 ≡ false = grind arith in rw far refl

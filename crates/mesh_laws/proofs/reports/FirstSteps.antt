@@ -1,5 +1,5 @@
 -- The first Path of an LSP is taken on its route: what its reports tell stays.
-use Rattle.std.proofs.Common.{◌≡◌, ◌≢◌, ◌≤◌, ◌<◌, ℕ, suc, Bool, true, false, cond, nat_eq, List, [], ◌∷◌, refl, sym, ap, ◌∙◌, subst, arith, inl, inr}
+use Rattle.std.proofs.Common.{◌≡◌, ◌≢◌, ◌≤◌, ◌<◌, ℕ, suc, true, false, List, [], ◌∷◌, refl, sym, ap, ◌∙◌, subst, arith, inl, inr}
 use Rattle.std.specs.Prelude.{◌&&◌, ◌⊎◌, map, Option, Some, None}
 use Rattle.ason_base.specs.Lsps.{has_fibre}
 use Rattle.ason_base.specs.Network.{Network}
@@ -12,7 +12,7 @@ use Rattle.ason_base.specs.declared.messages.PathRole.{PathRole}
 use Rattle.ason_base.specs.declared.steps.Step.{Step}
 use Rattle.ason_base.specs.declared.tables.CallRec.{CallRec}
 use Rattle.mesh_rules.specs.Calls.{calls_changed, find_call}
-use Rattle.mesh_rules.specs.Changes.{Answer, changed}
+use Rattle.mesh_rules.specs.Changes.{Answer}
 use Rattle.mesh_rules.specs.LocalNodes.{LocalNode, local_node, own_link}
 use Rattle.mesh_rules.specs.Machine.{Mesh, commit, without_first}
 use Rattle.mesh_rules.specs.Messages.{arrival, on_message}
@@ -38,7 +38,7 @@ use Rattle.lsp_laws.proofs.hops.Taken.{down_hop}
 use Rattle.lsp_laws.proofs.hops.Views.{leg-here, leg-there, notices-plain, notices-without}
 use Rattle.mesh_laws.proofs.reports.Desks.{same-down}
 use Rattle.mesh_laws.proofs.reports.FirstPaths.{clear-first_path, no_calls-first_path}
-use Rattle.mesh_laws.proofs.reports.GentleWords.{CallOf, IsUnreached, PlaceTold, RouteTold, Stands, Untold, has_plain, is_first, is_waiting, line_at}
+use Rattle.mesh_laws.proofs.reports.GentleWords.{CallOf, IsUnreached, PlaceTold, RouteTold, Stands, Untold, call-before, has_plain, is_first, is_waiting, line_at}
 use Rattle.mesh_laws.proofs.reports.OnTheWay.{same_lines}
 use Rattle.mesh_laws.proofs.reports.WaitingLegs.{asked-waits, closing-torn, plain-path, silent-way}
 
@@ -144,14 +144,11 @@ module _ (t : Network) (s : Mesh) (o : Routes) (l : Lsp) (q : Purpose) (p : Plan
       ∙ no_calls-first_path place (s.nodes d.0) asks (own_link place k)
 
   call-same : (c : CallRec) → CallOf later l c → CallOf s l c
-  call-same c of = record { found = go (nat_eq l.ingress.0 d.0) of.found; named = of.named }
-    where
-      go : (b : Bool) →
-          find_call c.call (cond b (changed (s.nodes l.ingress.0) answer) (s.nodes l.ingress.0)).calls ≡ Some c →
-          find_call c.call (s.nodes l.ingress.0).calls ≡ Some c
-      go true found =
-          subst (λ cs. find_call c.call (calls_changed cs (s.nodes l.ingress.0).calls) ≡ Some c) no-calls found
-      go false found = found
+  call-same c of =
+      let was = call-before (without_first s u.0 d.0) d.0 answer l c
+      (λ found. subst (λ cs. find_call c.call (calls_changed cs (s.nodes l.ingress.0).calls) ≡ Some c) no-calls found)
+      of in
+      record { found = was.found; named = was.named }
 
   line-same : (x y : ℕ) → line_at (notices_between later l) p x y ≡ line_at (notices_between s l) p x y
   line-same x y = ap (told_by_all (node_at p (suc x)) (link_at p x)) (notices-same (node_at p (suc y)) (node_at p y))

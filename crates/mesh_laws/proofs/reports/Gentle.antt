@@ -1,6 +1,6 @@
 -- A step that tells nothing of the fibres of an LSP's route, and takes no Notify of the LSP: its legs that stand stood
 -- before, its Notifies stay on their way, and its call has the same reports.
-use Rattle.std.proofs.Common.{◌≡◌, ℕ, Bool, true, false, cond, nat_eq, List, [], ◌∷◌, ◌++◌, drop, refl, sym, ap, ◌∙◌, subst, arith, append-nil}
+use Rattle.std.proofs.Common.{◌≡◌, ℕ, Bool, true, false, cond, nat_eq, List, [], ◌∷◌, ◌++◌, drop, refl, sym, ap, ◌∙◌, subst, arith}
 use Rattle.std.specs.Prelude.{◌&&◌, ◌||◌, map, filter, Option, Some, None}
 use Rattle.std.proofs.lemmas.List.Elements.{filter-append}
 use Rattle.std.proofs.lemmas.List.Folds.{list_any-append}
@@ -21,7 +21,7 @@ use Rattle.mesh_nodes.proofs.Cases.{both_left, both_right}
 use Rattle.lsp_laws.specs.HopLaw.{is_message_of, is_notice, is_notice_of, leg_at, lsp_of, mail_between, messages_of, notices_between, notices_of}
 use Rattle.lsp_laws.specs.ReportLaw.{is_standing, reports_of}
 use Rattle.lsp_laws.proofs.hops.Tables.{find-changed, leg_after}
-use Rattle.lsp_laws.proofs.hops.Views.{leg-here, notices-without}
+use Rattle.lsp_laws.proofs.hops.Views.{leg-here, notices-unsent, notices-without}
 use Rattle.mesh_laws.proofs.reports.Desks.{same-down}
 use Rattle.mesh_laws.proofs.reports.GentleWords.{CallOf, Gentle, IsGentle, LegKeeps, NoneOf, Still, has_plain, is_first, is_plain, is_waiting}
 
@@ -84,14 +84,7 @@ module _ (s : Mesh) (n : NodeId) (l : Lsp) (a : Answer) (keeps : LegKeeps l (leg
       at_node (λ o. o ≡ None) m (λ e. keeps.gone (sym (same-at m e) ∙ gone)) (λ e. gone)
 
   pub notices-after : (x b : NodeId) → notices_between (commit s n.0 a) l x b ≡ notices_between s l x b
-  notices-after x b =
-      elim (nat_eq x.0 n.0) as
-      (λ t. notices_of l (cond t (s.mail x.0 b.0 ++ sent_to b.0 a.sent) (s.mail x.0 b.0)) ≡ notices_between s l x b) [
-        | true ↦
-            filter-append _ (s.mail x.0 b.0) (sent_to b.0 a.sent) ∙
-            rw (no-notices l b.0 a.sent quiet, append-nil) refl
-        | false ↦ refl
-      ]
+  notices-after x b = notices-unsent s n x b l a (no-notices l b.0 a.sent quiet)
 
   first-after : (x b : NodeId) → is_first (commit s n.0 a) l x b ≡ true → is_first s l x b ≡ true
   first-after x b = go (nat_eq x.0 n.0) refl

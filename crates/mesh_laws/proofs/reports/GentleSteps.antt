@@ -7,7 +7,6 @@ use Rattle.ason_base.specs.declared.calls.Cause.TheVariants.{Code, Full, NoRoute
 use Rattle.ason_base.specs.declared.calls.CallState.TheVariants.{Asking, Blocked}
 use Rattle.ason_base.specs.declared.calls.Role.TheVariants as role
 use Rattle.ason_base.specs.declared.commands.Command.{Command}
-use Rattle.ason_base.specs.declared.commands.Command.TheVariants.{Setup, Release, Protect, Retry, Revert, Fail, Repair}
 use Rattle.ason_base.specs.declared.ids.CallNo.{CallNo}
 use Rattle.ason_base.specs.declared.ids.Lsp.{Lsp}
 use Rattle.ason_base.specs.declared.ids.NodeId.{NodeId}
@@ -47,6 +46,7 @@ use Rattle.mesh_rules.specs.Turns.{has_any}
 use Rattle.mesh_nodes.proofs.CallList.{found-number}
 use Rattle.mesh_nodes.proofs.Cases.{if_cases}
 use Rattle.mesh_nodes.proofs.LegList.{find-with_leg, found-lsp, same_lsp-eq}
+use Rattle.mesh_nodes.proofs.ByKind.{by-order}
 use Rattle.lsp_laws.specs.CallLaw.{FitsLegs}
 use Rattle.lsp_laws.specs.HopLaw.{is_notice_of, lsp_of}
 use Rattle.lsp_laws.proofs.nodes.BackLabels.{closed-closing}
@@ -215,16 +215,11 @@ module _ (p : LocalNode) (s : NodeState) (facts : NodeFacts p.id.0 s) (l : Lsp) 
       (λ e. nothing-gentle s l)
 
   pub order-gentle : (c : Command) → IsGentle s l (on_order p s c)
-  order-gentle (Setup n from to protected two via backup) =
-      setup-gentle
-      (record { call = n; from = from; egress = to; protected = protected; both = two; via = via; backup = backup })
-      (find_call n s.calls)
-  order-gentle (Release n from) = release-gentle from (find_call n s.calls)
-  order-gentle (Protect n from) = protect-gentle n from (find_call n s.calls) refl
-  order-gentle (Retry n from) = retry-gentle n from (find_call n s.calls) refl
-  order-gentle (Revert n from) = revert-gentle n from (find_call n s.calls) refl
-  order-gentle (Fail g) = nothing-gentle s l
-  order-gentle (Repair g) = nothing-gentle s l
+  order-gentle =
+      by-order (IsGentle s l) p s (nothing-gentle s l) (λ w. setup-gentle w (find_call w.call s.calls))
+      (λ n from. release-gentle from (find_call n s.calls)) (λ n from. protect-gentle n from (find_call n s.calls) refl)
+      (λ n from. retry-gentle n from (find_call n s.calls) refl)
+      (λ n from. revert-gentle n from (find_call n s.calls) refl)
 
   -- Messages
 

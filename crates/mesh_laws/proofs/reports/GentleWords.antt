@@ -1,5 +1,5 @@
 -- What a step must leave as it was, so that what is told of a route stays.
-use Rattle.std.proofs.Common.{◌≡◌, ◌≤◌, ◌<◌, ℕ, suc, Bool, true, false, cond, List, [], ◌∷◌, sym, ap, ◌∙◌}
+use Rattle.std.proofs.Common.{◌≡◌, ◌≤◌, ◌<◌, ℕ, suc, Bool, true, false, cond, nat_eq, List, [], ◌∷◌, sym, ap, ◌∙◌}
 use Rattle.std.specs.Prelude.{◌&&◌, Option, Some, None}
 use Rattle.std.specs.List.{list_any}
 use Rattle.ason_base.specs.Lsps.{has_fibre, same_lsp}
@@ -15,9 +15,9 @@ use Rattle.ason_base.specs.declared.tables.Out.{Out}
 use Rattle.mesh_rules.specs.declared.changes.CallChange.{CallChange}
 use Rattle.mesh_rules.specs.declared.changes.LegChange.{LegChange}
 use Rattle.mesh_rules.specs.Calls.{calls_changed, find_call, names}
-use Rattle.mesh_rules.specs.Changes.{Answer}
+use Rattle.mesh_rules.specs.Changes.{Answer, changed}
 use Rattle.mesh_rules.specs.Legs.{find_leg, is_asked}
-use Rattle.mesh_rules.specs.Machine.{Mesh}
+use Rattle.mesh_rules.specs.Machine.{Mesh, commit}
 use Rattle.mesh_rules.specs.Paths.{is_active}
 use Rattle.mesh_rules.specs.State.{NodeState}
 use Rattle.lsp_laws.specs.HopLaw.{is_notice, leg_at, lsp_of, mail_between, notices_between}
@@ -31,6 +31,18 @@ use Rattle.lsp_laws.proofs.hops.Tables.{leg_after}
 pub record CallOf (s : Mesh) (l : Lsp) (c : CallRec) : Type 0 where
   pub found : find_call c.call (s.nodes l.ingress.0).calls ≡ Some c
   pub named : names l c ≡ true
+
+-- a call after an answer that leaves it where it begins
+pub call-before : (s : Mesh) (n : ℕ) (a : Answer) (l : Lsp) (c : CallRec) →
+    (find_call c.call (calls_changed a.calls (s.nodes l.ingress.0).calls) ≡ Some c →
+    find_call c.call (s.nodes l.ingress.0).calls ≡ Some c) → CallOf (commit s n a) l c → CallOf s l c
+call-before s n a l c leaves of = record { found = go (nat_eq l.ingress.0 n) of.found; named = of.named }
+  where
+    go : (b : Bool) →
+        find_call c.call (cond b (changed (s.nodes l.ingress.0) a) (s.nodes l.ingress.0)).calls ≡ Some c →
+        find_call c.call (s.nodes l.ingress.0).calls ≡ Some c
+    go true found = leaves found
+    go false found = found
 
 -- what Notifies tell of the fibre from a place on, over the hop of each place
 abbrev pub line_at : (NodeId → NodeId → List Msg) → Plan → ℕ → ℕ → List Bool

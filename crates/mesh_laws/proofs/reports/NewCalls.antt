@@ -7,7 +7,6 @@ use Rattle.ason_base.specs.declared.ids.Fibre.{Fibre}
 use Rattle.ason_base.specs.declared.ids.Lsp.{Lsp}
 use Rattle.ason_base.specs.declared.ids.NodeId.{NodeId}
 use Rattle.ason_base.specs.declared.messages.Msg.{Msg}
-use Rattle.ason_base.specs.declared.messages.Msg.TheVariants.{Path, Resv, PathTear, PathErr, Notify}
 use Rattle.ason_base.specs.declared.messages.PathRole.{PathRole}
 use Rattle.ason_base.specs.declared.messages.PathRole.TheVariants.{Work, Back}
 use Rattle.ason_base.specs.declared.steps.Step.{Step}
@@ -24,7 +23,7 @@ use Rattle.mesh_rules.specs.Changes.{Answer}
 use Rattle.mesh_rules.specs.Events.{on_first}
 use Rattle.mesh_rules.specs.Legs.{connected, find_leg, following, is_active_backup, is_armed, is_asked, is_closing, is_contended, is_held, is_node, is_over, label_through, leg_of, previous, with_phase}
 use Rattle.mesh_rules.specs.LocalNodes.{LocalNode, own_link}
-use Rattle.mesh_rules.specs.Messages.{arrival, on_message}
+use Rattle.mesh_rules.specs.Messages.{on_message}
 use Rattle.mesh_rules.specs.Notifies.{Notice, notice_passed, notice_told, notify_with}
 use Rattle.mesh_rules.specs.Pairs.{route_from}
 use Rattle.mesh_rules.specs.PathErrs.{PathFailure, err_passed, path_err_with}
@@ -35,6 +34,7 @@ use Rattle.mesh_rules.specs.State.{NodeState}
 use Rattle.mesh_rules.specs.Tears.{tear_with, torn}
 use Rattle.mesh_nodes.specs.Order.{CallsRise}
 use Rattle.mesh_nodes.proofs.Cases.{if_cases}
+use Rattle.mesh_nodes.proofs.ByKind.{by-message}
 use Rattle.mesh_laws.proofs.reports.FirstPaths.{no_calls-first_path}
 use Rattle.mesh_laws.proofs.reports.Reported.{report-names}
 use Rattle.mesh_laws.proofs.reports.NewParts.{AreNew, IsNew, answered-new, called-there, contended-new, new-decide, new-none, refused-new, turned-new}
@@ -141,15 +141,10 @@ module _ (p : LocalNode) (s : NodeState) (rise : CallsRise s.calls) (l : Lsp)
       told (Some down) = passed down (previous g)
 
   pub message-new : (u : NodeId) (m : Msg) → New (on_message p s u m)
-  message-new u (Path j e k route set up r) =
-      path-new (record { arrival = arrival j e u k; route = route; set = set; upstream = up; role = r }) (find_leg j s.legs)
-  message-new u (Resv j e k x) = resv-new (arrival j e u k) x (find_leg j s.legs)
-  message-new u (PathTear j e k) = tear-new (arrival j e u k) (find_leg j s.legs)
-  message-new u (PathErr j e at gone code) =
-      err-new u (record { lsp = j; msg = PathErr j e at gone code; removed = gone; code = code }) (find_leg j s.legs)
-  message-new u (Notify j e at k code) =
-      notify-new u (record { lsp = j; msg = Notify j e at k code; at = at; link = k; code = code })
-      (find_leg j s.legs)
+  message-new u =
+      by-message New p s u (λ m. path-new m (find_leg m.arrival.lsp s.legs))
+      (λ a x. resv-new a x (find_leg a.lsp s.legs)) (λ a. tear-new a (find_leg a.lsp s.legs))
+      (λ e. err-new u e (find_leg e.lsp s.legs)) (λ m. notify-new u m (find_leg m.lsp s.legs))
 
   pub first-new : (u : NodeId) (ms : List Msg) → New (on_first p s u ms)
   first-new u [] = unchanged [] refl

@@ -7,7 +7,6 @@ use Rattle.ason_base.specs.declared.calls.CallState.TheVariants.{Asking, Blocked
 use Rattle.ason_base.specs.declared.calls.Cause.{Cause}
 use Rattle.ason_base.specs.declared.calls.Cause.TheVariants.{Code, Full, NoRoute, Spent, Unset}
 use Rattle.ason_base.specs.declared.commands.Command.{Command}
-use Rattle.ason_base.specs.declared.commands.Command.TheVariants.{Setup, Release, Protect, Retry, Revert, Fail, Repair}
 use Rattle.ason_base.specs.declared.commands.DeskItem.{DeskItem}
 use Rattle.ason_base.specs.declared.commands.DeskItem.TheVariants.{Order, Alarm, Clear}
 use Rattle.ason_base.specs.declared.ids.CallNo.{CallNo}
@@ -24,7 +23,7 @@ use Rattle.mesh_rules.specs.declared.changes.CallChange.{CallChange}
 use Rattle.mesh_rules.specs.declared.changes.CallChange.TheVariants as call
 use Rattle.mesh_rules.specs.Alarms.{enters}
 use Rattle.mesh_rules.specs.Calls.{calls_changed, find_call, is_bare, is_stuck, is_turned, names}
-use Rattle.mesh_rules.specs.Changes.{Answer}
+use Rattle.mesh_rules.specs.Changes.{Answer, nothing}
 use Rattle.mesh_rules.specs.Events.{on_first_item}
 use Rattle.mesh_rules.specs.FirstLegs.{first_link, is_full, lacks_first_back}
 use Rattle.mesh_rules.specs.KnownRows.{known_rows}
@@ -42,6 +41,7 @@ use Rattle.mesh_rules.specs.Turns.{has_any}
 use Rattle.mesh_nodes.specs.Order.{CallsRise}
 use Rattle.mesh_nodes.proofs.CallList.{find-without_call, found-number}
 use Rattle.mesh_nodes.proofs.Cases.{if_cases}
+use Rattle.mesh_nodes.proofs.ByKind.{by-order}
 use Rattle.lsp_laws.specs.ReportLaw.{reports_of}
 use Rattle.mesh_laws.proofs.reports.Reported.{go_back-puts, turn-puts}
 use Rattle.mesh_laws.proofs.reports.NewParts.{AreNew, IsNew, new-from, new-none, new-put, pair-new}
@@ -51,8 +51,8 @@ module _ (p : LocalNode) (s : NodeState) (rise : CallsRise s.calls) (l : Lsp)
   abbrev New : Answer → Type 0
   New = IsNew p s rise l unnamed
 
-  unchanged : (changes : List CallChange) → changes ≡ [] → AreNew p s rise l unnamed changes
-  unchanged = new-none p s rise l unnamed
+  nothing-new : New nothing
+  nothing-new = new-none p s rise l unnamed [] refl
 
   no-reports : (w : SetupRequest) (state : CallState) (work : Option Lsp) (cause : Cause) →
       reports_of l (call_record w state work cause) ≡ []
@@ -69,11 +69,11 @@ module _ (p : LocalNode) (s : NodeState) (rise : CallsRise s.calls) (l : Lsp)
       new-put p s rise l unnamed changes (call_record w state work cause) is (λ named. no-reports w state work cause)
 
   setup-new : (w : SetupRequest) (o : Option CallRec) → New (setup_with p s w o)
-  setup-new w (Some c) = unchanged [] refl
-  setup-new w None = if_cases New (is_order_here p w) _ _ (λ e. begun w.via) (λ e. unchanged [] refl)
+  setup-new w (Some c) = nothing-new
+  setup-new w None = if_cases New (is_order_here p w) _ _ (λ e. begun w.via) (λ e. nothing-new)
     where
       over : (route : List Step) (o : Option LinkSpec) → New (over_first p s w route o)
-      over route None = unchanged [] refl
+      over route None = nothing-new
       over route (Some out) =
           if_cases New (is_spent s) _ _ (λ e. record-new w Blocked None Spent _ refl)
           (λ e. if_cases New (is_full s) _ _ (λ f. record-new w Blocked None Full _ refl)
@@ -104,72 +104,66 @@ module _ (p : LocalNode) (s : NodeState) (rise : CallsRise s.calls) (l : Lsp)
   tears-none (Some g) = refl
 
   release-new : (from : NodeId) (o : Option CallRec) → New (release_with p s from o)
-  release-new from None = unchanged [] refl
+  release-new from None = nothing-new
   release-new from (Some c) =
       if_cases New (nat_eq from.0 p.id.0) _ _
       (λ e. goes-new c (releases s c).calls
       (rw (tears-none (leg_of c.work s.legs), tears-none (leg_of c.back s.legs)) refl))
-      (λ e. unchanged [] refl)
+      (λ e. nothing-new)
 
   own-call : (n : CallNo) (c : CallRec) → find_call n s.calls ≡ Some c → find_call c.call s.calls ≡ Some c
   own-call n c found = subst (λ k. find_call k s.calls ≡ Some c) (sym (found-number n s.calls c found)) found
 
   protects-new : (c : CallRec) → find_call c.call s.calls ≡ Some c → (o : Option Leg) → New (protects p s c o)
-  protects-new c there None = unchanged [] refl
+  protects-new c there None = nothing-new
   protects-new c there (Some w) = pair-new p s rise l unnamed c w there
 
   protect-new : (n : CallNo) (from : NodeId) (o : Option CallRec) → find_call n s.calls ≡ o →
       New (protect_with p s from o)
-  protect-new n from None is = unchanged [] refl
+  protect-new n from None is = nothing-new
   protect-new n from (Some c) is =
       if_cases New (nat_eq from.0 p.id.0 && is_bare c.state) _ _
-      (λ e. protects-new c (own-call n c is) (leg_of c.work s.legs)) (λ e. unchanged [] refl)
+      (λ e. protects-new c (own-call n c is) (leg_of c.work s.legs)) (λ e. nothing-new)
 
   retry-new : (n : CallNo) (from : NodeId) (o : Option CallRec) → find_call n s.calls ≡ o →
       New (retry_with p s from o)
-  retry-new n from None is = unchanged [] refl
+  retry-new n from None is = nothing-new
   retry-new n from (Some c) is =
       if_cases New (nat_eq from.0 p.id.0) _ _
       (λ e. if_cases New (is_stuck c.state && (has_any c.work_reports && not (has_any c.back_reports))) _ _
       (λ f. let puts = turn-puts l s.legs c (leg_of c.back s.legs) in
       new-from p s rise l unnamed _ c puts.put (own-call n c is) puts.calls
       (λ named. sym puts.same_names ∙ named))
-      (λ f. unchanged [] refl))
-      (λ e. unchanged [] refl)
+      (λ f. nothing-new))
+      (λ e. nothing-new)
 
   revert-new : (n : CallNo) (from : NodeId) (o : Option CallRec) → find_call n s.calls ≡ o →
       New (revert_with p s from o)
-  revert-new n from None is = unchanged [] refl
+  revert-new n from None is = nothing-new
   revert-new n from (Some c) is =
       if_cases New (nat_eq from.0 p.id.0) _ _
       (λ e. if_cases New (is_turned c.state && not (has_any c.work_reports)) _ _
       (λ f. let puts = go_back-puts l c (leg_of c.back s.legs) in
       new-from p s rise l unnamed _ c puts.put (own-call n c is) puts.calls
       (λ named. sym puts.same_names ∙ named))
-      (λ f. unchanged [] refl))
-      (λ e. unchanged [] refl)
+      (λ f. nothing-new))
+      (λ e. nothing-new)
 
   order-new : (c : Command) → New (on_order p s c)
-  order-new (Setup n from to protected two via backup) =
-      setup-new
-      (record { call = n; from = from; egress = to; protected = protected; both = two; via = via; backup = backup })
-      (find_call n s.calls)
-  order-new (Release n from) = release-new from (find_call n s.calls)
-  order-new (Protect n from) = protect-new n from (find_call n s.calls) refl
-  order-new (Retry n from) = retry-new n from (find_call n s.calls) refl
-  order-new (Revert n from) = revert-new n from (find_call n s.calls) refl
-  order-new (Fail g) = unchanged [] refl
-  order-new (Repair g) = unchanged [] refl
+  order-new =
+      by-order New p s nothing-new (λ w. setup-new w (find_call w.call s.calls))
+      (λ n from. release-new from (find_call n s.calls)) (λ n from. protect-new n from (find_call n s.calls) refl)
+      (λ n from. retry-new n from (find_call n s.calls) refl) (λ n from. revert-new n from (find_call n s.calls) refl)
 
   pub item-new : (i : DeskItem) → New (on_item p s i)
   item-new (Order c) = order-new c
   item-new (Alarm f) =
-      if_cases New (enters p f (own_link p f.link) && not (has_fibre s.down f)) _ _ (λ e. unchanged _ refl)
-      (λ e. unchanged [] refl)
+      if_cases New (enters p f (own_link p f.link) && not (has_fibre s.down f)) _ _
+      (λ e. new-none p s rise l unnamed _ refl) (λ e. nothing-new)
   item-new (Clear f) =
-      if_cases New (enters p f (own_link p f.link) && has_fibre s.down f) _ _ (λ e. unchanged _ refl)
-      (λ e. unchanged [] refl)
+      if_cases New (enters p f (own_link p f.link) && has_fibre s.down f) _ _ (λ e. new-none p s rise l unnamed _ refl)
+      (λ e. nothing-new)
 
   pub first_item-new : (items : List DeskItem) → New (on_first_item p s items)
-  first_item-new [] = unchanged [] refl
+  first_item-new [] = nothing-new
   first_item-new (i ∷ items) = item-new i

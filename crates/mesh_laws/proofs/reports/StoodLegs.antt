@@ -1,12 +1,11 @@
 -- Legs that stand as they stood, by their phases.
-use Rattle.std.proofs.Common.{◌≡◌, Bool, true, false, refl, sym, ◌∙◌, subst}
+use Rattle.std.proofs.Common.{◌≡◌, Bool, true, false, refl, sym, ap, ◌∙◌, subst}
 use Rattle.std.specs.Prelude.{◌||◌, Option, Some, None}
 use Rattle.ason_base.specs.Codes.{busy_code}
 use Rattle.ason_base.specs.Lsps.{is_lsp, same_lsp}
 use Rattle.ason_base.specs.declared.calls.Cause.{Cause}
 use Rattle.ason_base.specs.declared.calls.Cause.TheVariants.{Code}
 use Rattle.ason_base.specs.declared.calls.Phase.{Phase}
-use Rattle.ason_base.specs.declared.calls.Phase.TheVariants.{Armed, Asked, Held}
 use Rattle.ason_base.specs.declared.calls.Role.{Role}
 use Rattle.ason_base.specs.declared.calls.Role.TheVariants as role
 use Rattle.ason_base.specs.declared.codes.ErrCode.{ErrCode}
@@ -27,6 +26,7 @@ use Rattle.mesh_rules.specs.State.{NodeState}
 use Rattle.mesh_rules.specs.Turns.{activating}
 use Rattle.mesh_nodes.proofs.Cases.{if_cases}
 use Rattle.mesh_nodes.proofs.LegList.{same_lsp-refl}
+use Rattle.mesh_nodes.proofs.Phases.{armed-is, asked-is, held-is, of-closing}
 use Rattle.lsp_laws.specs.ReportLaw.{reports_of}
 use Rattle.lsp_laws.proofs.nodes.CallParts.{lsp-is}
 use Rattle.mesh_laws.proofs.reports.GentleWords.{IsGentle}
@@ -40,24 +40,18 @@ stood : (p : Phase → Bool) → ((f : Phase) → p f ≡ true → is_closing f 
 stood p stands f e g h = stands f e
 
 pub asked-stands : (f : Phase) → is_asked f ≡ true → is_closing f ≡ false
-asked-stands Asked e = refl
-asked-stands _ e = absurd (cc e)
+asked-stands f e = ap is_closing (asked-is f e)
 
 pub held-stands : (f : Phase) → is_held f ≡ true → is_closing f ≡ false
-held-stands Held e = refl
-held-stands _ e = absurd (cc e)
+held-stands f e = ap is_closing (held-is f e)
 
 pub armed-stands : (f : Phase) → is_armed f ≡ true → is_closing f ≡ false
-armed-stands Armed e = refl
-armed-stands _ e = absurd (cc e)
+armed-stands f e = ap is_closing (armed-is f e)
 
 -- a torn leg isn't Asked, nor is a leg with its label
 
 pub closing-done : (f : Phase) (r : Role) → is_asked (closing_phase f r) ≡ false
-closing-done Armed role.Back = refl
-closing-done Armed role.Work = refl
-closing-done _ role.Work = refl
-closing-done _ role.Back = refl
+closing-done f r = of-closing (λ q. is_asked q ≡ false) refl refl f r
 
 pub reserved-done : (r : Role) → is_asked (reserved r) ≡ false
 reserved-done role.Work = refl

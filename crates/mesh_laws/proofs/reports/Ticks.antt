@@ -9,9 +9,10 @@ use Rattle.ason_base.specs.declared.ids.Lsp.{Lsp}
 use Rattle.ason_base.specs.declared.calls.Phase.TheVariants.{Held}
 use Rattle.ason_base.specs.declared.tables.CallRec.{CallRec}
 use Rattle.ason_base.specs.declared.tables.Leg.{Leg}
+use Rattle.mesh_rules.specs.declared.changes.CallChange.{CallChange}
 use Rattle.mesh_rules.specs.declared.changes.CallChange.TheVariants as call
 use Rattle.mesh_rules.specs.Calls.{calls_changed, find_call, guarded, is_turned, names}
-use Rattle.mesh_rules.specs.Changes.{Answer, followed_by, nothing}
+use Rattle.mesh_rules.specs.Changes.{Answer, changes_calls, followed_by, nothing}
 use Rattle.mesh_rules.specs.Legs.{find_leg, following, is_closing, is_in_use, leg_of, with_phase}
 use Rattle.mesh_rules.specs.LocalNodes.{LocalNode}
 use Rattle.mesh_rules.specs.State.{NodeState}
@@ -60,16 +61,22 @@ module _ (s : NodeState) (l : Lsp) where
     calls = tame.calls s.calls (λ k c found named. (c, found, named, refl));
   }
 
-  nothing-tame : IsTame nothing
-  nothing-tame = record {
+  -- an answer that changes calls alone
+  calls-tame : (changes : List CallChange) →
+      ((calls : List CallRec) → AreAsBefore calls → AreAsBefore (calls_changed changes calls)) →
+      IsTame (changes_calls changes)
+  calls-tame changes before = record {
     stands = λ o before h. before h;
     gone = λ none o e. e;
     waits = λ o h. h;
     sent = tt;
     active = λ o h. tt;
     down = refl;
-    calls = λ calls before. before;
+    calls = before;
   }
+
+  nothing-tame : IsTame nothing
+  nothing-tame = calls-tame [] (λ calls before. before)
 
   both-tame : (a b : Answer) → IsTame a → IsTame b → IsTame (followed_by a b)
   both-tame a b first second = record {
@@ -113,15 +120,7 @@ module _ (s : NodeState) (l : Lsp) where
 
     put-tame : (d : CallRec) → d.call ≡ c.call → names l d ≡ names l c → reports_of l d ≡ reports_of l c →
         IsTame (call_put d)
-    put-tame d number named reports = record {
-      stands = λ o before h. before h;
-      gone = λ none o e. e;
-      waits = λ o h. h;
-      sent = tt;
-      active = λ o h. tt;
-      down = refl;
-      calls = put-before d number named reports;
-    }
+    put-tame d number named reports = calls-tame (call.Put d ∷ []) (put-before d number named reports)
 
     disarms-tame : (b : Leg) → find_leg b.lsp s.legs ≡ Some b → is_closing b.phase ≡ false → IsTame (disarms c b)
     disarms-tame b found stood = record {

@@ -23,7 +23,7 @@ use Rattle.mesh_rules.specs.Paths.{PathRequest, path_with}
 use Rattle.mesh_rules.specs.Activations.{armed_on, busy_to, resv_to}
 use Rattle.lsp_laws.specs.HopLaw.{messages_of, leg_at, mail_between}
 use Rattle.mesh_nodes.proofs.Cases.{if_cases, both_left}
-use Rattle.lsp_laws.proofs.nodes.PhaseLegs.{held-is}
+use Rattle.mesh_nodes.proofs.Phases.{held-is}
 use Rattle.lsp_laws.proofs.hops.Plans.{Plan, hops, fibre_at, node_at, IsRoute, distinct}
 use Rattle.lsp_laws.proofs.hops.PathTaken.{active_taken}
 use Rattle.lsp_laws.proofs.hops.Purposes.{Purpose, role_of}

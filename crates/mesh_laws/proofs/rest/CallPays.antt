@@ -1,6 +1,6 @@
--- What the call's part of a Resv and of a PathErr costs at the ingress.
-use Rattle.std.proofs.Common.{◌≡◌, ◌<◌, ℕ, suc, ◌+◌, Bool, true, false, List, [], ◌∷◌, refl, sym, ap, ◌∙◌, subst, arith}
-use Rattle.std.specs.Prelude.{Option, Some, None}
+-- What the call's part of a message costs at the ingress: of a Resv, of a PathErr and of a Notify.
+use Rattle.std.proofs.Common.{◌≡◌, ◌<◌, ℕ, suc, ◌+◌, Bool, true, false, List, [], ◌∷◌, refl, sym, ap, ◌∙◌, subst, arith, not}
+use Rattle.std.specs.Prelude.{Option, Some, None, ◌&&◌}
 use Rattle.ason_base.specs.Network.{Network}
 use Rattle.ason_base.specs.declared.ids.LinkId.{LinkId}
 use Rattle.ason_base.specs.declared.ids.Lsp.{Lsp}
@@ -9,39 +9,44 @@ use Rattle.ason_base.specs.declared.calls.Phase.TheVariants.{Armed, Asked, Live,
 use Rattle.ason_base.specs.declared.calls.Role.{Role}
 use Rattle.ason_base.specs.declared.calls.Role.TheVariants as role
 use Rattle.ason_base.specs.declared.messages.Msg.{Msg}
-use Rattle.ason_base.specs.declared.messages.Msg.TheVariants.{Resv}
+use Rattle.ason_base.specs.declared.messages.Msg.TheVariants.{Resv, Notify}
 use Rattle.ason_base.specs.declared.tables.Leg.{Leg}
+use Rattle.ason_base.specs.declared.codes.ErrCode.{ErrCode}
+use Rattle.ason_base.specs.declared.ids.Fibre.{Fibre}
+use Rattle.ason_base.specs.declared.tables.CallRec.{CallRec}
 use Rattle.mesh_rules.specs.declared.neighbours.Neighbour.{Neighbour}
 use Rattle.mesh_rules.specs.ActivationAnswers.{is_confirmed}
 use Rattle.mesh_rules.specs.Calls.{call_with}
 use Rattle.mesh_rules.specs.CallSteps.{call_answered, call_contended, call_refused, call_turned}
 use Rattle.mesh_rules.specs.Changes.{Answer, nothing, puts}
-use Rattle.mesh_rules.specs.Legs.{connected, following, is_armed, is_asked, is_node, is_work, previous, with_phase}
+use Rattle.mesh_rules.specs.Legs.{connected, following, is_armed, is_asked, is_node, is_work, previous, with_phase, is_closing, leg_of}
 use Rattle.mesh_rules.specs.LocalNodes.{LocalNode, local_node}
 use Rattle.mesh_rules.specs.Machine.{Mesh, without_first}
 use Rattle.mesh_rules.specs.Messages.{arrival}
 use Rattle.mesh_rules.specs.PathErrs.{PathFailure}
 use Rattle.mesh_rules.specs.Resvs.{is_expected}
 use Rattle.mesh_rules.specs.State.{NodeState}
-use Rattle.lsp_laws.specs.HopLaw.{is_notice, leg_at}
+use Rattle.mesh_rules.specs.Notifies.{Notice}
+use Rattle.mesh_rules.specs.Pairs.{route_from}
+use Rattle.mesh_rules.specs.Reports.{call_reported, fibre_into, reported, reported_on, with_report}
 use Rattle.mesh_nodes.specs.Routes.{AreRowsOf}
 use Rattle.mesh_nodes.proofs.Cases.{both_left, if_cases}
 use Rattle.mesh_nodes.proofs.LegList.{found-lsp, same_lsp-refl}
-use Rattle.lsp_laws.proofs.nodes.PhaseLegs.{armed-is}
-use Rattle.lsp_laws.proofs.hops.InParts.{at_ingress, call_of_err, call_of_failure, call_of_resv, leg_part}
+use Rattle.mesh_nodes.proofs.Phases.{armed-is, asked-is}
+use Rattle.lsp_laws.specs.HopLaw.{is_notice, leg_at}
+use Rattle.lsp_laws.proofs.hops.InParts.{at_ingress, call_of_err, call_of_failure, call_of_resv, leg_part, call_of_notice, leg_of_notice, notice_here}
 use Rattle.lsp_laws.proofs.hops.NoticeRule.{notice_only}
 use Rattle.lsp_laws.proofs.hops.Paired.{CallsMayPair, armed_backup, no_previous}
 use Rattle.lsp_laws.proofs.hops.Planned.{EachFollows, next_same}
 use Rattle.lsp_laws.proofs.hops.Own.{own-leg_part}
 use Rattle.lsp_laws.proofs.hops.Tables.{leg_after}
 use Rattle.lsp_laws.proofs.hops.TakenSteps.{CallsBackHere, after_leg}
-use Rattle.lsp_laws.proofs.hops.Traced.{leg_follows, resv-confirms, resv-connects}
+use Rattle.lsp_laws.proofs.hops.Traced.{leg_follows, reported_backs, resv-confirms, resv-connects}
 use Rattle.lsp_laws.proofs.hops.Views.{leg-here}
 use Rattle.mesh_laws.specs.Weights.{Routes, hops_back, phase_weight, weight}
-use Rattle.mesh_laws.proofs.rest.CallRests.{answered-expand, contended-expand, none-expand, refused-expand, turned-expand}
+use Rattle.mesh_laws.proofs.rest.CallRests.{answered-expand, contended-expand, none-expand, refused-expand, turned-expand, decide-expand}
 use Rattle.mesh_laws.proofs.rest.Committed.{sent_weight}
 use Rattle.mesh_laws.proofs.rest.Expanded.{Expands}
-use Rattle.mesh_laws.proofs.rest.LegWeights.{asked-phase}
 use Rattle.mesh_laws.proofs.rest.TurnRests.{AreShort}
 use Rattle.mesh_laws.proofs.rest.CallLess.{CallLess, less-free, leg_sends}
 
@@ -196,7 +201,7 @@ module _ (t : Network) (s : Mesh) (o : Routes) (d u : NodeId) (m : Msg) (rest : 
   resv_call l e k x is (Some g) here =
       if_cases Less (is_expected (arrival l e u k) x g) _ _
       (λ expected. answered l g here x (previous g) refl
-      (asked-phase g.phase (both_left (is_asked g.phase) _ expected)) weighs
+      (asked-is g.phase (both_left (is_asked g.phase) _ expected)) weighs
       (λ first. resv-connects place state u m l e k x g is here expected first))
       (λ other. if_cases Less (is_confirmed (arrival l e u k) x g) _ _
       (λ c. turned l g here (previous g) refl (armed-is g.phase (both_left (is_armed g.phase) _ c)) weighs
@@ -212,3 +217,61 @@ module _ (t : Network) (s : Mesh) (o : Routes) (d u : NodeId) (m : Msg) (rest : 
   err_call l failure None here = quiet
   err_call l failure (Some g) here =
       if_cases Less (is_node (following g) u) _ _ (λ e. failed l g here failure) (λ e. quiet)
+
+  -- What a Notify has its call do
+
+  module _ (l : Lsp) (e names : NodeId) (k : LinkId) (code : ErrCode) (is : m ≡ Notify l e names k code) where
+    notice : is_notice m ≡ true
+    notice = rw is refl
+
+    reported_call : (j : Lsp) (down : Bool) (fibre : Fibre) (called : Option CallRec) →
+        call_with j state.calls ≡ called →
+        Expands (after_leg t s d u m) d o 191 (call_reported state j down fibre called)
+    reported_call j down fibre None here = none-expand t (after_leg t s d u m) d o then-follows short 191
+    reported_call j down fibre (Some c) here =
+        decide-expand t (after_leg t s d u m) d o then-follows short state.legs (with_report c j down fibre)
+        (leg_of c.back state.legs) (reported_backs t s o d u m rest was learnt f may backs notice j down fibre c here)
+
+    reported_here : (g : Leg) (down : Bool) (fibre : Option Fibre) →
+        Expands (after_leg t s d u m) d o 191 (reported_on state g down fibre)
+    reported_here g down None = none-expand t (after_leg t s d u m) d o then-follows short 191
+    reported_here g down (Some fibre) = reported_call g.lsp down fibre (call_with g.lsp state.calls) refl
+
+    abbrev note : Notice
+    note = record { lsp = l; msg = Notify l e names k code; at = names; link = k; code = code }
+
+    -- A Notify: the call is reported, and may turn or go back.
+    pub notice_call : (h : Option Leg) → leg_at s l d ≡ h → Less (call_of_notice place state u note h)
+    notice_call None here = quiet
+    notice_call (Some g) here =
+        if_cases Less (not (is_closing g.phase) && is_node (following g) u) _ _
+        (λ taken. told (reported code) (previous g) refl refl taken) (λ e. quiet)
+      where
+        told : (r : Option Bool) (h : Option Neighbour) → reported code ≡ r → previous g ≡ h →
+            (not (is_closing g.phase) && is_node (following g) u) ≡ true →
+            Less (notice_here place state note g (reported code))
+        told None h says first taken = rw says quiet
+        told (Some down) (Some h) says first taken = rw (says, first) quiet
+        told (Some down) None says first taken =
+            rw (says, first) (record {
+              more = 191;
+              expands = reported_here g down (fibre_into (route_from place g) g.egress names k);
+              less = (let heavy = weighs in let zero = none says first taken in omega (arith, heavy, zero));
+            })
+          where
+            weighs : weight o s u.0 d.0 m ≡ suc (hops_back o l d.0) + 192
+            weighs = ap (weight o s u.0 d.0) is
+
+            silently : reported code ≡ Some down → previous g ≡ None →
+                (not (is_closing g.phase) && is_node (following g) u) ≡ true →
+                leg_part (local_node t d) (s.nodes d.0) u m ≡ nothing
+            silently says first taken =
+                ap (leg_part (local_node t d) (s.nodes d.0) u) is ∙
+                ap (leg_of_notice u note) here ∙ rw (taken, says, first) refl
+
+            none : reported code ≡ Some down → previous g ≡ None →
+                (not (is_closing g.phase) && is_node (following g) u) ≡ true →
+                leg_sends t s o d u m ≡ 0
+            none says first taken =
+                ap (λ (a : Answer). sent_weight (weight o (after_leg t s d u m) d.0) a.sent)
+                (silently says first taken)

@@ -1,5 +1,5 @@
 -- What a call does at its ingress: how much the work grows.
-use Rattle.std.proofs.Common.{◌≡◌, ◌<◌, ℕ, suc, ◌+◌, Bool, true, false, List, drop, length, refl, ap, subst, arith}
+use Rattle.std.proofs.Common.{◌≡◌, ◌<◌, ℕ, suc, ◌+◌, Bool, true, false, List, drop, length, refl, subst, arith}
 use Rattle.std.specs.Prelude.{nat_lt, Option, Some, None, is_some}
 use Rattle.ason_base.specs.Codes.{busy_code, label_code}
 use Rattle.ason_base.specs.Network.{Network}
@@ -32,7 +32,7 @@ use Rattle.mesh_nodes.proofs.Cases.{if_cases}
 use Rattle.lsp_laws.proofs.hops.Moved.{BeginsHere}
 use Rattle.lsp_laws.proofs.hops.Own.{AllSent}
 use Rattle.lsp_laws.proofs.hops.Planned.{EachFollows, Follows, or_none}
-use Rattle.lsp_laws.proofs.hops.Turned.{BackFits, BackStands}
+use Rattle.lsp_laws.proofs.hops.Turned.{BackFits, BackStands, guarded_fits}
 use Rattle.mesh_laws.specs.Weights.{Routes}
 use Rattle.mesh_laws.proofs.rest.BeginRests.{new-blank}
 use Rattle.mesh_laws.proofs.rest.Expanded.{Expands, IsKnown, begins-expand, expands-known, expands-more, expands-quiet, first-short, known-of}
@@ -206,16 +206,8 @@ module _ (t : Network) (s : Mesh) (n : NodeId) (o : Routes) (f : EachFollows t s
             (λ p. put-expand 4223 (bare c)))
             (λ h. none-expand 4223)),
         λ w. rw w (if_cases (Expands s n o 191) (is_pairing c.state) _ _
-            (λ h. decide-expand st.legs (guarded c) (Some g) fits) (λ h. none-expand 191)),
+            (λ h. decide-expand st.legs (guarded c) (Some g) (guarded_fits s n g there begins)) (λ h. none-expand 191)),
       )
-        where
-          fits : (b : Leg) → Some g ≡ Some b → BackStands s n Guarded b
-          fits b is =
-              let one : g ≡ b = cc is in
-              subst (BackStands s n Guarded) one (record {
-                begins = record { there = there; ingress = ap (λ (m : NodeId). m.0) begins };
-                turned = λ e. absurd (cc e);
-              })
 
   -- A refused LSP adds nothing.
   pub refused-expand : (code : ErrCode) (g : Leg) (called : Option CallRec) →

@@ -17,6 +17,7 @@ use Rattle.mesh_rules.specs.Machine.{Mesh, without_first}
 use Rattle.lsp_laws.specs.HopLaw.{messages_of, leg_at, mail_between}
 use Rattle.mesh_nodes.proofs.LegList.{same_lsp-refl, found-lsp}
 use Rattle.mesh_nodes.proofs.Cases.{if_cases}
+use Rattle.mesh_nodes.proofs.Phases.{asked-is}
 use Rattle.lsp_laws.proofs.hops.Plans.{Plan, hops, node_at, IsRoute}
 use Rattle.lsp_laws.proofs.hops.AnswersTaken.{asked_answers, torn_leaves}
 use Rattle.lsp_laws.proofs.hops.Purposes.{Purpose, role_of, has_path}
@@ -29,7 +30,7 @@ use Rattle.lsp_laws.proofs.hops.Taken.{ahead, up_hop}
 use Rattle.mesh_laws.specs.Weights.{Routes, hops_back}
 use Rattle.mesh_laws.proofs.rest.Places.{place-is}
 use Rattle.mesh_laws.proofs.rest.RowKinds.{no-way_up, path-kinds}
-use Rattle.mesh_laws.proofs.rest.LegWeights.{path-still, deaf-light, asked-phase, PrevOf, prev-of, resv-some, AtIngress, After}
+use Rattle.mesh_laws.proofs.rest.LegWeights.{path-still, deaf-light, PrevOf, prev-of, resv-some, AtIngress, After}
 use Rattle.mesh_laws.proofs.rest.Near.{LightFor, Part, part-nothing, light-empty, light-both, light-no_path, near-up}
 
 module _ (t : Network) (q : Purpose) (s : Mesh) (l : Lsp) (p : Plan) (i : ℕ) (route : IsRoute t l.ingress p)
@@ -103,7 +104,7 @@ module _ (t : Network) (q : Purpose) (s : Mesh) (l : Lsp) (p : Plan) (i : ℕ) (
     removed : IsPart (leg_removed g failure)
     removed =
         if_cases IsPart (is_asked g.phase) _ _
-        (λ asked. refused (asked-phase g.phase asked) (prev-of t q l p i g fits))
+        (λ asked. refused (asked-is g.phase asked) (prev-of t q l p i g fits))
         (λ other. if_cases IsPart (is_closing g.phase) _ _
         (λ torn. record { light = rw mine (light-gone (torn-none torn)); sends = omega arith })
         (λ none. unchanged))

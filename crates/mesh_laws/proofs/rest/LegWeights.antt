@@ -14,7 +14,7 @@ use Rattle.ason_base.specs.declared.messages.PathRole.{PathRole}
 use Rattle.ason_base.specs.declared.messages.PathRole.TheVariants.{Work, Back}
 use Rattle.ason_base.specs.declared.messages.Msg.TheVariants.{Path, Resv}
 use Rattle.ason_base.specs.declared.tables.Leg.{Leg}
-use Rattle.mesh_rules.specs.Legs.{closing_phase, is_asked, previous, reserved}
+use Rattle.mesh_rules.specs.Legs.{closing_phase, previous, reserved}
 use Rattle.mesh_rules.specs.Machine.{Mesh}
 use Rattle.lsp_laws.specs.HopShapes.{NoLeg, ArmedLeg, FallingLeg, leg_kind, phase_kind}
 use Rattle.lsp_laws.specs.HopLaw.{leg_at}
@@ -147,11 +147,6 @@ sent-back o s s' l j n h is stays there d e k route set up work primary =
 pub no-leg_kind : (f : Phase) → phase_kind f ≡ NoLeg → ⊥
 no-leg_kind Asked e = cc e
 no-leg_kind _ e = cc e
-
--- The phase that is_asked means is Asked.
-pub asked-phase : (f : Phase) → is_asked f ≡ true → f ≡ Asked
-asked-phase Asked e = refl
-asked-phase _ e = absurd (cc e)
 
 -- An Asked leg weighs less with one hop less behind it.
 pub asked-less : (r : Role) (k : ℕ) → asked_weight r (suc k) < asked_weight r (suc (suc k))

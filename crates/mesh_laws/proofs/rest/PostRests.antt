@@ -11,17 +11,10 @@ use Rattle.mesh_rules.specs.Failures.{all_news, changed_news, is_cut, link_news,
 use Rattle.mesh_rules.specs.Machine.{Mesh, with_item, without_item}
 use Rattle.mesh_laws.specs.Weights.{Routes, alarm_weight, item_weight}
 use Rattle.mesh_laws.specs.Work.{Spot, Desk, Way, amount, total, AreApart, WorkIsWithin}
-use Rattle.mesh_laws.proofs.rest.Works.{num-eq, once, once-most, total-append, total-four, total-none, work-moved}
+use Rattle.mesh_laws.proofs.rest.Works.{num-eq, once, once-most, once-zero, total-append, total-four, total-none, work-moved}
 
 flip-eq : (a b : ℕ) → nat_eq a b ≡ nat_eq b a
 flip-eq a b = grind arith
-
-zero-once : (q p : Spot) → once q 0 p ≡ 0
-zero-once q p = go (Rattle.mesh_laws.specs.Work.same_spot p q)
-  where
-    go : (b : Bool) → ◌≡◌ {A = ℕ} (cond b 0 0) 0
-    go true = refl
-    go false = refl
 
 -- the first item of a desk is taken
 module _ (o : Routes) (s : Mesh) (n : ℕ) (i : DeskItem) (items : List DeskItem) (was : s.desks n ≡ i ∷ items) where
@@ -58,7 +51,7 @@ module _ (o : Routes) (s : Mesh) (n : ℕ) (i : DeskItem) where
   more-each : (p : Spot) → amount o (with_item s n i) p + once (Desk 0) 0 p ≤ amount o s p + once (Desk n)
       (item_weight i) p
   more-each (Way a b) = omega arith
-  more-each (Desk m) = go (nat_eq m n) (zero-once (Desk 0) (Desk m))
+  more-each (Desk m) = go (nat_eq m n) (once-zero (Desk 0) (Desk m))
     where
       go : (b : Bool) → once (Desk 0) 0 (Desk m) ≡ 0 →
           total item_weight (cond b (s.desks m ++ i ∷ []) (s.desks m)) + once (Desk 0) 0 (Desk m) ≤
@@ -147,7 +140,7 @@ module _ (o : Routes) (t : Network) (s : Mesh) (after : List Group) where
       amount o s p + told (all_news t s.failed after) p
   failed-each (Way a b) = omega arith
   failed-each (Desk m) =
-      let z = zero-once (Desk 0) (Desk m) in
+      let z = once-zero (Desk 0) (Desk m) in
       let h = total-append item_weight (s.desks m) (all_news t s.failed after m) in
       omega arith
 

@@ -22,7 +22,7 @@ use Rattle.lsp_laws.specs.HopShapes.{ArmedLeg, FallingLeg, leg_kind}
 use Rattle.lsp_laws.specs.HopLaw.{messages_of, leg_at, mail_between}
 use Rattle.mesh_nodes.proofs.LegList.{same_lsp-refl, found-lsp}
 use Rattle.mesh_nodes.proofs.Cases.{if_cases, both_left}
-use Rattle.lsp_laws.proofs.nodes.PhaseLegs.{armed-is}
+use Rattle.mesh_nodes.proofs.Phases.{armed-is, asked-is}
 use Rattle.lsp_laws.proofs.hops.Plans.{Plan, hops, fibre_at, node_at, IsRoute, distinct}
 use Rattle.lsp_laws.proofs.hops.AnswersTaken.{armed_answers}
 use Rattle.lsp_laws.proofs.hops.Purposes.{Purpose, role_of}
@@ -35,7 +35,7 @@ use Rattle.lsp_laws.proofs.hops.Taken.{ahead}
 use Rattle.mesh_laws.specs.Weights.{Routes, hops_back, hops_in, weight, asked_weight, phase_weight}
 use Rattle.mesh_laws.proofs.rest.Committed.{taken_mesh}
 use Rattle.mesh_laws.proofs.rest.Places.{place-is}
-use Rattle.mesh_laws.proofs.rest.LegWeights.{path-still, resv-most, resv-marked, deaf-light, one-less, sent-resv, asked-phase, asked-less, asked-tears, PrevOf, prev-of, resv-some, closed-deaf, reserved-deaf, AtIngress, After}
+use Rattle.mesh_laws.proofs.rest.LegWeights.{path-still, resv-most, resv-marked, deaf-light, one-less, sent-resv, asked-less, asked-tears, PrevOf, prev-of, resv-some, closed-deaf, reserved-deaf, AtIngress, After}
 use Rattle.mesh_laws.proofs.rest.Near.{LightFor, Part, part-nothing, light-both}
 
 module _ (t : Network) (q : Purpose) (s : Mesh) (l : Lsp) (p : Plan) (i : ℕ) (route : IsRoute t l.ingress p)
@@ -165,7 +165,7 @@ module _ (t : Network) (q : Purpose) (s : Mesh) (l : Lsp) (p : Plan) (i : ℕ) (
     with-leg : IsPart (leg_of_resv place state (arrival l e from k) x (Some g))
     with-leg =
         if_cases IsPart (is_expected (arrival l e from k) x g) _ _
-        (λ may. answers (asked-phase g.phase (both_left (is_asked g.phase) _ may)) (prev-of t q l p i g fits))
+        (λ may. answers (asked-is g.phase (both_left (is_asked g.phase) _ may)) (prev-of t q l p i g fits))
         (λ other. if_cases IsPart (is_confirmed (arrival l e from k) x g) _ _
         (λ may. confirms (armed-is g.phase (both_left (is_armed g.phase) _ may)) (prev-of t q l p i g fits))
         (λ none. unchanged))

@@ -34,8 +34,7 @@ use Rattle.mesh_laws.proofs.rest.Expanded.{IsKnown, known-of}
 use Rattle.mesh_laws.proofs.rest.LegRests.{leg-rests}
 use Rattle.mesh_laws.proofs.rest.TurnRests.{AreShort}
 use Rattle.mesh_laws.proofs.rest.CallLess.{CallLess, less-free, leg_sends}
-use Rattle.mesh_laws.proofs.rest.CallPays.{err_call, resv_call}
-use Rattle.mesh_laws.proofs.rest.NoticePays.{notice_call}
+use Rattle.mesh_laws.proofs.rest.CallPays.{err_call, notice_call, resv_call}
 
 module _ (t : Network) (s : Mesh) (o : Routes) (d u : NodeId) (m : Msg) (rest : List Msg)
     (was : s.mail u.0 d.0 ≡ m ∷ rest) (learnt : AreRowsOf t (s.nodes d.0).learnt) (f : EachFollows t s o)

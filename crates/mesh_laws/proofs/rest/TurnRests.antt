@@ -25,7 +25,7 @@ use Rattle.mesh_rules.specs.Turns.{activating, arms, call_put, decide, decided, 
 use Rattle.lsp_laws.specs.HopLaw.{leg_at, mail_between}
 use Rattle.mesh_nodes.proofs.Cases.{if_cases}
 use Rattle.mesh_nodes.proofs.LegList.{same_lsp-refl}
-use Rattle.lsp_laws.proofs.nodes.PhaseLegs.{held-is}
+use Rattle.mesh_nodes.proofs.Phases.{held-is}
 use Rattle.lsp_laws.proofs.hops.Chain.{LegFits, OnRoute, PhaseFits}
 use Rattle.lsp_laws.proofs.hops.LegKinds.{live_leg}
 use Rattle.lsp_laws.proofs.hops.LegChanges.{following_is}

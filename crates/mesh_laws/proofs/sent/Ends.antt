@@ -74,20 +74,18 @@ one-fibre t f g u d apart link to from to' = go f.forward g.forward refl refl
     links : f.link ≡ g.link
     links = λ i. record { 0 = link i }
 
+    -- they aren't the two directions of the link
+    against : (b : Bool) → f.forward ≡ b → g.forward ≡ not b → ⊥
+    against b e h =
+        let at_u : far_end (find_link t f.link) (not b) ≡ Some u =
+        subst (λ c. far_end (find_link t f.link) (not c) ≡ Some u) e from in
+        let at_d : far_end (find_link t f.link) (not b) ≡ Some d =
+        subst (λ k. far_end (find_link t k) (not b) ≡ Some d) (sym links)
+        (subst (λ c. far_end (find_link t g.link) c ≡ Some d) h to') in
+        apart (ap (λ n. n.0) (some-is u d (sym at_u ∙ at_d)))
+
     go : (a b : Bool) → f.forward ≡ a → g.forward ≡ b → f ≡ g
     go true true e h = λ i. record { link = links i; forward = (e ∙ sym h) i }
     go false false e h = λ i. record { link = links i; forward = (e ∙ sym h) i }
-    go true false e h =
-        let at_u : far_end (find_link t f.link) false ≡ Some u =
-        subst (λ c. far_end (find_link t f.link) (not c) ≡ Some u) e from in
-        let at_d : far_end (find_link t f.link) false ≡ Some d =
-        subst (λ k. far_end (find_link t k) false ≡ Some d) (sym links)
-        (subst (λ c. far_end (find_link t g.link) c ≡ Some d) h to') in
-        absurd (apart (ap (λ n. n.0) (some-is u d (sym at_u ∙ at_d))))
-    go false true e h =
-        let at_u : far_end (find_link t f.link) true ≡ Some u =
-        subst (λ c. far_end (find_link t f.link) (not c) ≡ Some u) e from in
-        let at_d : far_end (find_link t f.link) true ≡ Some d =
-        subst (λ k. far_end (find_link t k) true ≡ Some d) (sym links)
-        (subst (λ c. far_end (find_link t g.link) c ≡ Some d) h to') in
-        absurd (apart (ap (λ n. n.0) (some-is u d (sym at_u ∙ at_d))))
+    go true false e h = absurd (against true e h)
+    go false true e h = absurd (against false e h)

@@ -4,7 +4,7 @@
 use Rattle.std.proofs.Common.{◌≡◌, ◌≤◌, ◌<◌, ℕ, Bool, true, false, List, [], ◌∷◌, ◌++◌, refl, sym, ap, subst, inl}
 use Rattle.std.specs.Prelude.{◌⊎◌, Option, Some, None, IfSome}
 use Rattle.ason_base.specs.declared.calls.Phase.{Phase}
-use Rattle.ason_base.specs.declared.calls.Phase.TheVariants.{Asked, Held, Armed, Live}
+use Rattle.ason_base.specs.declared.calls.Phase.TheVariants.{Held, Armed, Live}
 use Rattle.ason_base.specs.declared.calls.Role.{Role}
 use Rattle.ason_base.specs.declared.calls.Role.TheVariants.{Work, Back}
 use Rattle.ason_base.specs.declared.ids.Fibre.{Fibre}
@@ -24,6 +24,7 @@ use Rattle.mesh_rules.specs.Pairs.{is_two_way}
 use Rattle.mesh_rules.specs.Paths.{is_active}
 use Rattle.mesh_rules.specs.State.{NodeState}
 use Rattle.mesh_nodes.proofs.LegList.{found-lsp}
+use Rattle.mesh_nodes.proofs.Phases.{of-closing}
 use Rattle.lsp_laws.specs.HopLaw.{lsp_of}
 use Rattle.lsp_laws.proofs.nodes.ClosedLegs.{closed-sends}
 use Rattle.mesh_laws.specs.HeardLaw.{brings, lets_go, sends_of}
@@ -144,12 +145,7 @@ pub record Fine (p : LocalNode) (s : NodeState) (Q : Given) (a : Answer) : Type 
 -- Phases
 
 closed-idle : (f : Phase) (r : Role) → is_in_use (closing_phase f r) ≡ true → ⊥
-closed-idle Asked r e = cc e
-closed-idle Armed Work e = cc e
-closed-idle Armed Back e = cc e
-closed-idle Live Work e = cc e
-closed-idle Live Back e = cc e
-closed-idle _ r e = cc e
+closed-idle f r = of-closing (λ q. is_in_use q ≡ true → ⊥) (λ e. cc e) (λ e. cc e) f r
 
 -- a backup that gets its label isn't activated
 pub reserved-idle : (r : Role) → r ≡ Back → is_in_use (reserved r) ≡ true → ⊥

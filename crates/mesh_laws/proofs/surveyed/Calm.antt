@@ -1,6 +1,6 @@
 -- Where nothing is under way, no group has failed and by the rows each backup is Asked or Held, the state is calm.
 use Rattle.std.proofs.Common.{◌≡◌, ℕ, Bool, true, false, nat_eq, List, [], ◌∷◌, refl, sym, ap, ◌∙◌, subst, arith, Contains}
-use Rattle.std.specs.Prelude.{◌||◌, Option, Some, None}
+use Rattle.std.specs.Prelude.{◌||◌, Option, Some, None, IfSome}
 use Rattle.std.specs.List.{AllByRecursion}
 use Rattle.std.proofs.lemmas.List.Elements.{Contains-get_or, recursion_from_All}
 use Rattle.ason_base.specs.Lsps.{has_fibre, is_lsp}
@@ -29,7 +29,7 @@ use Rattle.mesh_rules.specs.Alarms.{enters}
 use Rattle.mesh_rules.specs.Machine.{Mesh, start}
 use Rattle.mesh_rules.specs.Rows.{leg_row}
 use Rattle.mesh_rules.specs.Turns.{has_any}
-use Rattle.mesh_nodes.proofs.Cases.{not-true}
+use Rattle.mesh_nodes.proofs.Cases.{false-unless, not-true}
 use Rattle.mesh_nodes.proofs.LegList.{all-found, found-all, same_lsp-refl}
 use Rattle.mesh_nodes.proofs.routes.Lists.{contains-unkept}
 use Rattle.mesh_nodes.proofs.routes.Nodes.{find-there}
@@ -151,45 +151,40 @@ module _ (t : Network) (events : List MeshEvent) (valid : IsTopology t) (run : I
         let has : has_fibre (f ∷ fibres) f ≡ true = rw (same_fibre-refl f) refl in
         absurd (let none' : has_fibre (f ∷ fibres) f ≡ false = rw is at none in cc (has, none'))
 
+    -- nor of one that it may have or not
+    each-silent : (r : Role) (w : Option Lsp) (fibres : List Fibre) →
+        IfSome w (IsNamed n (s.nodes n).lsp (s.nodes n).legs r c.egress) → (w ≡ None → fibres ≡ []) →
+        ((l : Lsp) → w ≡ Some l → IsNamed n (s.nodes n).lsp (s.nodes n).legs r c.egress l →
+        (names l c ≡ true) × (reports_of l c ≡ fibres)) → AreOf (IsOfRoute t o) w fibres → fibres ≡ []
+    each-silent r None fibres named none mine all = none refl
+    each-silent r (Some l) fibres named none mine all =
+        let of = mine l refl named in silent r l named of.0 fibres of.1 all
+
     work-silent : AreOf (IsOfRoute t o) c.work c.work_reports → c.work_reports ≡ []
-    work-silent = go c.work refl
-      where
-        go : (w : Option Lsp) → c.work ≡ w → AreOf (IsOfRoute t o) w c.work_reports → c.work_reports ≡ []
-        go None is all =
-            none-reported c.work_reports
-            (no-work c.state (phase_of (leg_of c.back (s.nodes n).legs)) (has_any c.work_reports)
-            (has_any c.back_reports) (let e = fit.state in rw is at e) fit.reports)
-        go (Some l) is all =
-            let named = named-lsp n (s.nodes n).lsp (s.nodes n).legs Work c.egress c.work l fit.work is in
-            let mine : is_lsp c.work l ≡ true = rw is (same_lsp-refl l) in
-            silent Work l named (rw mine refl) c.work_reports (rw mine refl) all
+    work-silent = each-silent Work c.work c.work_reports fit.work
+        (λ is. none-reported c.work_reports
+        (no-work c.state (phase_of (leg_of c.back (s.nodes n).legs)) (has_any c.work_reports) (has_any c.back_reports)
+        (let e = fit.state in rw is at e) fit.reports))
+        (λ l is named. let mine : is_lsp c.work l ≡ true = rw is (same_lsp-refl l) in (rw mine refl, rw mine refl))
 
     -- the working LSP isn't the backup
     not-work : (l : Lsp) → IsNamed n (s.nodes n).lsp (s.nodes n).legs Back c.egress l → is_lsp c.work l ≡ false
-    not-work l named = go (is_lsp c.work l) refl
-      where
-        go : (z : Bool) → is_lsp c.work l ≡ z → z ≡ false
-        go false e = refl
-        go true e =
-            let work = named-lsp n (s.nodes n).lsp (s.nodes n).legs Work c.egress c.work l fit.work
-            (is_lsp-eq c.work l e) in
-            let same : work.leg.0 ≡ named.leg.0 = (let x = work.leg.1 in let y = named.leg.1 in cc (x, y)) in
-            let is : named.leg.0.role ≡ Work = subst (λ (z : Leg). z.role ≡ Work) same work.leg.2 in
-            absurd (let other = named.leg.2 in cc (is, other))
+    not-work l named = false-unless (is_lsp c.work l) (λ e.
+        let work = named-lsp n (s.nodes n).lsp (s.nodes n).legs Work c.egress c.work l fit.work
+        (is_lsp-eq c.work l e) in
+        let same : work.leg.0 ≡ named.leg.0 = (let x = work.leg.1 in let y = named.leg.1 in cc (x, y)) in
+        let is : named.leg.0.role ≡ Work = subst (λ (z : Leg). z.role ≡ Work) same work.leg.2 in
+        let other = named.leg.2 in
+        cc (is, other))
 
     back-silent : AreOf (IsOfRoute t o) c.back c.back_reports → c.back_reports ≡ []
-    back-silent = go c.back refl
-      where
-        go : (b : Option Lsp) → c.back ≡ b → AreOf (IsOfRoute t o) b c.back_reports → c.back_reports ≡ []
-        go None is all =
-            none-reported c.back_reports
-            (no-back c.state (phase_of (leg_of c.work (s.nodes n).legs)) (has_any c.work_reports)
-            (has_any c.back_reports) (let e = fit.state in rw is at e) fit.reports)
-        go (Some l) is all =
-            let named = named-lsp n (s.nodes n).lsp (s.nodes n).legs Back c.egress c.back l fit.back is in
-            let mine : is_lsp c.back l ≡ true = rw is (same_lsp-refl l) in
-            let other = not-work l named in
-            silent Back l named (or-last (is_lsp c.work l) _ mine) c.back_reports (rw other refl) all
+    back-silent = each-silent Back c.back c.back_reports fit.back
+        (λ is. none-reported c.back_reports
+        (no-back c.state (phase_of (leg_of c.work (s.nodes n).legs)) (has_any c.work_reports) (has_any c.back_reports)
+        (let e = fit.state in rw is at e) fit.reports))
+        (λ l is named.
+        let mine : is_lsp c.back l ≡ true = rw is (same_lsp-refl l) in
+        let other = not-work l named in (or-last (is_lsp c.work l) _ mine, rw other refl))
 
   -- The state
 
