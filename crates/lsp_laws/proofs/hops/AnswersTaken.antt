@@ -1,5 +1,5 @@
 -- The rows to which a Resv or a PathErr that is taken leads, at the leg upstream.
-use Rattle.std.proofs.Common.{◌≡◌, List, [], ◌∷◌, refl, inl, inr}
+use Rattle.std.proofs.Common.{◌≡◌, Bool, true, false, List, [], ◌∷◌, refl, inl, inr}
 use Rattle.std.specs.Prelude.{◌⊎◌}
 use Rattle.ason_base.specs.declared.calls.Role.{Role}
 use Rattle.ason_base.specs.declared.calls.Role.TheVariants.{Back}
@@ -9,11 +9,11 @@ use Rattle.lsp_laws.specs.HopShapes.{IsTorn, Closes, Falls, HasLetGo, NothingLef
 use Rattle.lsp_laws.specs.HopShapes.{WorkCloses, BackFalls, NoResv, OneResv}
 use Rattle.lsp_laws.specs.HopShapes.{NoAnswer, ResvAnswer, ContentionAnswer}
 use Rattle.lsp_laws.specs.HopShapes.{AtOnce, AfterResv, AfterContention}
-use Rattle.lsp_laws.specs.HopShapes.{Shape, Idle, Asking, Passed, Refused, Answered, Connected, Reserved, Standby}
-use Rattle.lsp_laws.specs.HopShapes.{Activating, BothArmed, Activated, Contended, Deactivating, Reactivating}
-use Rattle.lsp_laws.specs.HopShapes.{TornAsking, TornPassed, TornRefused, TornConnected, TornStandby, TornActivating}
-use Rattle.lsp_laws.specs.HopShapes.{TornArmed, TornDeactivating, TornReactivating, LetGo, Left, Ahead}
-use Rattle.lsp_laws.proofs.hops.RowStates.{ArmedStands, AskedStands, HeldStands, LiveStands, label_back, label_torn, left_behind, no_torn, not_let_go, reserved_leg, was_torn}
+use Rattle.lsp_laws.specs.HopShapes.{Shape, Idle, Passed, Refused, Answered, Connected, Reserved, Standby}
+use Rattle.lsp_laws.specs.HopShapes.{BothArmed, Activated, Contended}
+use Rattle.lsp_laws.specs.HopShapes.{TornPassed, TornRefused, TornConnected, TornStandby}
+use Rattle.lsp_laws.specs.HopShapes.{TornArmed, LetGo, Left, Ahead}
+use Rattle.lsp_laws.proofs.hops.RowStates.{ArmedStands, AskedStands, Stands, label_back, label_torn, left_behind, no_torn, not_let_go, reserved_leg, was_torn}
 
 -- An Asked leg answers with its label, or lets go.
 pub record AskedAnswers (r : Role) (u : LegKind) (down up : List MsgKind) : Type 0 where
@@ -24,27 +24,37 @@ pub record AskedAnswers (r : Role) (u : LegKind) (down up : List MsgKind) : Type
   pub answered : Shape r u (reserved_leg r) down (Label ∷ [])
   pub let_go : (d : LegKind) → HasLetGo r d → Shape r u d down (Removal ∷ [])
 
+-- one row of them
+asked_row : (r : Role) (u : LegKind) (down : List MsgKind) → (u ≡ AskedLeg) ⊎ (u ≡ ClosingLeg) →
+    (down ≡ []) ⊎ (down ≡ Tear ∷ []) → Shape r u (reserved_leg r) down (Label ∷ []) →
+    ((d : LegKind) → HasLetGo r d → Shape r u d down (Removal ∷ [])) → AskedAnswers r u down []
+asked_row r u down bare down_is answered let_go =
+    record { bare = bare; quiet = refl; down_is = down_is; answered = answered; let_go = let_go }
+
+-- the rows in which the node downstream has let go, or its leg is torn
+abbrev is_left : (r : Role) (u d : LegKind) (down up : List MsgKind) → Shape r u d down up → Bool
+is_left r u d _ _ (Refused gone) = true
+is_left r u d _ _ (TornRefused gone) = true
+is_left r u d _ up (LetGo torn gone confirms) = true
+is_left r u d _ _ (Left gone) = true
+is_left r u d _ _ (Ahead torn) = true
+is_left r u d down up _ = false
+
+-- no leg stands there then
+none_stands : (r : Role) (u d : LegKind) (down up : List MsgKind) → Stands d → (row : Shape r u d down up) →
+    is_left r u d down up row ≡ true → ⊥
+none_stands r u d _ _ stands (Refused gone) e = not_let_go r d stands gone
+none_stands r u d _ _ stands (TornRefused gone) e = not_let_go r d stands gone
+none_stands r u d _ up stands (LetGo torn gone confirms) e = not_let_go r d stands gone
+none_stands r u d _ _ stands (Left gone) e = not_let_go r d stands gone
+none_stands r u d _ _ stands (Ahead torn) e = no_torn r d stands torn
+none_stands r u d down up stands _ e = cc e
+
 pub asked_answers : (r : Role) (u : LegKind) (down up : List MsgKind) → Shape r u AskedLeg down up →
     AskedAnswers r u down up
-asked_answers r _ _ _ Passed = record {
-  bare = inl refl;
-  quiet = refl;
-  down_is = inl refl;
-  answered = label_back r;
-  let_go = λ d gone. Refused gone;
-}
-asked_answers r _ _ _ TornPassed = record {
-  bare = inr refl;
-  quiet = refl;
-  down_is = inr refl;
-  answered = label_torn r;
-  let_go = λ d gone. TornRefused gone;
-}
-asked_answers r u _ _ (Refused gone) = absurd (not_let_go r AskedLeg AskedStands gone)
-asked_answers r u _ _ (TornRefused gone) = absurd (not_let_go r AskedLeg AskedStands gone)
-asked_answers r u _ up (LetGo torn gone confirms) = absurd (not_let_go r AskedLeg AskedStands gone)
-asked_answers r u _ _ (Left gone) = absurd (not_let_go r AskedLeg AskedStands gone)
-asked_answers r u _ _ (Ahead torn) = absurd (no_torn r AskedLeg AskedStands torn)
+asked_answers r _ _ _ Passed = asked_row r _ _ (inl refl) (inl refl) (label_back r) (λ d gone. Refused gone)
+asked_answers r _ _ _ TornPassed = asked_row r _ _ (inr refl) (inr refl) (label_torn r) (λ d gone. TornRefused gone)
+asked_answers r u down up row = absurd (none_stands r u AskedLeg down up AskedStands row refl)
 
 -- An Armed leg becomes Live, or is Held again.
 pub record ArmedAnswers (r : Role) (u : LegKind) (down up : List MsgKind) : Type 0 where
@@ -54,32 +64,29 @@ pub record ArmedAnswers (r : Role) (u : LegKind) (down up : List MsgKind) : Type
   pub activated : Shape r u LiveLeg down (Label ∷ [])
   pub contended : Shape r u HeldLeg down (Contention ∷ [])
 
+armed_row : (u : LegKind) (down : List MsgKind) → (u ≡ ArmedLeg) ⊎ (u ≡ FallingLeg) →
+    Shape Back u LiveLeg down (Label ∷ []) → Shape Back u HeldLeg down (Contention ∷ []) → ArmedAnswers Back u down []
+armed_row u down marked activated contended =
+    record { backup = refl; marked = marked; quiet = refl; activated = activated; contended = contended }
+
 pub armed_answers : (r : Role) (u : LegKind) (down up : List MsgKind) → Shape r u ArmedLeg down up →
     ArmedAnswers r u down up
-armed_answers _ _ _ _ BothArmed = record {
-  backup = refl;
-  marked = inl refl;
-  quiet = refl;
-  activated = Activated;
-  contended = Contended;
-}
-armed_answers _ _ _ _ TornArmed = record {
-  backup = refl;
-  marked = inr refl;
-  quiet = refl;
-  activated = TornConnected BackFalls OneResv;
-  contended = TornStandby Falls ContentionAnswer;
-}
-armed_answers r u _ _ (Refused gone) = absurd (not_let_go r ArmedLeg ArmedStands gone)
-armed_answers r u _ _ (TornRefused gone) = absurd (not_let_go r ArmedLeg ArmedStands gone)
-armed_answers r u _ up (LetGo torn gone confirms) = absurd (not_let_go r ArmedLeg ArmedStands gone)
-armed_answers r u _ _ (Left gone) = absurd (not_let_go r ArmedLeg ArmedStands gone)
-armed_answers r u _ _ (Ahead torn) = absurd (no_torn r ArmedLeg ArmedStands torn)
+armed_answers _ _ _ _ BothArmed = armed_row _ _ (inl refl) Activated Contended
+armed_answers _ _ _ _ TornArmed =
+    armed_row _ _ (inr refl) (TornConnected BackFalls OneResv) (TornStandby Falls ContentionAnswer)
+armed_answers r u down up row = absurd (none_stands r u ArmedLeg down up ArmedStands row refl)
 
 -- A torn leg goes. No Path is under way to it.
 pub record TornLeaves (r : Role) (u : LegKind) (down up : List MsgKind) : Type 0 where
   pub down_is : (down ≡ []) ⊎ (down ≡ Tear ∷ [])
   pub gone : Shape r u NoLeg down up
+
+torn_left : (r : Role) (u d : LegKind) (down up : List MsgKind) → IsTorn r d → (row : Shape r u d down up) →
+    is_left r u d down up row ≡ false → ⊥
+torn_left r u _ _ _ Closes (Refused gone) e = cc e
+torn_left r u _ down up Closes _ e = cc e
+torn_left r u _ _ _ Falls (Refused gone) e = cc e
+torn_left r u _ down up Falls _ e = cc e
 
 pub torn_leaves : (r : Role) (u d : LegKind) (down up : List MsgKind) → IsTorn r d → Shape r u d down up →
     TornLeaves r u down up
@@ -89,27 +96,7 @@ torn_leaves r u _ _ up torn (LetGo waits gone confirms) =
     record { down_is = inl refl; gone = LetGo waits NothingLeft confirms }
 torn_leaves r _ _ _ _ torn (Left gone) = record { down_is = inr refl; gone = Left NothingLeft }
 torn_leaves r _ _ _ _ torn (Ahead waits) = record { down_is = inl refl; gone = Idle }
-torn_leaves r _ _ _ _ torn Passed = absurd (no_torn r AskedLeg AskedStands torn)
-torn_leaves r _ _ _ _ torn Answered = absurd (no_torn r LiveLeg LiveStands torn)
-torn_leaves r _ _ _ _ torn Connected = absurd (no_torn r LiveLeg LiveStands torn)
-torn_leaves r _ _ _ _ torn Reserved = absurd (no_torn r HeldLeg HeldStands torn)
-torn_leaves r _ _ _ _ torn Standby = absurd (no_torn r HeldLeg HeldStands torn)
-torn_leaves r _ _ _ _ torn Activating = absurd (no_torn r HeldLeg HeldStands torn)
-torn_leaves r _ _ _ _ torn BothArmed = absurd (no_torn r ArmedLeg ArmedStands torn)
-torn_leaves r _ _ _ _ torn Activated = absurd (no_torn r LiveLeg LiveStands torn)
-torn_leaves r _ _ _ _ torn Contended = absurd (no_torn r HeldLeg HeldStands torn)
-torn_leaves r _ _ _ _ torn Deactivating = absurd (no_torn r LiveLeg LiveStands torn)
-torn_leaves r _ _ _ _ torn Reactivating = absurd (no_torn r LiveLeg LiveStands torn)
-torn_leaves r _ _ _ _ torn TornPassed = absurd (no_torn r AskedLeg AskedStands torn)
-torn_leaves r u _ _ up torn (TornConnected was may) = absurd (no_torn r LiveLeg LiveStands torn)
-torn_leaves r u _ _ up torn (TornStandby waits may) = absurd (no_torn r HeldLeg HeldStands torn)
-torn_leaves r _ _ _ _ torn TornActivating = absurd (no_torn r HeldLeg HeldStands torn)
-torn_leaves r _ _ _ _ torn TornArmed = absurd (no_torn r ArmedLeg ArmedStands torn)
-torn_leaves r _ _ _ _ torn TornDeactivating = absurd (no_torn r LiveLeg LiveStands torn)
-torn_leaves r _ _ _ _ torn TornReactivating = absurd (no_torn r LiveLeg LiveStands torn)
-torn_leaves r _ _ _ _ torn Idle = elim torn [ ]
-torn_leaves r _ _ _ _ torn Asking = elim torn [ ]
-torn_leaves r _ _ _ _ torn TornAsking = elim torn [ ]
+torn_leaves r u d down up torn row = absurd (torn_left r u d down up torn row refl)
 
 -- A step at the upstream node
 
@@ -135,22 +122,14 @@ pub record ResvTaken (r : Role) (d : LegKind) (down up : List MsgKind) : Type 0 
   pub connected : Shape r (reserved_leg r) d [] []
   pub torn : Shape r ClosingLeg d (Tear ∷ []) []
 
+resv_row : (r : Role) → Shape r (reserved_leg r) (reserved_leg r) [] [] →
+    Shape r ClosingLeg (reserved_leg r) (Tear ∷ []) [] → ResvTaken r (reserved_leg r) [] []
+resv_row r connected torn = record { far = refl; none = refl; last = refl; connected = connected; torn = torn }
+
 pub resv_asked : (r : Role) (d : LegKind) (down up : List MsgKind) → Shape r AskedLeg d down (Label ∷ up) →
     ResvTaken r d down up
-resv_asked _ _ _ _ Answered = record {
-  far = refl;
-  none = refl;
-  last = refl;
-  connected = Connected;
-  torn = TornConnected WorkCloses NoResv;
-}
-resv_asked _ _ _ _ Reserved = record {
-  far = refl;
-  none = refl;
-  last = refl;
-  connected = Standby;
-  torn = TornStandby Closes NoAnswer;
-}
+resv_asked _ _ _ _ Answered = resv_row _ Connected (TornConnected WorkCloses NoResv)
+resv_asked _ _ _ _ Reserved = resv_row _ Standby (TornStandby Closes NoAnswer)
 resv_asked r _ down up (TornConnected was may) = elim was [ ]
 resv_asked r _ down up (TornStandby torn may) = elim torn [ ]
 resv_asked r d down up (LetGo torn gone confirms) = elim torn [ ]
@@ -188,29 +167,17 @@ pub record RemovalTaken (r : Role) (u d : LegKind) (down up : List MsgKind) : Ty
   pub down_is : (down ≡ []) ⊎ (down ≡ Tear ∷ [])
   pub gone : Shape r NoLeg d down up
 
+removal_row : (r : Role) (u d : LegKind) (down : List MsgKind) → HasLetGo r d → (u ≡ AskedLeg) ⊎ IsTorn r u →
+    (down ≡ []) ⊎ (down ≡ Tear ∷ []) → Shape r NoLeg d down [] → RemovalTaken r u d down []
+removal_row r u d down let_go which down_is gone =
+    record { which = which; last = refl; let_go = let_go; down_is = down_is; gone = gone }
+
 pub removal_taken : (r : Role) (u d : LegKind) (down up : List MsgKind) → Shape r u d down (Removal ∷ up) →
     RemovalTaken r u d down up
-removal_taken r _ d _ _ (Refused gone) = record {
-  which = inl refl;
-  last = refl;
-  let_go = gone;
-  down_is = inl refl;
-  gone = left_behind r d gone;
-}
-removal_taken r _ d _ _ (TornRefused gone) = record {
-  which = inr Closes;
-  last = refl;
-  let_go = gone;
-  down_is = inr refl;
-  gone = Left gone;
-}
-removal_taken r u d _ _ (LetGo torn gone AtOnce) = record {
-  which = inr torn;
-  last = refl;
-  let_go = gone;
-  down_is = inl refl;
-  gone = left_behind r d gone;
-}
+removal_taken r _ d _ _ (Refused gone) = removal_row r _ d _ gone (inl refl) (inl refl) (left_behind r d gone)
+removal_taken r _ d _ _ (TornRefused gone) = removal_row r _ d _ gone (inr Closes) (inr refl) (Left gone)
+removal_taken r u d _ _ (LetGo torn gone AtOnce) =
+    removal_row r u d _ gone (inr torn) (inl refl) (left_behind r d gone)
 removal_taken r u _ down up (TornConnected was may) = elim may [ ]
 removal_taken r u _ down up (TornStandby torn may) = elim may [ ]
 

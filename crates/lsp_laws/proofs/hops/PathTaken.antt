@@ -28,24 +28,18 @@ pub record FirstTaken (r : Role) (u : LegKind) (down up : List MsgKind) : Type 0
   pub answered : Shape r u (reserved_leg r) down (Label ∷ [])
   pub refused : Shape r u NoLeg down (Removal ∷ [])
 
+-- one row of them
+first_row : (r : Role) (u : LegKind) (down : List MsgKind) → (down ≡ []) ⊎ (down ≡ Tear ∷ []) →
+    (u ≡ AskedLeg) ⊎ (u ≡ ClosingLeg) → Shape r u AskedLeg down [] → Shape r u (reserved_leg r) down (Label ∷ []) →
+    Shape r u NoLeg down (Removal ∷ []) → FirstTaken r u down []
+first_row r u down last bare passed answered refused =
+    record { quiet = refl; last = last; bare = bare; passed = passed; answered = answered; refused = refused }
+
 pub first_taken : (r : Role) (u : LegKind) (down up : List MsgKind) → Shape r u NoLeg (PlainPath ∷ down) up →
     FirstTaken r u down up
-first_taken r _ _ _ Asking = record {
-  quiet = refl;
-  last = inl refl;
-  bare = inl refl;
-  passed = Passed;
-  answered = label_back r;
-  refused = Refused NothingLeft;
-}
-first_taken r _ _ _ TornAsking = record {
-  quiet = refl;
-  last = inr refl;
-  bare = inr refl;
-  passed = TornPassed;
-  answered = label_torn r;
-  refused = TornRefused NothingLeft;
-}
+first_taken r _ _ _ Asking = first_row r _ _ (inl refl) (inl refl) Passed (label_back r) (Refused NothingLeft)
+first_taken r _ _ _ TornAsking =
+    first_row r _ _ (inr refl) (inr refl) TornPassed (label_torn r) (TornRefused NothingLeft)
 
 -- A Path that doesn't activate comes to no leg, or to a Live backup, whose activation it takes back.
 pub record TakenBack (r : Role) (u d : LegKind) (down up : List MsgKind) : Type 0 where
@@ -76,26 +70,25 @@ pub record ActiveTaken (r : Role) (u d : LegKind) (down up : List MsgKind) : Typ
   pub activated : Shape r u LiveLeg down (Label ∷ [])
   pub contended : Shape r u HeldLeg down (Contention ∷ [])
 
+-- one row of them
+active_row : (u : LegKind) (down : List MsgKind) → (u ≡ ArmedLeg) ⊎ (u ≡ FallingLeg) → Shape Back u ArmedLeg down [] →
+    Shape Back u LiveLeg down (Label ∷ []) → Shape Back u HeldLeg down (Contention ∷ []) →
+    ActiveTaken Back u HeldLeg down []
+active_row u down marked armed activated contended = record {
+  backup = refl;
+  held = refl;
+  quiet = refl;
+  marked = marked;
+  armed = armed;
+  activated = activated;
+  contended = contended;
+}
+
 pub active_taken : (r : Role) (u d : LegKind) (down up : List MsgKind) → Shape r u d (ActivePath ∷ down) up →
     ActiveTaken r u d down up
-active_taken _ _ _ _ _ Activating = record {
-  backup = refl;
-  held = refl;
-  quiet = refl;
-  marked = inl refl;
-  armed = BothArmed;
-  activated = Activated;
-  contended = Contended;
-}
-active_taken _ _ _ _ _ TornActivating = record {
-  backup = refl;
-  held = refl;
-  quiet = refl;
-  marked = inr refl;
-  armed = TornArmed;
-  activated = TornConnected BackFalls OneResv;
-  contended = TornStandby Falls ContentionAnswer;
-}
+active_taken _ _ _ _ _ Activating = active_row _ _ (inl refl) BothArmed Activated Contended
+active_taken _ _ _ _ _ TornActivating =
+    active_row _ _ (inr refl) TornArmed (TornConnected BackFalls OneResv) (TornStandby Falls ContentionAnswer)
 
 -- A PathTear is taken by a leg that isn't torn: it goes, or waits for the next node.
 pub record TearTaken (r : Role) (u : LegKind) (down up : List MsgKind) : Type 0 where

@@ -65,6 +65,19 @@ before-place t q s l p i chain below g here k eq =
     rw (← eq) (chain.each k (omega arith)) in
     rw here at before
 
+-- What becomes of the LSP at d, which takes a message from u, and what is left between the two.
+record Took (s : Mesh) (u d : NodeId) (l : Lsp) (a : Answer) (c : Option Leg) (rest : List Msg) : Type 0 where
+  changed : Changed d c (sent_by l a.sent) (leg_at s l) (leg_at (taken_mesh s u d a) l) (mail_between s l)
+      (mail_between (taken_mesh s u d a) l)
+  left : mail_between (taken_mesh s u d a) l u d ≡ messages_of l rest
+
+took : (s : Mesh) (u d : NodeId) (l : Lsp) (a : Answer) (c : Option Leg) (m : Msg) (rest : List Msg) → u.0 ≢ d.0 →
+    leg_after l a.legs (leg_at s l d) ≡ c → s.mail u.0 d.0 ≡ m ∷ rest → Took s u d l a c rest
+took s u d l a c m rest apart is was = record {
+  changed = changed-taken s u d l a c apart is;
+  left = left-taken s u d l a m rest apart was;
+}
+
 -- a message that came down from place i
 module _ (t : Network) (q : Purpose) (s : Mesh) (l : Lsp) (p : Plan) (i : ℕ) (route : IsRoute t l.ingress p)
     (chain : Chain t q l p (leg_at s l) (mail_between s l)) (below : i < hops p)
@@ -108,12 +121,7 @@ module _ (t : Network) (q : Purpose) (s : Mesh) (l : Lsp) (p : Plan) (i : ℕ) (
       (λ k less. quiet k less (is_or_not k i))
       vacant
     where
-      changed : Changed d c (sent_by l a.sent) (leg_at s l) (leg_at (taken_mesh s u d a) l)
-          (mail_between s l) (mail_between (taken_mesh s u d a) l)
-      changed = changed-taken s u d l a c down_far leg_is
-
-      left : mail_between (taken_mesh s u d a) l u d ≡ messages_of l rest
-      left = left-taken s u d l a m rest down_far was
+      open took s u d l a c m rest down_far leg_is was use {changed, left}
 
       elsewhere : suc i < hops p → mail_between (taken_mesh s u d a) l next d ≡ mail_between s l next d
       elsewhere small = elsewhere-taken s u d next d l a
@@ -190,12 +198,7 @@ module _ (t : Network) (q : Purpose) (s : Mesh) (l : Lsp) (p : Plan) (i : ℕ) (
         path = path_before (mail_between s l here from) on no_path path;
       }))
     where
-      changed : Changed here c (sent_by l a.sent) (leg_at s l) (leg_at (taken_mesh s from here a) l)
-          (mail_between s l) (mail_between (taken_mesh s from here a) l)
-      changed = changed-taken s from here l a c up_far leg_is
-
-      left : mail_between (taken_mesh s from here a) l from here ≡ messages_of l rest
-      left = left-taken s from here l a m rest up_far was
+      open took s from here l a c m rest up_far leg_is was use {changed, left}
 
       elsewhere : (k : ℕ) → suc k ≡ i →
           mail_between (taken_mesh s from here a) l (node_at p k) here ≡ mail_between s l (node_at p k) here
