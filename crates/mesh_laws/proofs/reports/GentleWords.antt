@@ -111,6 +111,18 @@ still-then s s' s'' l a b = record {
   down = λ n. b.down n ∙ a.down n;
 }
 
+-- what wasn't reached isn't where the legs are still, if nothing is told of what was untold
+pub unreached-still : (t : Network) (s s' : Mesh) (l : Lsp) (p : Plan) → RouteTold t s l p → Still s s' l →
+    ((j : ℕ) → j < hops p → Untold t s l p j → Untold t s' l p j) → (i : ℕ) → i < hops p → Stands s' l p i →
+    is_first s' l (node_at p i) (node_at p (suc i)) ≡ true → IsUnreached t s' l p i
+unreached-still t s s' l p r still silent i small stands sent =
+    let was = r.first i small (λ j most. still.stands (node_at p j) (stands j most))
+    (still.first (node_at p i) (node_at p (suc i)) sent) in
+    record {
+      gone = λ j after below. still.gone (node_at p (suc j)) (was.gone j after below);
+      untold = λ j after below. silent j below (was.untold j after below);
+    }
+
 pub record Gentle (s s' : Mesh) (l : Lsp) : Type 0 where
   pub still : Still s s' l
   pub notices : (a b : NodeId) → notices_between s' l a b ≡ notices_between s l a b
@@ -146,13 +158,7 @@ module _ (t : Network) (s s' : Mesh) (l : Lsp) (p : Plan) (g : Gentle s s' l) wh
         (on_the_way (line_at ns p i) (suc i))) (sym same)
         ∙ r.tells i small (λ j most. g.still.stands (node_at p j) (stands j most)) was.0 was.1
         ∙ ap (λ fibres. has_fibre fibres (fibre_at t p i)) (sym (g.still.down (node_at p (suc i)).0)));
-    first = λ i small stands sent. (
-        let was = r.first i small (λ j most. g.still.stands (node_at p j) (stands j most))
-        (g.still.first (node_at p i) (node_at p (suc i)) sent) in
-        record {
-          gone = λ j after below. g.still.gone (node_at p (suc j)) (was.gone j after below);
-          untold = λ j after below. untold-stays j (was.untold j after below);
-        });
+    first = unreached-still t s s' l p r g.still (λ j below untold. untold-stays j untold);
   }
 
 -- Answers

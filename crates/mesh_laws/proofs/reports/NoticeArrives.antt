@@ -10,7 +10,7 @@ use Rattle.lsp_laws.specs.ReportLaw.{on_the_way, reports_of, told, told_by_all}
 use Rattle.lsp_laws.proofs.hops.Chain.{is_or_not}
 use Rattle.lsp_laws.proofs.hops.Planned.{Routes}
 use Rattle.lsp_laws.proofs.hops.Plans.{fibre_at, hops, link_at, node_at}
-use Rattle.mesh_laws.proofs.reports.GentleWords.{CallOf, RouteTold, Still, line_at, still-then}
+use Rattle.mesh_laws.proofs.reports.GentleWords.{CallOf, RouteTold, Still, line_at, still-then, unreached-still}
 use Rattle.mesh_laws.proofs.reports.Gentle.{taken-still}
 use Rattle.mesh_laws.proofs.reports.KnownFibres.{same_fibre-refl}
 use Rattle.mesh_laws.proofs.reports.OnTheWay.{taken_first, told-append}
@@ -69,20 +69,13 @@ module _ (t : Network) (s : Mesh) (o : Routes) (came : NoticeCame t s o) where
           ∙ sym (told-append known (says i) way) ∙ ap (told known) (sym split)
           ∙ r.tells i small (λ x most. all-still.stands (node_at p x) (stands x most)) was'.0 was'.1
           ∙ ap (λ ds. has_fibre ds (fibre_at t p i)) (sym (all-still.down (node_at p (suc i)).0)));
-      first = λ i small stands sent. (
-          let was' = r.first i small (λ x most. all-still.stands (node_at p x) (stands x most))
-          (all-still.first (node_at p i) (node_at p (suc i)) sent) in
-          record {
-            gone = λ x after below. all-still.gone (node_at p (suc x)) (was'.gone x after below);
-            untold = λ x after below. record {
-              notices = λ a b. ap (told_by_all (node_at p (suc x)) (link_at p x)) (notices a b)
-                  ∙ (none-before t s o came x (was'.untold x after below)).1 a b;
-              report = λ c of. (
-                  let before = calls c of in
-                  before.2 x below
-                  ∙ report-told x below (has_fibre (reports_of l before.0) (fibre_at t p x))
-                  ∙ rw ((none-before t s o came x (was'.untold x after below)).0)
-                  ((was'.untold x after below).report before.0 before.1));
-            };
-          });
+      first = unreached-still t s s' l p r all-still (λ x below untold. record {
+        notices = λ a b. ap (told_by_all (node_at p (suc x)) (link_at p x)) (notices a b)
+            ∙ (none-before t s o came x untold).1 a b;
+        report = λ c of. (
+            let before = calls c of in
+            before.2 x below
+            ∙ report-told x below (has_fibre (reports_of l before.0) (fibre_at t p x))
+            ∙ rw ((none-before t s o came x untold).0) (untold.report before.0 before.1));
+      });
     }

@@ -19,7 +19,7 @@ use Rattle.lsp_laws.proofs.hops.Planned.{Routes}
 use Rattle.lsp_laws.proofs.hops.Plans.{distinct, fibre_at, hops, link_at, node_at, same, same_node}
 use Rattle.lsp_laws.proofs.hops.Views.{notices-else, notices-from}
 use Rattle.mesh_laws.proofs.reports.Alarmed.{told-all-append}
-use Rattle.mesh_laws.proofs.reports.GentleWords.{CallOf, RouteTold, Still, Untold, has_plain, is_waiting, line_at, still-then}
+use Rattle.mesh_laws.proofs.reports.GentleWords.{CallOf, RouteTold, Still, Untold, has_plain, is_waiting, line_at, still-then, unreached-still}
 use Rattle.mesh_laws.proofs.reports.Gentle.{taken-still}
 use Rattle.mesh_laws.proofs.reports.OnTheWay.{passed_on, same_lines}
 use Rattle.mesh_laws.proofs.reports.NoticeTaken.{NoticeCame, line-else, line-taken, none-before, read, says-none}
@@ -198,14 +198,8 @@ module _ (t : Network) (s : Mesh) (o : Routes) (came : NoticeCame t s o) where
           ap (told (has_fibre (reports_of l c) (fibre_at t p i))) (way-same i small)
           ∙ r.tells i small (λ x most. legs-still.stands (node_at p x) (stands x most)) c (call-passed c of)
           ∙ ap (λ ds. has_fibre ds (fibre_at t p i)) (sym (legs-still.down (node_at p (suc i)).0));
-      first = λ i small stands sent. (
-          let was' = r.first i small (λ x most. legs-still.stands (node_at p x) (stands x most))
-          (legs-still.first (node_at p i) (node_at p (suc i)) sent) in
-          record {
-            gone = λ x after below. legs-still.gone (node_at p (suc x)) (was'.gone x after below);
-            untold = λ x after below. record {
-              notices = passed-none x (was'.untold x after below);
-              report = λ c of. (was'.untold x after below).report c (call-passed c of);
-            };
-          });
+      first = unreached-still t s passed l p r legs-still (λ x below untold. record {
+        notices = passed-none x untold;
+        report = λ c of. untold.report c (call-passed c of);
+      });
     }
