@@ -34,6 +34,7 @@ use Rattle.mesh_laws.proofs.rest.Near.{Part, part-lightens, part-nothing}
 use Rattle.mesh_laws.proofs.rest.ActivationRests.{activation-rests}
 use Rattle.mesh_laws.proofs.rest.ErrRests.{err-rests}
 use Rattle.mesh_laws.proofs.rest.NoticeRests.{notice-rests}
+use Rattle.mesh_laws.proofs.rest.PathCame.{PathCame}
 use Rattle.mesh_laws.proofs.rest.PathRests.{first}
 use Rattle.mesh_laws.proofs.rest.ResvRests.{resv-rests}
 use Rattle.mesh_laws.proofs.rest.TakenBackRests.{taken_back-rests}
@@ -60,6 +61,26 @@ module _ (t : Network) (s : Mesh) (o : Routes) (q : Purpose) (rest : List Msg) (
   down-part (Path l e k r set label role) own was pl known =
       by_leg role was (leg_at s l (node_at p (suc i))) refl
     where
+      came : (role : PathRole) →
+          s.mail (node_at p i).0 (node_at p (suc i)).0 ≡ Path l e k r set label role ∷ rest → PathCame t s o role
+      came role was = record {
+        q = q;
+        l = l;
+        p = p;
+        i = i;
+        planned = pl;
+        below = below;
+        e = e;
+        k = k;
+        r = r;
+        set = set;
+        label = label;
+        rest = rest;
+        was = was;
+        known = known;
+        short = short;
+      }
+
       by_leg : (role : PathRole) (was : s.mail (node_at p i).0 (node_at p (suc i)).0 ≡ Path l e k r set label
           role ∷ rest)
           (h : Option Leg) → leg_at s l (node_at p (suc i)) ≡ h →
@@ -73,11 +94,9 @@ module _ (t : Network) (s : Mesh) (o : Routes) (q : Purpose) (rest : List Msg) (
           part-nothing o s l (node_at p i) (node_at p (suc i)) (Path l e k r set label (Work guard)) rest was
           (omega arith)
       by_leg (Back true work primary) was (Some g) here =
-          activation-rests t q s l p i pl.route pl.chain below e k r set label work primary rest was o known short
-          g here
+          activation-rests t s o work primary (came (Back true work primary) was) g here
       by_leg (Back false work primary) was (Some g) here =
-          taken_back-rests t q s l p i pl.route pl.chain below e k r set label work primary rest was o known short
-          g here
+          taken_back-rests t s o work primary (came (Back false work primary) was) g here
   down-part (Resv l e k x) own was pl known =
       absurd (no_resv_down (role_of q) _ _ _ _
       (down_hop t q s l p i pl.route pl.chain below (Resv l e k x) rest was own).shape)
