@@ -4,7 +4,7 @@ use Rattle.std.specs.Prelude.{◌&&◌, nat_lt, Option, Some, None, is_some}
 use Rattle.std.proofs.lemmas.List.Sums.{sum_by-cons}
 use Rattle.ason_base.specs.declared.ids.NodeId.{NodeId}
 use Rattle.ason_base.specs.declared.commands.Command.{Command}
-use Rattle.ason_base.specs.declared.commands.Command.TheVariants.{Setup, Release, Protect, Retry, Revert, Fail, Repair}
+use Rattle.ason_base.specs.declared.commands.Command.TheVariants.{Fail}
 use Rattle.ason_base.specs.declared.commands.Event.{Event}
 use Rattle.ason_base.specs.declared.commands.Event.TheVariants.{Deliver, Noise, Tick, Desk, Post}
 use Rattle.ason_base.specs.declared.messages.Msg.{Msg}
@@ -26,13 +26,8 @@ made_delivered t w d u (Some (Message p)) = made_handled t (taken w d u p) d u (
 made_delivered t w d u (Some (Flood m)) = refl
 
 pub made_posted : (t : Network) (w : World) (c : Command) → (posted t w c).made ≡ w.made
-made_posted t w (Setup n from to protected both via backup) = refl
-made_posted t w (Release n from) = refl
-made_posted t w (Protect n from) = refl
-made_posted t w (Retry n from) = refl
-made_posted t w (Revert n from) = refl
 made_posted t w (Fail g) = refl
-made_posted t w (Repair g) = refl
+made_posted t w c = refl
 
 -- one more of its node
 more : (w : World) (k n : ℕ) → (with_event w k).made n ≡ w.made n + cond (nat_eq k n) 1 0

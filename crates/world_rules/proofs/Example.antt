@@ -21,12 +21,7 @@ use Rattle.world_rules.specs.Frames.{packets_of}
 use Rattle.world_rules.specs.Worlds.{World, start}
 use Rattle.world_rules.specs.WorldRuns.{IsEnabled, IsRun, after, step}
 use Rattle.world_rules.specs.Images.{mesh_events}
-
-a : NodeId
-a = record { 0 = 1 }
-
-b : NodeId
-b = record { 0 = 2 }
+use Rattle.world_rules.proofs.ExampleNodes.{a, b}
 
 link : LinkId
 link = record { 0 = 1 }

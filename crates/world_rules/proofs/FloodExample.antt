@@ -13,15 +13,7 @@ use Rattle.world_rules.specs.WorldLaws.{known_at}
 use Rattle.world_rules.specs.Worlds.{World, start}
 use Rattle.world_rules.specs.WorldRuns.{IsRun, after}
 use Rattle.world_rules.specs.Images.{mesh_events}
-
-a : NodeId
-a = record { 0 = 1 }
-
-b : NodeId
-b = record { 0 = 2 }
-
-c : NodeId
-c = record { 0 = 3 }
+use Rattle.world_rules.proofs.ExampleNodes.{a, b, c}
 
 link : ℕ → NodeId → NodeId → LinkSpec
 link k low high = record { id = record { 0 = k }; low = low; high = high; labels = 1; metric = 1; srlgs = [] }

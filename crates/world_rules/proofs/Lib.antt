@@ -1,12 +1,15 @@
 pub mod Again
 pub mod Channels
 pub mod Counted
+pub mod Delivered
 pub mod Ends
 pub mod EveryRun
 pub mod Example
+pub mod ExampleNodes
 pub mod FloodExample
 pub mod Flooded
 pub mod Learnt
+pub mod Numbered
 pub mod PacketsShown
 pub mod Reached
 pub mod Sent

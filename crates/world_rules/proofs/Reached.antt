@@ -121,23 +121,20 @@ reached-taken w d u p other made r = record {
   channels = λ a b. has-taken (nat_eq a d.0 && nat_eq b u.0) p (w.channels a b) (w.ends a b) (r.channels a b);
 }
   where
+    -- what goes from the sender's end is among its frames
+    there : (a b : ℕ) → (nat_eq a d.0 && nat_eq b u.0) ≡ true → slice_get (w.ends b a).frames made.place ≡ Some p
+    there a b h =
+        let is = both_are a b u.0 d.0 h in
+        ap (λ n. slice_get (w.ends n a).frames made.place) is.1
+        ∙ ap (λ n. slice_get (w.ends u.0 n).frames made.place) is.0 ∙ made.there
+
     both : (a b : ℕ) → nat_eq a b ≡ false → (c : Bool) → (nat_eq a d.0 && nat_eq b u.0) ≡ c → (f : Bool) →
         (nat_eq b d.0 && nat_eq a u.0) ≡ f →
         IsReached (pair (cond c (takes (Some p) (w.ends a b)) (w.ends a b))
         (cond f (takes (Some p) (w.ends b a)) (w.ends b a)))
     both a b e true h true k = absurd (cc (not_both a b u.0 d.0 other h, k))
-    both a b e true h false k =
-        let is = both_are a b u.0 d.0 h in
-        reached-west (w.ends a b) (w.ends b a) made.place p
-        (ap (λ n. slice_get (w.ends n a).frames made.place) is.1 ∙
-        ap (λ n. slice_get (w.ends u.0 n).frames made.place) is.0 ∙ made.there)
-        (r.apart a b e)
-    both a b e false h true k =
-        let is = both_are b a u.0 d.0 k in
-        reached-east (w.ends a b) (w.ends b a) made.place p
-        (ap (λ n. slice_get (w.ends n b).frames made.place) is.1 ∙
-        ap (λ n. slice_get (w.ends u.0 n).frames made.place) is.0 ∙ made.there)
-        (r.apart a b e)
+    both a b e true h false k = reached-west (w.ends a b) (w.ends b a) made.place p (there a b h) (r.apart a b e)
+    both a b e false h true k = reached-east (w.ends a b) (w.ends b a) made.place p (there b a k) (r.apart a b e)
     both a b e false h false k = r.apart a b e
 
 -- a frame that was sent was made at its sender's end

@@ -3,7 +3,7 @@ use Rattle.std.proofs.Common.{◌≡◌, ℕ, Bool, true, false, cond, nat_eq, L
 use Rattle.std.specs.Prelude.{◌&&◌, nat_lt, Option, Some, None, is_some}
 use Rattle.ason_base.specs.declared.ids.NodeId.{NodeId}
 use Rattle.ason_base.specs.declared.commands.Command.{Command}
-use Rattle.ason_base.specs.declared.commands.Command.TheVariants.{Setup, Release, Protect, Retry, Revert, Fail, Repair}
+use Rattle.ason_base.specs.declared.commands.Command.TheVariants.{Fail}
 use Rattle.ason_base.specs.declared.commands.Event.{Event}
 use Rattle.ason_base.specs.declared.commands.Event.TheVariants.{Deliver, Noise, Tick, Desk, Post}
 use Rattle.ason_base.specs.declared.messages.Msg.{Msg}
@@ -115,13 +115,8 @@ shows_delivered law t w d u k (Some (Message p)) other channel each is e r =
     (λ m ms h. at_most_one (heard_at w d u p) p m ms h)
 
 shows_posted : (t : Network) (w : World) (c : Command) → mesh_runs.posted t (image w) c ≡ image (posted t w c)
-shows_posted t w (Setup n from to protected both via backup) = refl
-shows_posted t w (Release n from) = refl
-shows_posted t w (Protect n from) = refl
-shows_posted t w (Retry n from) = refl
-shows_posted t w (Revert n from) = refl
 shows_posted t w (Fail g) = refl
-shows_posted t w (Repair g) = refl
+shows_posted t w c = refl
 
 first_holds : (b c : Bool) → (b && c) ≡ true → b ≡ true
 first_holds b c h = grind arith

@@ -1,6 +1,5 @@
 -- Why the image asks that each link be found by its number: two links have one number, and a node learns of the second.
 use Rattle.std.proofs.Common.{◌≡◌, ℕ, true, List, [], ◌∷◌, refl, sym, ap, ◌∙◌}
-use Rattle.ason_base.specs.declared.ids.NodeId.{NodeId}
 use Rattle.ason_base.specs.declared.network.LinkSpec.{LinkSpec}
 use Rattle.ason_base.specs.declared.network.TeRow.{TeRow}
 use Rattle.ason_base.specs.declared.commands.Event.{Event}
@@ -13,15 +12,7 @@ use Rattle.world_rules.specs.Images.{image, mesh_events}
 use Rattle.world_rules.specs.WorldLaws.{IsShown}
 use Rattle.world_rules.specs.WorldRuns.{IsRun, after}
 use Rattle.world_rules.specs.Worlds.{start}
-
-a : NodeId
-a = record { 0 = 1 }
-
-b : NodeId
-b = record { 0 = 2 }
-
-c : NodeId
-c = record { 0 = 3 }
+use Rattle.world_rules.proofs.ExampleNodes.{a, b, c}
 
 -- links with number 1 between b and c
 between : ℕ → LinkSpec

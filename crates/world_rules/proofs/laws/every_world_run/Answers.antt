@@ -1,9 +1,20 @@
 use Rattle.world_rules.proofs.Counted.{events-are-counted}
+use Rattle.world_rules.proofs.EveryRun.{FloodLaws}
 use Rattle.world_rules.proofs.EveryRun.{channels-have-the-frames, every-image-has-the-laws, every-run-is-shown, joined-know-the-links, joined-know-the-same, known-is-true, quiet-is-shown}
 use Rattle.world_rules.proofs.Flooded.{flooding-is-a-networks, known-is-flooded}
 use Rattle.world_rules.proofs.Learnt.{topologies-find-each}
 use Rattle.world_rules.proofs.Shown.{noise-is-not-shown, only-new-rows-are-shown, only-the-next-is-shown}
 use Rattle.world_rules.proofs.laws.every_world_run.Goals as goal
+use Rattle.world_rules.proofs.laws.every_world_run.Goals.{After-learnt_rows}
+
+-- what every flooding has
+flood-laws : (c : After-learnt_rows) → FloodLaws
+flood-laws c = record {
+  links = c.every_start.ensures.topology;
+  same = c.every_flooding.ensures.same;
+  joined = c.every_flooding.ensures.links;
+  others = c.learnt_rows.ensures.others;
+}
 
 pub returns-clause-image : goal.returns-clause-image
 returns-clause-image c = every-run-is-shown c.every_schedule.ensures.in_order c.learnt_rows.ensures.others
@@ -43,17 +54,7 @@ pub returns-clause-truth : goal.returns-clause-truth
 returns-clause-truth c = known-is-true c.learnt_rows.ensures.others
 
 pub returns-clause-same : goal.returns-clause-same
-returns-clause-same c = joined-know-the-same (record {
-  links = c.every_start.ensures.topology;
-  same = c.every_flooding.ensures.same;
-  joined = c.every_flooding.ensures.links;
-  others = c.learnt_rows.ensures.others;
-})
+returns-clause-same c = joined-know-the-same (flood-laws (goal.at.returns-clause-same c).After-learnt_rows)
 
 pub returns-clause-links : goal.returns-clause-links
-returns-clause-links c = joined-know-the-links (record {
-  links = c.every_start.ensures.topology;
-  same = c.every_flooding.ensures.same;
-  joined = c.every_flooding.ensures.links;
-  others = c.learnt_rows.ensures.others;
-})
+returns-clause-links c = joined-know-the-links (flood-laws (goal.at.returns-clause-links c).After-learnt_rows)
