@@ -153,14 +153,22 @@ handed-is Unnumbered q = refl
 handed-is Ahead q = refl
 handed-is Repeat q = refl
 
+-- what the parts of a packet's taking make of the hops
+pub record IsTaken (n : NodeView) (before mid late after : List Adjacency) (u : NodeId) (v : Heard) (q : Packet)
+    (body : Option Msg) : Type 0 where
+  pub heard : v ≡ heard_as (hop_at before u.0) q
+  pub handed : option_to_list body ≡ handed_body v q.body
+  pub are : ArePrepared before (body_answer n u body).sent mid
+  pub rest : map rested mid ≡ map rested before
+  pub takes : (d : ℕ) → prepared_at late d ≡
+      cond (nat_eq d u.0) (taken_by v q.acks (prepared_at mid d)) (prepared_at mid d)
+  pub peers : peer_numbers late ≡ peer_numbers mid
+  pub is : after ≡ map committed late
+
 module _ (n m : NodeView) (before mid late after : List Adjacency) (u : NodeId) (v : Heard) (q : Packet)
-    (body : Option Msg)
-    (heard : v ≡ heard_as (hop_at before u.0) q) (handed : option_to_list body ≡ handed_body v q.body)
-    (are : ArePrepared before (body_answer n u body).sent mid)
-    (rest : map rested mid ≡ map rested before)
-    (takes : (d : ℕ) → prepared_at late d ≡ cond (nat_eq d u.0) (taken_by v q.acks (prepared_at mid d))
-    (prepared_at mid d))
-    (peers : peer_numbers late ≡ peer_numbers mid) (is : after ≡ map committed late) where
+    (body : Option Msg) (was : IsTaken n before mid late after u v q body) where
+  open was use {heard, handed, are, rest, takes, peers, is}
+
   abbrev pub outs : List Out
   outs = (body_answer n u body).sent
 

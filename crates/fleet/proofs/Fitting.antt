@@ -23,7 +23,7 @@ use Rattle.world_rules.proofs.Stepping.{self_test}
 use Rattle.world_merge.specs.Deeds.{Deed, Handled, Heard, Posted, Ticked, Took, alone, alone_from, done}
 use Rattle.world_merge.specs.Histories.{at}
 use Rattle.world_merge.specs.Logs.{is_posted, line_of}
-use Rattle.world_merge.proofs.Elsewhere.{kept-delivered}
+use Rattle.world_rules.proofs.Delivered.{kept-delivered}
 use Rattle.round_rules.specs.OneWorker.{ids_of}
 use Rattle.round_rules.specs.Records.{Record, deeds_at}
 use Rattle.station_doings.specs.States.{StationState}

@@ -3,6 +3,7 @@ use Rattle.std.proofs.Common.{◌≡◌, ◌<◌, ◌+◌, ℕ, zero, suc, Bool,
 use Rattle.std.proofs.Common.{ap, ◌∙◌}
 use Rattle.std.proofs.Common.{subst, arith}
 use Rattle.std.specs.Prelude.{◌&&◌, Some, slice_get, slice_set}
+use Rattle.std.specs.List.{AllByRecursion}
 use Rattle.ason_base.specs.declared.ids.NodeId.{NodeId}
 use Rattle.ason_base.specs.Network.{IsTopology, Network}
 use Rattle.hop_reliable.proofs.Members.{each-more}
@@ -105,19 +106,25 @@ module _ (t : Network) (xs ys : List StationState) (low high : ℕ) (n m : NodeI
   from_else : (u : NodeId) → nat_eq u.0 n.0 ≡ false → nat_eq u.0 m.0 ≡ false → (k : ℕ) → w u.0 k ≡ v u.0 k
   from_else u p q k = sym (put-node (put w n m here) m n back u.0 k q ∙ put-node w n m here u.0 k p)
 
+  -- the links that one of both nodes has already are as they were
+  from_near : (k u : NodeId) (place : ℕ) → ((j : NodeId) → nat_eq j.0 u.0 ≡ false → w k.0 j.0 ≡ v k.0 j.0) →
+      slice_get (ids_of t) place ≡ Some u →
+      AllByRecursion (λ (j : NodeId). w k.0 j.0 ≡ v k.0 j.0) (near_among t place k)
+  from_near k u place same node =
+      each-more (λ (j : NodeId). nat_eq j.0 u.0 ≡ false) (λ (j : NodeId). w k.0 j.0 ≡ v k.0 j.0) same
+      (near_among t place k) (near-apart t k u place valid node)
+
   now_here : IsNewUpTo t v (high + 1) n is.here_now
   now_here =
       subst (IsNewUpTo t v (high + 1) n) (sym is.connected.first)
       (one-more t w v high n m is.here here new_here there channel_back first.peer is_here
-      (each-more (λ (k : NodeId). nat_eq k.0 m.0 ≡ false) (λ (k : NodeId). w n.0 k.0 ≡ v n.0 k.0) from_low
-      (near_among t high n) (near-apart t n m high valid there)))
+      (from_near n m high from_low there))
 
   now_there : IsNewUpTo t v (low + 1) m is.there_now
   now_there =
       subst (IsNewUpTo t v (low + 1) m) (sym is.connected.second)
       (one-more t w v low m n is.there back new_there at channel second.peer is_back
-      (each-more (λ (k : NodeId). nat_eq k.0 n.0 ≡ false) (λ (k : NodeId). w m.0 k.0 ≡ v m.0 k.0) from_high
-      (near_among t low m) (near-apart t m n low valid at)))
+      (from_near m n low from_high at))
 
   abbrev mid : List StationState
   mid = slice_set xs low is.here_now

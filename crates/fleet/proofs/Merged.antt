@@ -13,12 +13,12 @@ use Rattle.ason_base.specs.declared.commands.Entry.{Entry}
 use Rattle.ason_base.specs.declared.network.NodeSpec.{NodeSpec}
 use Rattle.ason_base.specs.Network.{Network, is_distinct, is_node_id}
 use Rattle.log_merge.specs.Logs.{AreLogsOf, EveryMergingMerges, HasLogs}
-use Rattle.world_rules.proofs.Stepping.{self_test}
-use Rattle.world_merge.specs.Deeds.{Deed, Handled, Heard, Posted, Ticked, Took, stamp_of}
+use Rattle.world_merge.specs.Deeds.{Deed, Posted, stamp_of}
 use Rattle.world_merge.specs.Histories.{at}
-use Rattle.world_merge.specs.Logs.{RisesAbove, is_posted, line_of, log_of, posts_of}
-use Rattle.world_merge.specs.Orders.{IsBefore, IsMerge, IsSorted, is_of, is_post}
+use Rattle.world_merge.specs.Logs.{RisesAbove, is_posted, line_of, log_of}
+use Rattle.world_merge.specs.Orders.{IsBefore, IsMerge, IsSorted, is_of}
 use Rattle.world_merge.specs.Picking.{merged_of, total}
+use Rattle.world_merge.proofs.Lines.{own-lines, post-lines}
 use Rattle.world_merge.proofs.Splitting.{line-stamp}
 use Rattle.round_rules.specs.OneWorker.{ids_of}
 use Rattle.round_rules.specs.Records.{IsRecord, Record, deeds_at, log_at, posts_in}
@@ -32,24 +32,6 @@ use Rattle.fleet.specs.Standing.{FleetState, StandsFor}
 
 abbrev pub log_of_station : StationState → List Entry
 log_of_station s = s.log
-
--- Lines and their owners
-
-own_lines : (n : NodeId) (ds : List Deed) → AllByRecursion (λ (e : Entry). is_of n.0 e ≡ true) (log_of n ds)
-own_lines n [] = tt
-own_lines n (Ticked s ∷ ds) = (self_test n.0, own_lines n ds)
-own_lines n (Handled s ∷ ds) = (self_test n.0, own_lines n ds)
-own_lines n (Took s u k x ∷ ds) = (self_test n.0, own_lines n ds)
-own_lines n (Heard s u bytes ∷ ds) = (self_test n.0, own_lines n ds)
-own_lines n (Posted s c ∷ ds) = own_lines n ds
-
-post_lines : (n : NodeId) (ds : List Deed) → AllByRecursion (λ (e : Entry). is_post e ≡ true) (posts_of n ds)
-post_lines n [] = tt
-post_lines n (Ticked s ∷ ds) = post_lines n ds
-post_lines n (Handled s ∷ ds) = post_lines n ds
-post_lines n (Took s u k x ∷ ds) = post_lines n ds
-post_lines n (Heard s u bytes ∷ ds) = post_lines n ds
-post_lines n (Posted s c ∷ ds) = (refl, post_lines n ds)
 
 no_lines : (n : NodeId) (posts : List (ℕ × Command)) → log_of n (map (λ c. Posted c.0 c.1) posts) ≡ []
 no_lines n [] = refl
@@ -111,7 +93,7 @@ each_log t lines r w (n ∷ ns) [] all = absurd all
 each_log t lines r w (n ∷ ns) (x ∷ xs) all = (
   record {
     log = log;
-    own = subst (AllByRecursion (λ (e : Entry). is_of n.0 e ≡ true)) (sym log) (own_lines n (deeds_at r n.0));
+    own = subst (AllByRecursion (λ (e : Entry). is_of n.0 e ≡ true)) (sym log) (own-lines n (deeds_at r n.0));
   },
   each_log t lines r w ns xs all.1,
 )
@@ -161,7 +143,7 @@ fleet-merges law f t lines r s = record { merge = merge; run = records-are-runs 
       distinct = distinct_ids (ids_of t) (apart-ids t s.stations.valid);
       each_log = each_log t lines r s.wires (ids_of t) f.stations s.stations.each;
       others = others;
-      posted = post_lines (at 0) (deeds_at r 0);
+      posted = post-lines (at 0) (deeds_at r 0);
       sorted = (
         sorted_lines is_posted (at 0) 0 (deeds_at r 0) (is.rises 0),
         each_sorted t lines r s.wires (ids_of t) f.stations s.stations.each,

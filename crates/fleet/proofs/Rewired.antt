@@ -16,7 +16,8 @@ use Rattle.round_rules.specs.OneWorker.{ids_of}
 use Rattle.fleet_rounds.specs.Fleets.{Wires}
 use Rattle.fleet_rounds.specs.Looks.{HasLinks}
 use Rattle.fleet_rounds.proofs.Choosing.{choose, zip-equal, zip-more, zip-then, Between}
-use Rattle.fleet_rounds.proofs.Links.{ends-stay, moved-none, sends-count}
+use Rattle.station_doings.proofs.Moving.{moved-none}
+use Rattle.fleet_rounds.proofs.Links.{ends-stay, sends-count}
 use Rattle.fleet_rounds.proofs.Nodes.{apart-ids, apart-near, channel-back, joins-nodes, near-there, node-there}
 use Rattle.fleet.specs.declared.seats.Seat.{Seat}
 use Rattle.fleet.specs.Connections.{AreConnected, HaveSeats, IsRing}
@@ -145,7 +146,7 @@ turned-connected t seats stride xs ys all turned =
     (λ x y made. turns-moved stride true x y y.answer made) xs ys turned)
 
 still_moved : (s : StationState) → LinksMoved s s
-still_moved s = zip-self HasMoved moved-none s.links
+still_moved s = zip-self HasMoved (λ l. (moved-none l).0) s.links
 
 -- So it does after the turns of one station.
 pub turn-connected : (seats : List Seat) (xs : List StationState) (place stride : ℕ) (x y : StationState) →

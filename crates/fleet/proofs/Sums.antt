@@ -191,19 +191,22 @@ rows-stand t lines f r s =
 
 -- the rows of each node
 node_rows : {X : Type 0} (f : NodeId → NodeState → List X) (t : Network) (lines : List Disturb) (fleet : FleetState)
-    (r : Record) → StandsFor t lines fleet r →
-    flat_map (λ (x : StationState). f x.controller.node.place.id x.controller.node.state) fleet.stations ≡
+    (r : Record) → StandsFor t lines fleet r → (xs : List StationState) → xs ≡ fleet.stations →
+    flat_map (λ (x : StationState). f x.controller.node.place.id x.controller.node.state) xs ≡
     flat_map (λ (n : NodeSpec). f n.id ((world_of t r).nodes n.id.0)) t.nodes
-node_rows f t lines fleet r s =
-    rows-along _ _ fleet.stations t.nodes
+node_rows f t lines fleet r s xs same =
+    ap (flat_map (λ (x : StationState). f x.controller.node.place.id x.controller.node.state)) same
+    ∙ rows-along _ _ fleet.stations t.nodes
     (stations-along t lines fleet r
     (λ x n. f x.controller.node.place.id x.controller.node.state ≡ f n.id ((world_of t r).nodes n.id.0)) s
     (λ x n is. ap (λ (p : LocalNode). f p.id x.controller.node.state) is.place ∙ ap (f n.id) is.stands.state))
 
 pub calls-stand : (t : Network) (lines : List Disturb) (f : FleetState) (r : Record) → StandsFor t lines f r →
-    flat_map call_rows_of f.stations ≡ all_call_rows t (image (world_of t r))
+    (xs : List StationState) → xs ≡ f.stations →
+    flat_map call_rows_of xs ≡ all_call_rows t (image (world_of t r))
 calls-stand = node_rows call_rows
 
 pub legs-stand : (t : Network) (lines : List Disturb) (f : FleetState) (r : Record) → StandsFor t lines f r →
-    flat_map leg_rows_of f.stations ≡ all_leg_rows t (image (world_of t r))
+    (xs : List StationState) → xs ≡ f.stations →
+    flat_map leg_rows_of xs ≡ all_leg_rows t (image (world_of t r))
 legs-stand = node_rows leg_rows

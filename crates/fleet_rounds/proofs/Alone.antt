@@ -24,7 +24,8 @@ use Rattle.fleet_rounds.specs.OneWorker.{IsPlaced}
 use Rattle.fleet_rounds.proofs.AloneTurns.{AloneTurns}
 use Rattle.fleet_rounds.proofs.Choosing.{zip-more}
 use Rattle.fleet_rounds.proofs.Counting.{RingFacts, drops-at, drops_over, facts-after, stands-count, takes-all}
-use Rattle.fleet_rounds.proofs.Links.{ends-stay, moved-none}
+use Rattle.station_doings.proofs.Moving.{moved-none}
+use Rattle.fleet_rounds.proofs.Links.{ends-stay}
 use Rattle.fleet_rounds.proofs.NoPosts.{posts-more}
 use Rattle.fleet_rounds.proofs.Nodes.{same-node}
 use Rattle.fleet_rounds.proofs.Replacing.{nowhere-kept}
@@ -111,7 +112,7 @@ module _ (t : Network) (lines : List Disturb) (r : Record) (w : Wires) (a : Alon
       (subst (λ (k : NodeId). HasMoved (w k.0 d.0) (row d.0)) (sym same)
       (now.moved d (subst (λ (k : NodeId). Contains (neighbours t k) d) same near)))
   moved-now u d near false e = subst (λ b. HasMoved (w u.0 d.0) (cond b row (w u.0) d.0)) (sym e)
-      (moved-none (w u.0 d.0))
+      (moved-none (w u.0 d.0)).0
 
   -- what is dropped on a channel
   pub dropped-now : (u d : NodeId) → is_channel t u d ≡ true → wired u.0 d.0 ≡ wired u.0 d.0 →

@@ -10,7 +10,8 @@ use Rattle.world_rules.proofs.Stepping.{self_test}
 use Rattle.world_merge.specs.Deeds.{Deed, Heard, Posted, alone, done}
 use Rattle.world_merge.specs.Histories.{at}
 use Rattle.world_merge.specs.Merges.{Agrees}
-use Rattle.world_merge.proofs.Agreeing.{agrees-self, same-posted}
+use Rattle.world_merge.proofs.Agreeing.{agree, agrees-self, same-posted}
+use Rattle.world_merge.proofs.Merging.{same-joined}
 use Rattle.world_merge.proofs.Splitting.{alone-more}
 use Rattle.round_rules.specs.Doings.{Did, Doing, deeds_in}
 use Rattle.round_rules.specs.Functions.{clock_of}
@@ -24,50 +25,17 @@ pub alone-did : (t : Network) (n : NodeId) (ds : List Doing) (d : Deed) →
     alone t n (deeds_in (ds ++ Did d ∷ [])) ≡ done t n (alone t n (deeds_in ds)) d
 alone-did t n ds d = ap (alone t n) (deeds-more ds (Did d ∷ [])) ∙ alone-more t n (start t) (deeds_in ds) (d ∷ [])
 
--- the world whose parts are those of these worlds, each of its node
-abbrev joined : (ℕ → World) → World
-joined ws = record {
-  nodes = λ n. (ws n).nodes n;
-  desks = λ n. (ws n).desks n;
-  ends = λ u d. (ws u).ends u d;
-  floods = λ n. (ws n).floods n;
-  channels = λ u d. (ws u).channels u d;
-  posted = (ws 0).posted;
-  failed = (ws 0).failed;
-  made = λ n. (ws n).made n;
-}
-
--- a record whose nodes' parts are theirs is of that world
-is-world : (t : Network) (r : Record) (ws : ℕ → World) →
-    ((n : ℕ) → Agrees n (alone t (at n) (deeds_at r n)) (ws n)) → world_of t r ≡ joined ws
-is-world t r ws parts = λ i. record {
-  nodes = λ n. (parts n).node i;
-  desks = λ n. (parts n).desk i;
-  ends = λ u d. (parts u).ends d i;
-  floods = λ n. (parts n).flood i;
-  channels = λ u d. (parts u).channels d i;
-  posted = (parts 0).posted i;
-  failed = (parts 0).failed i;
-  made = λ n. (parts n).made i;
-}
-
 -- A post
 
 pub posts-are-steps : PostsAreSteps
-posts-are-steps t c r same = is-world t (posted t c r) (λ n. step t (world_of t r) (Post c)) parts
+posts-are-steps t c r same =
+    same-joined (λ n. alone t (at n) (deeds_at (posted t c r) n)) (λ n. step t (world_of t r) (Post c)) parts
   where
     -- what the node made alone is its part of the world
     before : (n : ℕ) → Agrees n (alone t (at n) (deeds_at r n)) (world_of t r)
-    before n = record {
-      node = refl;
-      desk = refl;
-      ends = λ d. refl;
-      flood = refl;
-      channels = λ d. refl;
-      made = refl;
-      posted = (same n 0).posted;
-      failed = (same n 0).failed;
-    }
+    before n =
+        agree n (alone t (at n) (deeds_at r n)) (world_of t r) refl refl (λ d. refl) refl (λ d. refl) refl
+        (same n 0).posted (same n 0).failed
 
     parts : (n : ℕ) → Agrees n (alone t (at n) (deeds_at (posted t c r) n)) (step t (world_of t r) (Post c))
     parts n =
@@ -78,7 +46,8 @@ posts-are-steps t c r same = is-world t (posted t c r) (λ n. step t (world_of t
 -- Noise
 
 pub noise-is-a-step : NoiseIsAStep
-noise-is-a-step t u d bytes r = is-world t after (λ n. with_event (alone t (at n) (deeds_at r n)) d.0) parts
+noise-is-a-step t u d bytes r =
+    same-joined (λ n. alone t (at n) (deeds_at after n)) (λ n. with_event (alone t (at n) (deeds_at r n)) d.0) parts
   where
     did : List Doing
     did = r.doings d.0 ++ Did (Heard (clock_of (r.doings d.0) + 1) u bytes) ∷ []
@@ -100,16 +69,8 @@ noise-is-a-step t u d bytes r = is-world t after (λ n. with_event (alone t (at 
     elsewhere n e =
         let v : World = alone t (at n) (deeds_at r n) in
         subst (λ (w : World). Agrees n w (with_event v d.0))
-        (sym (ap (λ b. alone t (at n) (deeds_in (cond b did (r.doings n)))) e)) (record {
-          node = refl;
-          desk = refl;
-          ends = λ b. refl;
-          flood = refl;
-          channels = λ b. refl;
-          made = sym (ap (λ b. cond b (v.made n + 1) (v.made n)) e);
-          posted = refl;
-          failed = refl;
-        })
+        (sym (ap (λ b. alone t (at n) (deeds_in (cond b did (r.doings n)))) e)) (agree n v (with_event v d.0) refl refl
+        (λ b. refl) refl (λ b. refl) (sym (ap (λ b. cond b (v.made n + 1) (v.made n)) e)) refl refl)
 
     parts : (n : ℕ) → Goes (at n)
     parts n = go (nat_eq n d.0) refl

@@ -12,7 +12,6 @@ use Rattle.ason_base.proofs.Ordered.{any-there, contains-cases, contains-head, c
 use Rattle.channel_frames.specs.declared.frames.Content.{Content}
 use Rattle.flood.proofs.Members.{there_from_flat_map, there_from_map, there_map}
 use Rattle.hop_reliable.proofs.Members.{get_within}
-use Rattle.world_rules.specs.WorldRuns.{is_channel, neighbours}
 use Rattle.world_rules.specs.Worlds.{World, numbered_at, start}
 use Rattle.fleet_rounds.proofs.Numbers.{same_number}
 use Rattle.world_rules.proofs.Stepping.{self_test}
@@ -20,8 +19,8 @@ use Rattle.world_merge.specs.Deeds.{Deed, Handled, Heard, Posted, Ticked, Took, 
 use Rattle.world_merge.specs.Stamps.{sent_stamp, sent_stamp_from}
 use Rattle.station_sound.specs.declared.parcels.Parcel.{Parcel}
 use Rattle.station_sound.specs.Links.{LinkView}
-use Rattle.station_sound.specs.Parcels.{AreStamped, IsSentOf, clock_after}
-use Rattle.station_rings.specs.LinkStates.{LinkState, gone_of, view_of}
+use Rattle.station_sound.specs.Parcels.{AreStamped, clock_after}
+use Rattle.station_rings.specs.LinkStates.{view_of}
 use Rattle.round_rules.specs.OneWorker.{ids_of}
 use Rattle.round_rules.specs.Records.{Record, deeds_at}
 use Rattle.round_rules.specs.Rings.{is_in}
@@ -30,12 +29,12 @@ use Rattle.fleet_rounds.specs.Fleets.{AreStanding, IsStationAt, Wires}
 use Rattle.fleet_rounds.specs.Gaps.{HasPredecessor, IsStampIn, PostsFollow, StampsAreFew, all_deeds}
 use Rattle.fleet_rounds.specs.OneWorker.{AllBegun}
 use Rattle.fleet_rounds.proofs.Choosing.{Beside, zip-there}
-use Rattle.fleet_rounds.proofs.Exact.{gone-sent}
+use Rattle.fleet_rounds.proofs.Exact.{CameOver, came-sent}
 use Rattle.fleet_rounds.proofs.Exacts.{sent-whole}
 use Rattle.fleet_rounds.proofs.Gaps.{few-numbers}
 use Rattle.fleet_rounds.proofs.Greatest.{greater}
-use Rattle.fleet_rounds.proofs.Nodes.{among-ids, channel-near, joins-nodes, node-there, there-among}
-use Rattle.fleet_rounds.proofs.Wired.{at-node, one-of}
+use Rattle.fleet_rounds.proofs.Nodes.{among-ids, joins-nodes, node-there, there-among}
+use Rattle.fleet_rounds.proofs.Wired.{at-node}
 
 -- A frame's stamp is that of a deed of its sender
 
@@ -120,43 +119,26 @@ module _ (t : Network) (lines : List Disturb) (r : Record) (w : Wires) (xs : Lis
   pub came-known : (n : NodeId) (s : StationState) → IsStationAt t lines r w n s → (l : LinkView) →
       Contains (map view_of s.links) l → (p : Parcel) → Contains l.came p → Known p.stamp
   came-known n s is l there p came = inr (record {
-    node = u;
-    known = (joins-nodes t u n joined).from;
+    node = over.sender;
+    known = (joins-nodes t over.sender n over.joined).from;
     deed = sent.0;
     there = sent.1;
-    stamp = sent.2 ∙ sym of.exact;
+    stamp = sent.2 ∙ sym over.sent.exact;
   })
     where
-      seen : (k : LinkState) × Contains (map (λ (v : NodeId). w n.0 v.0) (neighbours t n)) k × (view_of k ≡ l)
-      seen =
-          there_from_map view_of (map (λ (v : NodeId). w n.0 v.0) (neighbours t n)) l
-          (subst (λ ls. Contains (map view_of ls) l) is.links there)
+      over : CameOver t r w n l p
+      over = came-sent t lines r w xs all begun n s is l there p came
 
-      wire : (v : NodeId) × Contains (neighbours t n) v × (w n.0 v.0 ≡ seen.0)
-      wire = there_from_map (λ (v : NodeId). w n.0 v.0) (neighbours t n) seen.0 seen.1
+      whole : numbered_at (sent_by t over.sender (deeds_at r over.sender.0) n.0) p.number ≡ Some over.sent.content
+      whole =
+          sent-whole t over.sender (deeds_at r over.sender.0) p.stamp p.number n.0 over.sent.content over.sent.there
 
-      u : NodeId
-      u = wire.0
-
-      joined : is_channel t u n ≡ true
-      joined = channel-near t n u wire.1
-
-      of : IsSentOf t u (deeds_at r u.0) n p
-      of =
-          one-of (IsSentOf t u (deeds_at r u.0) n) (gone_of (w u.0 n.0)) p (gone-sent t lines r w xs all begun u n
-          joined)
-          (subst (λ ps. Contains ps p) (begun u n joined).1
-          (Contains-append_left _ (begun u n joined).0 p
-          (subst (λ (v : LinkView). Contains v.came p) (sym (ap view_of wire.2 ∙ seen.2)) came)))
-
-      whole : numbered_at (sent_by t u (deeds_at r u.0) n.0) p.number ≡ Some of.content
-      whole = sent-whole t u (deeds_at r u.0) p.stamp p.number n.0 of.content of.there
-
-      sent : (e : Deed) × Contains (deeds_at r u.0) e × (stamp_of e ≡ sent_stamp t u (deeds_at r u.0) n.0 p.number)
+      sent : (e : Deed) × Contains (deeds_at r over.sender.0) e
+          × (stamp_of e ≡ sent_stamp t over.sender (deeds_at r over.sender.0) n.0 p.number)
       sent =
-          sent_by_deed t u n.0 p.number (start t) (deeds_at r u.0)
-          (numbered_some (sent_by t u (deeds_at r u.0) n.0) p.number of.content whole)
-          (numbered_within (sent_by t u (deeds_at r u.0) n.0) p.number of.content whole)
+          sent_by_deed t over.sender n.0 p.number (start t) (deeds_at r over.sender.0)
+          (numbered_some (sent_by t over.sender (deeds_at r over.sender.0) n.0) p.number over.sent.content whole)
+          (numbered_within (sent_by t over.sender (deeds_at r over.sender.0) n.0) p.number over.sent.content whole)
 
   module _ (n : NodeId) (known : is_node_id t.nodes n ≡ true) (s : StationState)
       (is : IsStationAt t lines r w n s) where

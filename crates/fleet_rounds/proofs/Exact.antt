@@ -11,6 +11,7 @@ use Rattle.flood.proofs.Members.{there_from_map}
 use Rattle.world_rules.specs.WorldRuns.{is_channel, neighbours}
 use Rattle.station_sound.specs.Links.{LinkView}
 use Rattle.station_sound.specs.Parcels.{IsSentOf}
+use Rattle.station_sound.specs.declared.parcels.Parcel.{Parcel}
 use Rattle.station_rings.specs.LinkStates.{LinkState, gone_of, view_of}
 use Rattle.round_rules.specs.Records.{Record, deeds_at}
 use Rattle.station_doings.specs.Stands.{IsHeldOf}
@@ -20,6 +21,14 @@ use Rattle.fleet_rounds.specs.Fleets.{AreStanding, HasBegun, IsStationAt, Wires}
 use Rattle.fleet_rounds.proofs.Nodes.{channel-near}
 use Rattle.fleet_rounds.proofs.Popping.{WasSent}
 use Rattle.fleet_rounds.proofs.Wired.{channel-ends, link-peer, link-sound, one-of}
+
+-- who sent a parcel that came over a link of the node
+pub record CameOver (t : Network) (r : Record) (w : Wires) (n : NodeId) (l : LinkView) (p : Parcel) : Type 0 where
+  pub sender : NodeId
+  pub near : Contains (neighbours t n) sender
+  pub joined : is_channel t sender n ≡ true
+  pub link : view_of (w n.0 sender.0) ≡ l
+  pub sent : IsSentOf t sender (deeds_at r sender.0) n p
 
 module _ (t : Network) (lines : List Disturb) (r : Record) (w : Wires) (xs : List StationState)
     (all : AreStanding t lines r w xs) (begun : (u d : NodeId) → is_channel t u d ≡ true → HasBegun w u d) where
@@ -31,41 +40,48 @@ module _ (t : Network) (lines : List Disturb) (r : Record) (w : Wires) (xs : Lis
       subst (λ (v : NodeId). AllByRecursion (IsSentOf t u (deeds_at r u.0) v) (gone_of (w u.0 n.0)))
       (link-peer t lines r w u e.sender e.sends n e.out) (link-sound t lines r w u e.sender e.sends n e.out).sent
 
-  -- a held parcel was
-  held-sent : (n : NodeId) (s : StationState) → IsStationAt t lines r w n s → (h : HeldParcel) →
-      IsHeldOf (map view_of s.links) h → WasSent t r n h
-  held-sent n s is h came =
-      subst (λ (v : NodeId). IsSentOf t v (deeds_at r v.0) n h.parcel) from
-      (one-of (IsSentOf t u (deeds_at r u.0) n) (gone_of (w u.0 n.0)) h.parcel (gone-sent u n joined)
-      (subst (λ ps. Contains ps h.parcel) start_of.1
-      (Contains-append_left (received (w n.0 u.0).into) start_of.0 h.parcel in_came)))
+  -- and so was what came over a link
+  pub came-sent : (n : NodeId) (s : StationState) → IsStationAt t lines r w n s → (l : LinkView) →
+      Contains (map view_of s.links) l → (p : Parcel) → Contains l.came p → CameOver t r w n l p
+  came-sent n s is l there p came = record {
+    sender = wire.0;
+    near = wire.1;
+    joined = joined;
+    link = link_is;
+    sent =
+        one-of (IsSentOf t wire.0 (deeds_at r wire.0.0) n) (gone_of (w wire.0.0 n.0)) p (gone-sent wire.0 n joined)
+        (subst (λ ps. Contains ps p) start_of.1
+        (Contains-append_left (received (w n.0 wire.0.0).into) start_of.0 p in_came));
+  }
     where
-      seen : (k : LinkState) × Contains (map (λ (v : NodeId). w n.0 v.0) (neighbours t n)) k × (view_of k ≡ came.link)
+      seen : (k : LinkState) × Contains (map (λ (v : NodeId). w n.0 v.0) (neighbours t n)) k × (view_of k ≡ l)
       seen =
-          there_from_map view_of (map (λ (v : NodeId). w n.0 v.0) (neighbours t n)) came.link
-          (subst (λ ls. Contains (map view_of ls) came.link) is.links came.there)
+          there_from_map view_of (map (λ (v : NodeId). w n.0 v.0) (neighbours t n)) l
+          (subst (λ ls. Contains (map view_of ls) l) is.links there)
 
       wire : (v : NodeId) × Contains (neighbours t n) v × (w n.0 v.0 ≡ seen.0)
       wire = there_from_map (λ (v : NodeId). w n.0 v.0) (neighbours t n) seen.0 seen.1
 
-      u : NodeId
-      u = wire.0
+      joined : is_channel t wire.0 n ≡ true
+      joined = channel-near t n wire.0 wire.1
 
-      joined : is_channel t u n ≡ true
-      joined = channel-near t n u wire.1
-
-      link_is : view_of (w n.0 u.0) ≡ came.link
+      link_is : view_of (w n.0 wire.0.0) ≡ l
       link_is = ap view_of wire.2 ∙ seen.2
 
-      from : u ≡ h.from
-      from =
-          sym (link-peer t lines r w n s is u wire.1) ∙ ap (λ (l : LinkView). l.peer) link_is ∙ came.peer
+      start_of : IsPrefix (received (w n.0 wire.0.0).into) (gone_of (w wire.0.0 n.0))
+      start_of = begun wire.0 n joined
 
-      start_of : IsPrefix (received (w n.0 u.0).into) (gone_of (w u.0 n.0))
-      start_of = begun u n joined
+      in_came : Contains (received (w n.0 wire.0.0).into) p
+      in_came = subst (λ (v : LinkView). Contains v.came p) (sym link_is) came
 
-      in_came : Contains (received (w n.0 u.0).into) h.parcel
-      in_came = subst (λ (l : LinkView). Contains l.came h.parcel) (sym link_is) came.came
+  -- a held parcel was
+  held-sent : (n : NodeId) (s : StationState) → IsStationAt t lines r w n s → (h : HeldParcel) →
+      IsHeldOf (map view_of s.links) h → WasSent t r n h
+  held-sent n s is h came =
+      let over = came-sent n s is came.link came.there h.parcel came.came in
+      subst (λ (v : NodeId). IsSentOf t v (deeds_at r v.0) n h.parcel)
+      (sym (link-peer t lines r w n s is over.sender over.near) ∙ ap (λ (l : LinkView). l.peer) over.link ∙ came.peer)
+      over.sent
 
   -- so was each parcel that is held
   pub all-held : (n : NodeId) (s : StationState) → IsStationAt t lines r w n s → (hs : List HeldParcel) →

@@ -115,24 +115,3 @@ pub turn-adds : (t : Network) (lines : List Disturb) (n : NodeId) (tick : Bool) 
     IsTurnOf t lines n tick before added → AddsNeither added
 turn-adds t lines n tick before added f =
     cut-adds t lines n tick before added (whole-cut t lines n tick before added f)
-
--- doing nothing is a cut turn
-abbrev pub no-turn : (t : Network) (lines : List Disturb) (n : NodeId) (before : List Doing) →
-    IsCutTurnOf t lines n true before []
-no-turn t lines n before = record {
-  ticks = [];
-  dues = [];
-  items = [];
-  takings = [];
-  last = [];
-  all = refl;
-  is_tick = inl refl;
-  freed = [];
-  kept = due_in (before ++ []);
-  due = refl;
-  are_due = refl;
-  handled = tt;
-  few = omega arith;
-  are_takings = tt;
-  lacks = inl refl;
-}

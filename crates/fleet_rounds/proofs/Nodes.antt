@@ -1,16 +1,17 @@
 -- Nodes of a topology are apart, and channels lead both ways.
-use Rattle.std.proofs.Common.{◌≡◌, ◌<◌, ◌-◌, ℕ, zero, suc, Bool, true, false, cond, not, nat_eq, nat_lt, List, [], ◌∷◌}
-use Rattle.std.proofs.Common.{length, map, filter, refl, sym, ap, ◌∙◌, subst, arith}
-use Rattle.std.specs.Prelude.{◌&&◌, ◌||◌, slice_get}
+use Rattle.std.proofs.Common.{◌≡◌, ◌<◌, ◌-◌, ℕ, Bool, true, false, cond, not, nat_eq, List, [], ◌∷◌}
+use Rattle.std.proofs.Common.{map, filter, refl, sym, ap, ◌∙◌, subst, arith}
+use Rattle.std.specs.Prelude.{◌&&◌, ◌||◌}
 use Rattle.std.specs.List.{AllByRecursion, Contains, list_any}
 use Rattle.ason_base.specs.declared.ids.NodeId.{NodeId}
 use Rattle.ason_base.specs.declared.network.LinkSpec.{LinkSpec}
 use Rattle.ason_base.specs.declared.network.NodeSpec.{NodeSpec}
-use Rattle.ason_base.specs.Network.{IsTopology, Network, are_ends, is_node_id, node_number}
+use Rattle.ason_base.specs.Network.{IsTopology, Network, are_ends, is_node_id}
 use Rattle.ason_base.proofs.Ordered.{any-there, there-any}
 use Rattle.flood.proofs.Members.{there_filter, there_from_filter, there_from_map, there_map}
 use Rattle.world_rules.specs.WorldRuns.{is_channel, neighbours}
 use Rattle.fleet_rounds.proofs.Numbers.{same_number}
+use Rattle.world_rules.proofs.Numbered.{Rises, rises}
 use Rattle.world_rules.proofs.Stepping.{self_test}
 use Rattle.round_rules.specs.OneWorker.{ids_of}
 use Rattle.fleet_rounds.specs.OneWorker.{is_among}
@@ -19,46 +20,7 @@ use Rattle.fleet_rounds.specs.OneWorker.{is_among}
 pub same-node : (a b : NodeId) → nat_eq a.0 b.0 ≡ true → a ≡ b
 same-node a b e = ap (λ k. record { 0 = k }) (same_number a.0 b.0 e)
 
--- The nodes of a topology rise
-
--- each node's number is above n, and above those of all earlier ones
-abbrev pub Rises : ℕ → List NodeSpec → Type 0
-Rises n [] = Unit {0}
-Rises n (m ∷ ms) = (n < m.id.0) × Rises m.id.0 ms
-
-abbrev before : ℕ → List NodeSpec → ℕ → ℕ
-before n nodes zero = n
-before n nodes (suc k) = node_number (slice_get nodes k)
-
-rises-from : (n : ℕ) (nodes : List NodeSpec) → ((k : ℕ) → k < length nodes →
-    before n nodes k < node_number (slice_get nodes k)) → Rises n nodes
-rises-from n [] each = tt
-rises-from n (m ∷ ms) each = (each 0 (omega arith), rises-from m.id.0 ms (λ k below. go k below))
-  where
-    inside : (k : ℕ) → k < length ms → suc k < suc (length ms)
-    inside k below = omega arith
-
-    go : (k : ℕ) → k < length ms → before m.id.0 ms k < node_number (slice_get ms k)
-    go zero below = each 1 (inside 0 below)
-    go (suc k) below = each (suc (suc k)) (inside (suc k) below)
-
-at_start : (nodes : List NodeSpec) (k : ℕ) → (cond (nat_eq k 0) 0 (node_number (slice_get nodes (k - 1))))
-    ≡ before 0 nodes k
-at_start nodes zero = refl
-at_start nodes (suc k) =
-    let less : suc k - 1 ≡ k = omega arith in
-    let past : nat_eq (suc k) 0 ≡ false = grind arith in
-    ap (λ b. cond b 0 (node_number (slice_get nodes (suc k - 1)))) past ∙ ap (λ j. node_number (slice_get nodes j)) less
-
--- the nodes of a topology rise
-pub rises : (t : Network) → IsTopology t → Rises 0 t.nodes
-rises t is = rises-from 0 t.nodes (λ k below. subst (λ j. j < node_number (slice_get t.nodes k)) (at_start t.nodes k)
-    (less _ _ (is.nodes k below)))
-  where
-    less : (a b : ℕ) → nat_lt a b ≡ true → a < b
-    less a b h = grind arith
-
--- so no two of them are the same
+-- The nodes of a topology rise, so no two of them are the same
 
 abbrev pub AreApart : List NodeId → Type 0
 AreApart [] = Unit {0}

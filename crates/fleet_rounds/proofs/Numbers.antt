@@ -82,21 +82,20 @@ pub in-append : (xs ys : List ℕ) (k : ℕ) → is_in (xs ++ ys) k ≡ (is_in x
 in-append [] ys k = refl
 in-append (x ∷ xs) ys k = ap (λ b. nat_eq x k || b) (in-append xs ys k) ∙ grind arith
 
--- a number below all of these isn't among them
-pub not-above : (k : ℕ) (xs : List ℕ) → AllByRecursion (λ (x : ℕ). k < x) xs → is_in xs k ≡ false
-not-above k [] all = refl
-not-above k (x ∷ xs) all =
-    let first = all.0 in
-    let other : nat_eq x k ≡ false = grind (arith, first) in
-    ap (λ b. b || is_in xs k) other ∙ not-above k xs all.1
+-- a number that is none of these isn't among them
+not-among : (k : ℕ) (xs : List ℕ) → AllByRecursion (λ (x : ℕ). nat_eq x k ≡ false) xs → is_in xs k ≡ false
+not-among k [] all = refl
+not-among k (x ∷ xs) all = ap (λ b. b || is_in xs k) all.0 ∙ not-among k xs all.1
 
--- nor is one above all
+-- so is one below all of them
+pub not-above : (k : ℕ) (xs : List ℕ) → AllByRecursion (λ (x : ℕ). k < x) xs → is_in xs k ≡ false
+not-above k xs all =
+    not-among k xs (each-more (λ (x : ℕ). k < x) (λ (x : ℕ). nat_eq x k ≡ false) (λ x less. grind (arith, less)) xs all)
+
+-- and one above all
 pub not-below : (k : ℕ) (xs : List ℕ) → AllByRecursion (λ (x : ℕ). x < k) xs → is_in xs k ≡ false
-not-below k [] all = refl
-not-below k (x ∷ xs) all =
-    let first = all.0 in
-    let other : nat_eq x k ≡ false = grind (arith, first) in
-    ap (λ b. b || is_in xs k) other ∙ not-below k xs all.1
+not-below k xs all =
+    not-among k xs (each-more (λ (x : ℕ). x < k) (λ (x : ℕ). nat_eq x k ≡ false) (λ x less. grind (arith, less)) xs all)
 
 -- each number of a list is in it
 pub each-in : (xs : List ℕ) → AllByRecursion (λ (x : ℕ). is_in xs x ≡ true) xs

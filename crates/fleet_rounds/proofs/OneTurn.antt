@@ -29,7 +29,7 @@ use Rattle.station_doings.specs.declared.turns.Turn.{Turn}
 use Rattle.station_doings.specs.declared.turns.Turn.TheVariants.{AtLimit, Idle, Starved, Worked}
 use Rattle.station_doings.proofs.Taking.{got-more}
 use Rattle.fleet_rounds.proofs.Got.{from-one-of, numbers_from, turn-got}
-use Rattle.fleet_rounds.proofs.Links.{moved-none}
+use Rattle.station_doings.proofs.Moving.{moved-none}
 use Rattle.fleet_rounds.proofs.NoLefts.{left-last}
 use Rattle.fleet_rounds.proofs.NoPosts.{AddsNeither, cut-adds, left-posts, lost-adds, neither-append, turn-adds}
 use Rattle.fleet_rounds.proofs.Numbers.{in-append}
@@ -38,7 +38,7 @@ use Rattle.fleet_rounds.proofs.Turned.{are-held, from-peers, peers_of, told-cut,
 -- no link moved
 pub all-moved-none : (links : List LinkState) → AllZip HasMoved links links
 all-moved-none [] = tt
-all-moved-none (l ∷ links) = (moved-none l, all-moved-none links)
+all-moved-none (l ∷ links) = ((moved-none l).0, all-moved-none links)
 
 -- a cut turn, and the input that was left
 pub record EndsCut (t : Network) (lines : List Disturb) (n : NodeId) (tick : Bool) (ds added : List Doing) : Type 0

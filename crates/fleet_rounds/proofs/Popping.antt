@@ -24,7 +24,7 @@ use Rattle.station_doings.specs.Turned.{due_parcels}
 use Rattle.station_doings.specs.declared.held.HeldParcel.{HeldParcel}
 use Rattle.fleet_rounds.proofs.Contents.{IsSameFrame, IsSent, each-first}
 use Rattle.fleet_rounds.proofs.Exacts.{Exactly, all-exact, exactly, same-frames, sent_in}
-use Rattle.fleet_rounds.proofs.Links.{moved-none}
+use Rattle.station_doings.proofs.Moving.{moved-none}
 use Rattle.fleet_rounds.proofs.Stood.{takes-what-stood}
 use Rattle.fleet_rounds.proofs.Turned.{untouched-none}
 
@@ -79,7 +79,7 @@ one_emptied t r n u a b ps is f =
   where
     all : f.drained.0.takes ≡ a.early ++ known_items a.into
     all =
-        (takes-what-stood a b b f.drained.0 (moved-none b) (received a.into ++ known_items a.into) f.drained refl
+        (takes-what-stood a b b f.drained.0 (moved-none b).0 (received a.into ++ known_items a.into) f.drained refl
         is.begun).first
 
 -- where the turn halted at the link

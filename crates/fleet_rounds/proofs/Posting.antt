@@ -1,5 +1,5 @@
 -- Stations that took a post stand for the record with it.
-use Rattle.std.proofs.Common.{◌≡◌, ◌≤◌, ◌<◌, ◌+◌, ℕ, Bool, true, false, cond, nat_le, List, [], ◌∷◌, ◌++◌, filter}
+use Rattle.std.proofs.Common.{◌≡◌, ◌≤◌, ◌<◌, ◌+◌, ℕ, Bool, true, false, nat_le, List, [], ◌∷◌, ◌++◌, filter}
 use Rattle.std.proofs.Common.{length, map, refl}
 use Rattle.std.proofs.Common.{sym, ap, ◌∙◌, subst, arith, append-nil, inl, inr}
 use Rattle.std.specs.Prelude.{◌⊎◌, ◌&&◌, None}
@@ -32,6 +32,7 @@ use Rattle.round_rules.specs.OneWorker.{ids_of}
 use Rattle.round_rules.specs.Records.{Record, deeds_at, posts_in, world_of}
 use Rattle.round_rules.specs.Rings.{count_of, got_from}
 use Rattle.round_rules.proofs.Desks.{deeds-more}
+use Rattle.round_rules.proofs.Standing.{all_passing}
 use Rattle.station_doings.specs.Stands.{StandsBy}
 use Rattle.station_doings.specs.States.{IsTakenFrom, StationState, holding_of}
 use Rattle.station_doings.proofs.Standing.{posts-stand}
@@ -59,16 +60,6 @@ some_node t valid =
     go : (ns : List NodeId) → 1 ≤ length ns → (n : NodeId) × Contains ns n
     go [] some = absurd (omega (arith, some))
     go (n ∷ ns) some = (n, contains-head n ns)
-
--- what holds of all holds of those that pass
-all_passing : (P : Deed → Type 0) (p : Deed → Bool) (ds : List Deed) → AllByRecursion P ds →
-    AllByRecursion P (filter p ds)
-all_passing P p [] all = tt
-all_passing P p (d ∷ ds) all = go (p d) (all_passing P p ds all.1)
-  where
-    go : (b : Bool) → AllByRecursion P (filter p ds) → AllByRecursion P (cond b (d ∷ filter p ds) (filter p ds))
-    go true rest = (all.0, rest)
-    go false rest = rest
 
 -- where there are posts alone
 all_posts : (posts : List (ℕ × Command)) → filter is_posted (map (λ c. Posted c.0 c.1) posts) ≡

@@ -30,7 +30,8 @@ use Rattle.fleet_rounds.proofs.KnownTurns.{turns-made}
 use Rattle.fleet_rounds.proofs.Cuts.{cut-got, cut-there, takes-sent}
 use Rattle.fleet_rounds.proofs.Next.{next-fresh, next-known, stops-at}
 use Rattle.fleet_rounds.proofs.NoLefts.{leaves-added}
-use Rattle.fleet_rounds.proofs.NoPosts.{no-turn, turn-adds, whole-cut}
+use Rattle.round_rules.proofs.Reaching.{no-turn}
+use Rattle.fleet_rounds.proofs.NoPosts.{turn-adds, whole-cut}
 use Rattle.fleet_rounds.proofs.Nodes.{channel-near, same-node}
 use Rattle.fleet_rounds.proofs.OneHalt.{ends-here}
 use Rattle.fleet_rounds.proofs.OneTurn.{EndsCut}

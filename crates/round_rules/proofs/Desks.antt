@@ -9,7 +9,7 @@ use Rattle.channel_frames.specs.declared.frames.Content.{Content}
 use Rattle.world_rules.specs.Worlds.{World, start, with_event}
 use Rattle.world_rules.proofs.Stepping.{self_test}
 use Rattle.world_merge.specs.Deeds.{Handled, Took, alone, alone_from, done}
-use Rattle.world_merge.proofs.Elsewhere.{kept-delivered}
+use Rattle.world_rules.proofs.Delivered.{kept-delivered}
 use Rattle.world_merge.proofs.Splitting.{alone-more}
 use Rattle.round_rules.specs.Doings.{Did, Doing, Freed, Got, Left, Lost, deeds_in}
 use Rattle.round_rules.specs.Takings.{Taking, all_doings}

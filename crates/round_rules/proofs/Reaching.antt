@@ -12,7 +12,7 @@ use Rattle.world_merge.specs.Deeds.{Ticked}
 use Rattle.round_rules.specs.Doings.{DeskItem, Did, Doing, DueFrame, Left, RingFrame, TickAsked}
 use Rattle.round_rules.specs.Functions.{Popped, all_freed, all_handled, all_taken, freed}
 use Rattle.round_rules.specs.Functions.{taken, tick_if, ticked}
-use Rattle.round_rules.specs.Halts.{HasHalted, TurnsHalt}
+use Rattle.round_rules.specs.Halts.{HasHalted, IsCutTurnOf, TurnsHalt}
 use Rattle.round_rules.specs.Held.{due_in}
 use Rattle.round_rules.specs.Limits.{Progress, desk_part, due_parts, going, halted_by, lines_in, next_stamp, pop_parts}
 use Rattle.round_rules.specs.Limits.{tick_part, turn_to, unless_halted}
@@ -185,6 +185,27 @@ module _ (t : Network) (lines : List Disturb) (n : NodeId) (tick : Bool) (before
       go false true e f = in_items e f
       go false false e f = in_pops e f h
 
+-- doing nothing is a cut turn
+abbrev pub no-turn : (t : Network) (lines : List Disturb) (n : NodeId) (before : List Doing) →
+    IsCutTurnOf t lines n true before []
+no-turn t lines n before = record {
+  ticks = [];
+  dues = [];
+  items = [];
+  takings = [];
+  last = [];
+  all = refl;
+  is_tick = inl refl;
+  freed = [];
+  kept = due_in (before ++ []);
+  due = refl;
+  are_due = refl;
+  handled = tt;
+  few = omega arith;
+  are_takings = tt;
+  lacks = inl refl;
+}
+
 -- the tick wasn't made
 at_tick : (t : Network) (lines : List Disturb) (n : NodeId) (before : List Doing) (due pops : List Popped) →
     tick_part true before ≡ halted_by TickAsked before → IsFull (next_stamp before) before →
@@ -193,23 +214,7 @@ at_tick t lines n before due pops halts no_room = record {
   added = [];
   left = TickAsked;
   all = ap (λ (p : Progress). p.doings) whole ∙ ap (λ ks. ks ++ Left TickAsked ∷ []) (sym (append-nil before));
-  cut = record {
-    ticks = [];
-    dues = [];
-    items = [];
-    takings = [];
-    last = [];
-    all = refl;
-    is_tick = inl refl;
-    freed = [];
-    kept = due_in (before ++ []);
-    due = refl;
-    are_due = refl;
-    handled = tt;
-    few = omega arith;
-    are_takings = tt;
-    lacks = inl refl;
-  };
+  cut = no-turn t lines n before;
   rest = (Did (Ticked (next_stamp before)) ∷ []) ++ (on.more ++ (c.more ++ all_doings d.takings));
   whole =
       d.all ∙ ap (λ ks. ks ++ all_doings d.takings) (c.all ∙ ap (λ ks. ks ++ c.more) on.all)

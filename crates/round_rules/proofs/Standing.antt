@@ -25,17 +25,19 @@ rising_range : (a k : ℕ) → Rising (range_with_len a k)
 rising_range a zero = tt
 rising_range a (suc k) = (above_range a (a + 1) k (omega arith), rising_range (a + 1) k)
 
-above_filter : (p : ℕ → Bool) (n : ℕ) (xs : List ℕ) → Above n xs → Above n (filter p xs)
-above_filter p n [] all = tt
-above_filter p n (x ∷ xs) all = go (p x) (above_filter p n xs all.1)
+-- what holds of all holds of those that pass
+pub all_passing : {X : Type 0} (P : X → Type 0) (p : X → Bool) (xs : List X) → AllByRecursion P xs →
+    AllByRecursion P (filter p xs)
+all_passing P p [] all = tt
+all_passing P p (x ∷ xs) all = go (p x) (all_passing P p xs all.1)
   where
-    go : (b : Bool) → Above n (filter p xs) → Above n (cond b (x ∷ filter p xs) (filter p xs))
+    go : (b : Bool) → AllByRecursion P (filter p xs) → AllByRecursion P (cond b (x ∷ filter p xs) (filter p xs))
     go true rest = (all.0, rest)
     go false rest = rest
 
 rising_filter : (p : ℕ → Bool) (xs : List ℕ) → Rising xs → Rising (filter p xs)
 rising_filter p [] up = tt
-rising_filter p (x ∷ xs) up = go (p x) (rising_filter p xs up.1) (above_filter p x xs up.0)
+rising_filter p (x ∷ xs) up = go (p x) (rising_filter p xs up.1) (all_passing (λ (k : ℕ). x < k) p xs up.0)
   where
     go : (b : Bool) → Rising (filter p xs) → Above x (filter p xs) → Rising (cond b (x ∷ filter p xs) (filter p xs))
     go true rest above = (above, rest)

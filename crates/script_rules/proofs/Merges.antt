@@ -8,33 +8,16 @@ use Rattle.ason_base.specs.Network.{IsTopology, Network, is_node_id}
 use Rattle.world_rules.specs.Worlds.{World, start}
 use Rattle.world_merge.specs.Deeds.{AreDoable, Deed, Handled, Heard, Posted, Ticked, Took, done, stamp_of}
 use Rattle.world_merge.specs.Histories.{at}
-use Rattle.world_merge.specs.Logs.{RisesAbove, is_posted, line_of, log_of, posts_of}
-use Rattle.world_merge.specs.Orders.{IsBefore, IsMerge, IsSorted, is_of, is_post}
+use Rattle.world_merge.specs.Logs.{RisesAbove, is_posted, line_of, log_of}
+use Rattle.world_merge.specs.Orders.{IsBefore, IsMerge, IsSorted}
 use Rattle.world_merge.specs.Picking.{merged_of}
+use Rattle.world_merge.proofs.Lines.{own-lines, post-lines}
 use Rattle.world_merge.proofs.Splitting.{line-stamp}
 use Rattle.log_merge.specs.Logs.{AreLogsOf, EveryMergingMerges}
 use Rattle.round_rules.specs.Records.{IsRecord, Record, deeds_at, log_at, posts_in}
 use Rattle.script_rules.proofs.Nodes.{among, distinct_nodes, numbers_of}
 
 -- Lines
-
--- each line of a log is of its node
-own_lines : (n : ℕ) (ds : List Deed) → AllByRecursion (λ (e : Entry). is_of n e ≡ true) (log_of (at n) ds)
-own_lines n [] = tt
-own_lines n (Ticked s ∷ ds) = (grind arith, own_lines n ds)
-own_lines n (Handled s ∷ ds) = (grind arith, own_lines n ds)
-own_lines n (Took s u k x ∷ ds) = (grind arith, own_lines n ds)
-own_lines n (Heard s u bytes ∷ ds) = (grind arith, own_lines n ds)
-own_lines n (Posted s c ∷ ds) = own_lines n ds
-
--- and each post of none
-post_lines : (n : NodeId) (ds : List Deed) → AllByRecursion (λ (e : Entry). is_post e ≡ true) (posts_of n ds)
-post_lines n [] = tt
-post_lines n (Ticked s ∷ ds) = post_lines n ds
-post_lines n (Handled s ∷ ds) = post_lines n ds
-post_lines n (Took s u k x ∷ ds) = post_lines n ds
-post_lines n (Heard s u bytes ∷ ds) = post_lines n ds
-post_lines n (Posted s c ∷ ds) = (refl, post_lines n ds)
 
 -- stamps that rise stay above where some deeds are left out
 all_above : (p : Deed → Bool) (n : NodeId) (r s : ℕ) (ds : List Deed) → r ≤ s → RisesAbove s ds →
@@ -104,7 +87,7 @@ no_log t n w (Posted s c ∷ ds) none are = no_log t n (done t n w (Posted s c))
 
 their_logs : (r : Record) (ns : List ℕ) → AreLogsOf (log_at r) ns (map (log_at r) ns)
 their_logs r [] = tt
-their_logs r (n ∷ ns) = (record { log = refl; own = own_lines n (deeds_at r n) }, their_logs r ns)
+their_logs r (n ∷ ns) = (record { log = refl; own = own-lines (at n) (deeds_at r n) }, their_logs r ns)
 
 sorted_logs : (t : Network) (r : Record) → IsRecord t r → (ns : List ℕ) →
     AllByRecursion IsSorted (map (log_at r) ns)
@@ -123,7 +106,7 @@ has_merge merging t r valid is =
         each_log = their_logs r ns;
         others = λ n none. no_log t (at n) (start t) (deeds_at r n) (sym (among t.nodes (at n)) ∙ none)
             (is.histories.doable n);
-        posted = post_lines (at 0) (deeds_at r 0);
+        posted = post-lines (at 0) (deeds_at r 0);
         sorted = (sorted_lines is_posted (at 0) 0 (deeds_at r 0) (is.rises 0), sorted_logs t r is ns);
       }),
     )

@@ -5,7 +5,7 @@ use Rattle.std.specs.List.{list_any}
 use Rattle.ason_base.specs.declared.ids.NodeId.{NodeId}
 use Rattle.ason_base.specs.declared.network.NodeSpec.{NodeSpec}
 use Rattle.ason_base.specs.Network.{IsTopology, Network, is_distinct, is_node_id}
-use Rattle.fleet_rounds.proofs.Nodes.{Rises, rises}
+use Rattle.world_rules.proofs.Numbered.{Rises, rises}
 
 abbrev pub numbers_of : List NodeSpec → List ℕ
 numbers_of nodes = map (λ (n : NodeSpec). n.id.0) nodes

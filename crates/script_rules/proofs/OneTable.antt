@@ -1,6 +1,6 @@
 -- A state has one table.
 use Rattle.std.proofs.Common.{◌≡◌, ◌<◌, ◌⊎◌, ℕ, ◌+◌, ◌==◌, ◌&&◌, ◌||◌, nat_lt, Bool, false, List, [], ◌∷◌, get_or, inl, inr, refl, sym, ap, subst, ◌∙◌, arith, All}
-use Rattle.std.specs.Prelude.{Some, flat_map}
+use Rattle.std.specs.Prelude.{Some, flat_map, map}
 use Rattle.std.specs.Cmp.{IsStrictWeakOrder}
 use Rattle.std.specs.List.{AllPairs, Contains}
 use Rattle.std.specs.List.Sorted.{IsSortedBy}
@@ -60,6 +60,18 @@ tie a b s t this that = (same, rest a b s same this, rest b a t (sym same) that)
     rest : (a b : ℕ) (s : Bool) → a ≡ b → (nat_lt a b || (a == b && s)) ≡ false → s ≡ false
     rest a b s e h = sym (ap (λ c. c && s) (eq-eqb a b e)) ∙ (or_parts (nat_lt a b) (a == b && s) h).1
 
+-- what each node's rows are, the rows of all nodes are
+each_row : {A R : Type 0} (Is : R → Type 0) (kept : NodeSpec → List A) (row : NodeSpec → A → R) →
+    ((n : NodeSpec) (a : A) → Contains (kept n) a → Is (row n a)) → (ns : List NodeSpec) →
+    All Is (flat_map (λ n. map (row n) (kept n)) ns)
+each_row Is kept row holds [] = All-nil Is
+each_row Is kept row holds (n ∷ ns) = All-append Is (map (row n) (kept n)) _ here (each_row Is kept row holds ns)
+  where
+    here : All Is (map (row n) (kept n))
+    here =
+        All-map Is (row n) (kept n)
+        (All-weaker (Contains (kept n)) (λ a. Is (row n a)) (holds n) (kept n) (All-contains_itself (kept n)))
+
 -- Rows of calls
 
 -- the row is one of a call of a node
@@ -67,14 +79,9 @@ abbrev IsCallRow : Mesh → CallRow → Type 0
 IsCallRow s r = (n : NodeId) × (c : CallRec) × Contains (s.nodes n.0).calls c × (r ≡ call_row n (s.nodes n.0).legs c)
 
 each_call_row : (s : Mesh) (ns : List NodeSpec) → All (IsCallRow s) (flat_map (λ n. call_rows n.id (s.nodes n.id.0)) ns)
-each_call_row s [] = All-nil (IsCallRow s)
-each_call_row s (n ∷ ns) = All-append (IsCallRow s) (call_rows n.id (s.nodes n.id.0)) _ here (each_call_row s ns)
-  where
-    here : All (IsCallRow s) (call_rows n.id (s.nodes n.id.0))
-    here =
-        All-map (IsCallRow s) (call_row n.id (s.nodes n.id.0).legs) (s.nodes n.id.0).calls
-        (All-weaker (Contains (s.nodes n.id.0).calls) (λ c. IsCallRow s (call_row n.id (s.nodes n.id.0).legs c))
-        (λ c there. (n.id, c, there, refl)) (s.nodes n.id.0).calls (All-contains_itself (s.nodes n.id.0).calls))
+each_call_row s ns =
+    each_row (IsCallRow s) (λ n. (s.nodes n.id.0).calls) (λ n c. call_row n.id (s.nodes n.id.0).legs c)
+    (λ n c there. (n.id, c, there, refl)) ns
 
 -- calls of one node with one number are one
 one_call : (calls : List CallRec) (c d : CallRec) → AllPairs (λ a b. a.call.0 < b.call.0) calls → Contains calls c →
@@ -132,14 +139,8 @@ abbrev IsLegRow : Mesh → LegRow → Type 0
 IsLegRow s r = (n : NodeId) × (g : Leg) × Contains (s.nodes n.0).legs g × (r ≡ leg_row n g)
 
 each_leg_row : (s : Mesh) (ns : List NodeSpec) → All (IsLegRow s) (flat_map (λ n. leg_rows n.id (s.nodes n.id.0)) ns)
-each_leg_row s [] = All-nil (IsLegRow s)
-each_leg_row s (n ∷ ns) = All-append (IsLegRow s) (leg_rows n.id (s.nodes n.id.0)) _ here (each_leg_row s ns)
-  where
-    here : All (IsLegRow s) (leg_rows n.id (s.nodes n.id.0))
-    here =
-        All-map (IsLegRow s) (leg_row n.id) (s.nodes n.id.0).legs
-        (All-weaker (Contains (s.nodes n.id.0).legs) (λ g. IsLegRow s (leg_row n.id g))
-        (λ g there. (n.id, g, there, refl)) (s.nodes n.id.0).legs (All-contains_itself (s.nodes n.id.0).legs))
+each_leg_row s ns =
+    each_row (IsLegRow s) (λ n. (s.nodes n.id.0).legs) (λ n g. leg_row n.id g) (λ n g there. (n.id, g, there, refl)) ns
 
 one_leg_row : (s : Mesh) → HasOneLegEach s → TiesAreOne derived_order (IsLegRow s)
 one_leg_row s one x y here there this that = here.3 ∙ (rows ∙ sym there.3)

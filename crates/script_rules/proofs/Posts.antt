@@ -3,7 +3,7 @@ use Rattle.std.proofs.Common.{◌≡◌, ℕ, zero, suc, Bool, true, false, cond
 use Rattle.std.specs.Prelude.{◌+◌, ◌==◌, ◌||◌, Some}
 use Rattle.std.proofs.lemmas.List.Elements.{filter-append}
 use Rattle.ason_base.specs.declared.commands.Command.{Command}
-use Rattle.ason_base.specs.declared.commands.Command.TheVariants.{Setup, Release, Protect, Retry, Revert, Fail, Repair}
+use Rattle.ason_base.specs.declared.commands.Command.TheVariants.{Fail}
 use Rattle.ason_base.specs.declared.ids.NodeId.{NodeId}
 use Rattle.ason_base.specs.Network.{Network}
 use Rattle.world_rules.specs.WorldRuns as runs
@@ -98,13 +98,8 @@ rounds_post laws over t workers (suc rounds) s (a ∷ more) x =
     rounds_post laws over t workers rounds a more x.2 ∙ round_posts laws t workers s a x.1
 
 posted_calls : (t : Network) (w : World) (c : Command) → (runs.posted t w c).posted ≡ calls_after w.posted c
-posted_calls t w (Setup n from to protected both via backup) = refl
-posted_calls t w (Release n from) = refl
-posted_calls t w (Protect n from) = refl
-posted_calls t w (Retry n from) = refl
-posted_calls t w (Revert n from) = refl
 posted_calls t w (Fail g) = refl
-posted_calls t w (Repair g) = refl
+posted_calls t w c = refl
 
 command_posts : (t : Network) (c : Command) (r : Record) →
     (world_of t (posted t c r)).posted ≡ calls_after (world_of t r).posted c

@@ -23,40 +23,39 @@ aged_keeps p q steps more (h ∷ hs) le before all = (
   aged_keeps p q steps more hs le before.1 all.1,
 )
 
--- once the node ticked, so that its controller made a step more
-pub aged-parts : (old mid new : Parts) → PartsFit old → PartsFit mid →
-    mid.controller.steps ≡ old.controller.steps + 1 → mid.held.items ≡ old.held.items →
-    new.held.items ≡ map parcel_ticked mid.held.items →
-    state_of new ≡ record (state_of mid) { held = new.held.items } → new.me ≡ mid.me → PartsFit new
-aged-parts old mid new before fit steps held aged same me = record {
+-- what is held apart, the parts are as they were
+kept_parts : (old new : Parts) (held : List HeldParcel) → PartsFit old →
+    state_of new ≡ record (state_of old) { held = held } → new.me ≡ old.me →
+    AllByRecursion (HeldKeeps old.controller.node.place old.controller.steps) held → PartsFit new
+kept_parts old new held fit same me keeps = record {
   station = subst StationFits (sym same) (record {
     most = fit.station.most;
     count = fit.station.count;
     apart = fit.station.apart;
     links = fit.station.links;
-    held =
-        subst (AllByRecursion (HeldKeeps mid.controller.node.place mid.controller.steps)) (sym aged)
-        (aged_keeps mid.controller.node.place old.controller.node.place old.controller.steps mid.controller.steps
-        mid.held.items (omega (arith, steps))
-        (subst (AllByRecursion (HeldKeeps old.controller.node.place old.controller.steps)) (sym held)
-        before.station.held) fit.station.held);
+    held = keeps;
   });
   me = me ∙ fit.me ∙ ap me_of (sym same);
 }
+
+-- once the node ticked, so that its controller made a step more
+pub aged-parts : (old mid new : Parts) → PartsFit old → PartsFit mid →
+    mid.controller.steps ≡ old.controller.steps + 1 → mid.held.items ≡ old.held.items →
+    new.held.items ≡ map parcel_ticked mid.held.items →
+    state_of new ≡ record (state_of mid) { held = new.held.items } → new.me ≡ mid.me → PartsFit new
+aged-parts old mid new before fit steps held aged same me =
+    kept_parts mid new new.held.items fit same me
+    (subst (AllByRecursion (HeldKeeps mid.controller.node.place mid.controller.steps)) (sym aged)
+    (aged_keeps mid.controller.node.place old.controller.node.place old.controller.steps mid.controller.steps
+    mid.held.items (omega (arith, steps))
+    (subst (AllByRecursion (HeldKeeps old.controller.node.place old.controller.steps)) (sym held)
+    before.station.held) fit.station.held))
 
 -- Parcels that are let go
 
 -- without the first
 pub held-parts : (p new : Parts) (h : HeldParcel) (rest : List HeldParcel) → p.held.items ≡ h ∷ rest →
     state_of new ≡ record (state_of p) { held = rest } → new.me ≡ p.me → PartsFit p → PartsFit new
-held-parts p new h rest first same me fit = record {
-  station = subst StationFits (sym same) (record {
-    most = fit.station.most;
-    count = fit.station.count;
-    apart = fit.station.apart;
-    links = fit.station.links;
-    held =
-        (subst (AllByRecursion (HeldKeeps p.controller.node.place p.controller.steps)) first fit.station.held).1;
-  });
-  me = me ∙ fit.me ∙ ap me_of (sym same);
-}
+held-parts p new h rest first same me fit =
+    kept_parts p new rest fit same me
+    (subst (AllByRecursion (HeldKeeps p.controller.node.place p.controller.steps)) first fit.station.held).1

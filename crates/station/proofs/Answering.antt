@@ -1,9 +1,7 @@
 -- What the answer of a turn tells.
 use Rattle.std.proofs.Common.{◌≡◌, ◌≤◌, ◌+◌, ◌-◌, ℕ, Bool, true, false, cond, nat_eq, List, length, refl, arith}
-use Rattle.std.proofs.Common.{inl, inr}
 use Rattle.std.specs.Prelude.{Result, Ok, Err, OnOk}
 use Rattle.std.specs.List.{AllZip}
-use Rattle.ason_base.specs.declared.commands.Disturb.{Disturb}
 use Rattle.ason_base.specs.declared.ids.NodeId.{NodeId}
 use Rattle.ason_base.specs.Network.{Network}
 use Rattle.round_rules.specs.Doings.{Doing}
@@ -12,13 +10,14 @@ use Rattle.station_doings.specs.Limits.{IsAtLimit}
 use Rattle.station_doings.specs.Moves.{IsDrained}
 use Rattle.station_doings.specs.Phases.{turn_phase}
 use Rattle.station_doings.specs.States.{IsStationOf, StationState}
-use Rattle.station_doings.specs.Turned.{HasMadeTurn, HasTurned, StarvesTo, TurnsTo, comes_to_end, is_at_limit}
+use Rattle.station_doings.specs.Turned.{HasMadeTurn, HasTurned, TurnsTo, comes_to_end, is_at_limit}
 use Rattle.station_doings.specs.declared.turns.Turn.{Turn}
 use Rattle.station_doings.specs.declared.turns.Turn.TheVariants as turn
 use Rattle.station.specs.declared.halts.Halt.{Halt}
 use Rattle.station.specs.declared.halts.Halt.TheVariants as halt
 use Rattle.station.specs.Leads.{IsMoving, Leads}
 use Rattle.station.specs.Turning.{answer_of}
+use Rattle.station.proofs.Aside.{limit-aside, starves-aside, turns-aside}
 
 same : (a b : ℕ) → nat_eq a b ≡ true → b ≡ a + 0
 same a b h = grind (arith, h)
@@ -38,38 +37,8 @@ with_answer s x = record s { answer = x }
 
 turns_so : (tick halted : Bool) (old new : StationState) (x : Turn) (t : Network) (n : NodeId) (ds : List Doing) →
     TurnsTo t n ds tick halted old new → TurnsTo t n ds tick halted old (with_answer new x)
-turns_so tick halted old new x t n ds is = record {
-  due = is.due;
-  are_due = is.are_due;
-  pops = is.pops;
-  are_pops = is.are_pops;
-  stands = record { stands = is.stands.stands; taken = is.stands.taken };
-  halts = is.halts;
-}
-
-starves_so : (lines : List Disturb) (tick : Bool) (new : StationState) (x : Turn) (t : Network) (n : NodeId)
-    (ds : List Doing) → StarvesTo t lines n ds tick new → StarvesTo t lines n ds tick (with_answer new x)
-starves_so lines tick new x t n ds is = record {
-  made = is.made;
-  last = is.last;
-  cut = is.cut;
-  is_last = is.is_last;
-  stands = record { stands = is.stands.stands; taken = is.stands.taken };
-}
-
-limit_so : (new : StationState) (x : Turn) → IsAtLimit new → IsAtLimit (with_answer new x)
-limit_so new x h = elim h [
-  | inl full ↦ inl full
-  | inr last ↦ elim last [
-    | inl clock ↦ inr (inl clock)
-    | inr stamp ↦ inr (inr (record {
-      from = stamp.from;
-      parcel = stamp.parcel;
-      came = stamp.came;
-      last = stamp.last;
-    }))
-  ]
-]
+turns_so tick halted old new x t n ds is =
+    turns-aside t n ds tick halted old new old.answer x old.publisher new.publisher is
 
 -- it was a turn
 turned_is : (r : Result (Unit {0}) Halt) (old new : StationState) (tick : Bool) (x : Turn) →
@@ -91,7 +60,7 @@ turned_is (Ok y) old new tick x le leads = go (nat_eq (length old.log) (length n
 turned_is (Err halt.AtLimit) old new tick x le leads =
     λ t n ds is. turns_so tick true old new x t n ds (leads t n ds is).turns
 turned_is (Err halt.OutOfMemory) old new tick x le leads =
-    λ t n ds is. starves_so old.lines tick new x t n ds (leads t n ds is)
+    λ t n ds is. starves-aside t old.lines n ds tick new x new.publisher (leads t n ds is)
 
 -- where it halted the limit was met
 halts_so : (r : Result (Unit {0}) Halt) (old new : StationState) (tick : Bool) (x : Turn) (a b : ℕ) →
@@ -103,7 +72,8 @@ halts_so (Ok y) old new tick x a b leads = go (nat_eq a b)
         (ds : List Doing) → IsStationOf t n ds old → IsAtLimit (with_answer new x)
     go true is = absurd (no_true is)
     go false is = absurd (no_true is)
-halts_so (Err halt.AtLimit) old new tick x a b leads = λ e t n ds is. limit_so new x ((leads t n ds is).limit refl)
+halts_so (Err halt.AtLimit) old new tick x a b leads =
+    λ e t n ds is. limit-aside new x new.publisher ((leads t n ds is).limit refl)
 halts_so (Err halt.OutOfMemory) old new tick x a b leads = λ is. absurd (no_true is)
 
 -- and its rings were drained where it came to its end

@@ -1,5 +1,6 @@
 pub mod Ageing
 pub mod Answering
+pub mod Aside
 pub mod Fetching
 pub mod Fitting
 pub mod Frames

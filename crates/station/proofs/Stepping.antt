@@ -3,7 +3,9 @@ use Rattle.std.proofs.Common.{◌≡◌, ◌<◌, ◌≤◌, ◌+◌, ℕ, Bool,
 use Rattle.std.proofs.Common.{map, refl, sym, ap, ◌∙◌}
 use Rattle.std.proofs.Common.{append-nil, arith, subst}
 use Rattle.std.specs.Prelude.{max, suc, Ok, Err, OnOk, Result}
+use Rattle.std.specs.Result.{IsErrAnd}
 use Rattle.std.proofs.lemmas.List.{length-append}
+use Rattle.std.proofs.lemmas.Result.{err_from_is_err_and}
 use Rattle.ason_base.specs.declared.commands.DeskItem.{DeskItem}
 use Rattle.ason_base.specs.declared.commands.Disturb.{Disturb}
 use Rattle.ason_base.specs.declared.commands.Event.{Event}
@@ -20,7 +22,7 @@ use Rattle.station_doings.specs.Ends.{EndsAs}
 use Rattle.station_doings.specs.Entered.{HasEntered, able, me_of}
 use Rattle.station_doings.specs.Stands.{parcel_ticked}
 use Rattle.station_doings.specs.States.{IsStationOf, StationState}
-use Rattle.station_doings.specs.Phases.{desk_phase, ring_phase, tick_phase}
+use Rattle.station_doings.specs.Phases.{Phase, desk_phase, ring_phase, tick_phase}
 use Rattle.station_doings.specs.Starts.{AreFirstItems, AreFirstTakings, StarvesAs}
 use Rattle.station_doings.specs.Turned.{NoneLost}
 use Rattle.station_doings.specs.declared.held.HeldParcel.{HeldParcel}
@@ -47,6 +49,14 @@ pub record First {X : Type 0} (xs : List X) : Type 0 where
 pub first-of : {X : Type 0} (xs : List X) → 0 < length xs → First xs
 first-of [] h = absurd (omega (arith, h))
 first-of (x ∷ xs) h = record { item = x; rest = xs; is = refl }
+
+-- Errors
+
+-- a phase that ends with an error ends so where the error is passed on
+pub passed-leads : (r : Result (Unit {0}) Halt) (e : Halt) (R : Phase) (old new : StationState) →
+    IsErrAnd r (λ x. x ≡ e) → Leads (Err e) R old new → Leads r R old new
+passed-leads r e R old new is leads =
+    let p = err_from_is_err_and r is in subst (λ x. Leads x R old new) (sym (p.1 ∙ ap Err p.2)) leads
 
 -- What stays
 

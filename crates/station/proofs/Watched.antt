@@ -1,5 +1,5 @@
 -- A station does the same whether it is watched or not.
-use Rattle.std.proofs.Common.{◌+◌, ℕ, Bool, true, false, List, [], ◌∷◌, ◌++◌, inl, inr}
+use Rattle.std.proofs.Common.{◌+◌, ℕ, Bool, true, false, List, [], ◌∷◌, ◌++◌}
 use Rattle.std.specs.Prelude.{Option}
 use Rattle.ason_base.specs.declared.ids.NodeId.{NodeId}
 use Rattle.ason_base.specs.Network.{Network}
@@ -7,13 +7,13 @@ use Rattle.mgmt_view.specs.Publishing.{PublisherState}
 use Rattle.world_merge.specs.Deeds.{Heard}
 use Rattle.round_rules.specs.Doings.{Did, Doing}
 use Rattle.round_rules.specs.Functions.{clock_of}
-use Rattle.station_doings.specs.Limits.{IsAtLimit}
 use Rattle.station_doings.specs.States.{IsStationOf, StationState}
-use Rattle.station_doings.specs.Turned.{HasMadeTurn, HasTurned, StarvesTo, TurnsTo}
+use Rattle.station_doings.specs.Turned.{HasMadeTurn, HasTurned, TurnsTo}
 use Rattle.station_doings.specs.declared.turns.Turn.{Turn}
 use Rattle.station_doings.specs.declared.turns.Turn.TheVariants as turn
 use Rattle.station.specs.Noise.{HasHeard}
 use Rattle.station.specs.Watched.{with_publisher}
+use Rattle.station.proofs.Aside.{limit-aside, starves-aside, turns-aside}
 
 module _ (p : Option PublisherState) where
   -- it stands by the same doings
@@ -29,24 +29,7 @@ module _ (p : Option PublisherState) where
     -- a turn that came to its end, or was halted
     turns_so : (t : Network) (n : NodeId) (ds : List Doing) (halted : Bool) → TurnsTo t n ds tick halted old new →
         TurnsTo t n ds tick halted (with_publisher old p) (with_publisher new p)
-    turns_so t n ds halted is = record {
-      due = is.due;
-      are_due = is.are_due;
-      pops = is.pops;
-      are_pops = is.are_pops;
-      stands = record { stands = is.stands.stands; taken = is.stands.taken };
-      halts = is.halts;
-    }
-
-    starves_so : (t : Network) (n : NodeId) (ds : List Doing) → StarvesTo t old.lines n ds tick new →
-        StarvesTo t old.lines n ds tick (with_publisher new p)
-    starves_so t n ds is = record {
-      made = is.made;
-      last = is.last;
-      cut = is.cut;
-      is_last = is.is_last;
-      stands = record { stands = is.stands.stands; taken = is.stands.taken };
-    }
+    turns_so t n ds halted is = turns-aside t n ds tick halted old new old.answer new.answer p p is
 
     turned_so : (end : Turn) → HasTurned old new tick end →
         HasTurned (with_publisher old p) (with_publisher new p) tick end
@@ -59,21 +42,8 @@ module _ (p : Option PublisherState) where
         (is.0, λ t n ds stands. turns_so t n ds false (is.1 t n ds (unwatched-stands t n ds old stands)))
     turned_so turn.AtLimit is =
         λ t n ds stands. turns_so t n ds true (is t n ds (unwatched-stands t n ds old stands))
-    turned_so turn.Starved is = λ t n ds stands. starves_so t n ds (is t n ds (unwatched-stands t n ds old stands))
-
-    limit_so : IsAtLimit new → IsAtLimit (with_publisher new p)
-    limit_so h = elim h [
-      | inl full ↦ inl full
-      | inr last ↦ elim last [
-        | inl clock ↦ inr (inl clock)
-        | inr stamp ↦ inr (inr (record {
-          from = stamp.from;
-          parcel = stamp.parcel;
-          came = stamp.came;
-          last = stamp.last;
-        }))
-      ]
-    ]
+    turned_so turn.Starved is = λ t n ds stands.
+        starves-aside t old.lines n ds tick new new.answer p (is t n ds (unwatched-stands t n ds old stands))
 
     -- a turn
     pub made-watched : (end : Turn) → HasMadeTurn tick old new end →
@@ -83,7 +53,8 @@ module _ (p : Option PublisherState) where
       lines = is.lines;
       links = is.links;
       drained = is.drained;
-      limit = λ e t n ds stands. limit_so (is.limit e t n ds (unwatched-stands t n ds old stands));
+      limit = λ e t n ds stands.
+          limit-aside new new.answer p (is.limit e t n ds (unwatched-stands t n ds old stands));
     }
 
   -- noise

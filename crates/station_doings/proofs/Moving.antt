@@ -33,26 +33,33 @@ moved-sends l m is = record {
   standing = is.standing;
 }
 
+-- a link moved where this was sent and taken, and nothing came
+abbrev pub moved-still : (l m : LinkState) → Sends (view_of l) (view_of m) → SameEnds l m → m.into ≡ l.into →
+    (takes : List Parcel) → l.early ≡ takes ++ m.early → HasMoved l m
+moved-still l m s ends into takes taken = record {
+  peer = s.peer;
+  ends = ends;
+  sent = s.sent;
+  sends = s.sends;
+  gone = s.gone;
+  numbers = s.numbers;
+  standing = s.standing;
+  came = [];
+  into = ap received into ∙ sym (append-nil (received l.into));
+  takes = takes;
+  taken = append-nil l.early ∙ taken;
+  known =
+      subst (λ c. IsPrefix (received l.into ++ known_items l.into) (received c ++ known_items c)) (sym into)
+      (prefix-refl (received l.into ++ known_items l.into));
+}
+
 -- nothing happened
 pub moved-none : (l : LinkState) → TakesNone l l
-moved-none l =
-    let s = sends-same (view_of l) (view_of l) refl refl refl refl in (
-      record {
-        peer = refl;
-        ends = record { out = same_producer l; into = same_consumer l };
-        sent = s.sent;
-        sends = s.sends;
-        gone = s.gone;
-        numbers = s.numbers;
-        standing = s.standing;
-        came = [];
-        into = sym (append-nil (received l.into));
-        takes = [];
-        taken = append-nil l.early;
-        known = prefix-refl (received l.into ++ known_items l.into);
-      },
-      refl,
-    )
+moved-none l = (
+  moved-still l l (sends-same (view_of l) (view_of l) refl refl refl refl)
+      (record { out = same_producer l; into = same_consumer l }) refl [] refl,
+  refl,
+)
 
 pub same-ends : (l m k : LinkState) → SameEnds l m → SameEnds m k → SameEnds l k
 same-ends l m k a b = record {
@@ -91,27 +98,11 @@ moved-then l m k a b =
 
 -- frames were sent over it
 pub moved-sent : (stamp : ℕ) (fs : List Frame) (l m : LinkState) → IsSentOver stamp fs l m → TakesNone l m
-moved-sent stamp fs l m is =
-    let s : Sends (view_of l) (view_of m) =
-    subst (Sends (view_of l)) (sym is.view) (sends-frames stamp fs (view_of l)) in (
-      record {
-        peer = s.peer;
-        ends = is.ends;
-        sent = s.sent;
-        sends = s.sends;
-        gone = s.gone;
-        numbers = s.numbers;
-        standing = s.standing;
-        came = [];
-        into = ap received is.into ∙ sym (append-nil (received l.into));
-        takes = [];
-        taken = append-nil l.early ∙ sym is.early;
-        known =
-            subst (λ c. IsPrefix (received l.into ++ known_items l.into) (received c ++ known_items c)) (sym is.into)
-            (prefix-refl (received l.into ++ known_items l.into));
-      },
-      refl,
-    )
+moved-sent stamp fs l m is = (
+  moved-still l m (subst (Sends (view_of l)) (sym is.view) (sends-frames stamp fs (view_of l))) is.ends is.into []
+      (sym is.early),
+  refl,
+)
 
 -- a frame came out of the ring
 pub moved-fetched : (l m : LinkState) → IsFetched l m → TakesNone l m
@@ -136,26 +127,12 @@ moved-fetched l m is =
 
 -- a frame was taken
 pub moved-taken : (q : Parcel) (l m : LinkState) → IsTaken q l m → (moved : HasMoved l m) × (moved.takes ≡ q ∷ [])
-moved-taken q l m is =
-    let s = sends-same (view_of l) (view_of m) is.peer is.sent (λ i. sent (is.out i) ++ is.backlog i) is.standing in (
-      record {
-        peer = is.peer;
-        ends = record {
-          out = subst (SameProducer l.out) (sym is.out) (same_producer l);
-          into = subst (SameConsumer l.into) (sym is.into) (same_consumer l);
-        };
-        sent = s.sent;
-        sends = s.sends;
-        gone = s.gone;
-        numbers = s.numbers;
-        standing = s.standing;
-        came = [];
-        into = ap received is.into ∙ sym (append-nil (received l.into));
-        takes = q ∷ [];
-        taken = append-nil l.early ∙ is.first;
-        known =
-            subst (λ c. IsPrefix (received l.into ++ known_items l.into) (received c ++ known_items c)) (sym is.into)
-            (prefix-refl (received l.into ++ known_items l.into));
-      },
-      refl,
-    )
+moved-taken q l m is = (
+  moved-still l m
+      (sends-same (view_of l) (view_of m) is.peer is.sent (λ i. sent (is.out i) ++ is.backlog i) is.standing)
+      (record {
+        out = subst (SameProducer l.out) (sym is.out) (same_producer l);
+        into = subst (SameConsumer l.into) (sym is.into) (same_consumer l);
+      }) is.into (q ∷ []) is.first,
+  refl,
+)

@@ -9,14 +9,14 @@ use Rattle.ason_base.specs.declared.commands.Event.TheVariants.{Deliver}
 use Rattle.ason_base.specs.Network.{Network}
 use Rattle.channel_frames.specs.Frames.{IsFrame}
 use Rattle.control_channels.specs.declared.inputs.CoreInput.TheVariants as input
-use Rattle.world_merge.specs.Deeds.{Handled, Heard, Posted, Ticked, Took}
+use Rattle.world_merge.specs.Deeds.{Deed, Handled, Heard, Posted, Ticked, Took}
 use Rattle.station_sound.specs.Links.{LinkView}
 use Rattle.station_sound.specs.Stations.{IsSound, StationView}
 use Rattle.station_sound.specs.Steps.{HasReacted, IsDelivery}
 use Rattle.station_sound.proofs.Besides.{listening-is-no-deed, posts-are-deeds}
 use Rattle.station_sound.proofs.Events.{frames-are-deeds, items-are-deeds, noise-is-a-deed, ticks-are-deeds}
 use Rattle.round_rules.specs.Doings.{Did, Doing, Freed, Got, Left, Lost, deeds_in}
-use Rattle.round_rules.specs.Functions.{clock_of, delivered, handled, ticked}
+use Rattle.round_rules.specs.Functions.{clock_of, delivered}
 use Rattle.round_rules.specs.Held.{held_after, held_by, held_step, ticked_once}
 use Rattle.round_rules.proofs.Desks.{deeds-more}
 use Rattle.station_doings.specs.Parts.{DeliveriesStand, FreeingStands, HoldingStands, ItemsStand, LeavingStands}
@@ -31,12 +31,18 @@ use Rattle.station_doings.proofs.Keeping.{kept-dropped, kept-listening, kept-mor
 held_more : (ds es : List Doing) → held_after [] (ds ++ es) ≡ held_after (held_after [] ds) es
 held_more ds es = fold-append held_step [] ds es
 
+-- one deed more, at the clock as it is now
+deed-done : (ds : List Doing) (e : ℕ → Deed) (clock : ℕ) → clock ≡ clock_of ds + 1 →
+    deeds_in (ds ++ Did (e (clock_of ds + 1)) ∷ []) ≡ deeds_in ds ++ e clock ∷ []
+deed-done ds e clock now =
+    deeds-more ds (Did (e (clock_of ds + 1)) ∷ []) ∙ ap (λ k. deeds_in ds ++ e k ∷ []) (sym now)
+
 -- The tick and the desk
 
 pub ticks-stand : TicksStand
 ticks-stand t n ds old new is r desk clock held = record {
   sound =
-      subst (λ xs. IsSound t n xs new.station) (sym deeds)
+      subst (λ xs. IsSound t n xs new.station) (sym (deed-done ds (λ k. Ticked k) new.station.clock now))
       (ticks-are-deeds t n (deeds_in ds) old.station new.station is.sound r desk clock);
   clock = now ∙ sym (clock-did ds (Ticked (clock_of ds + 1)));
   held =
@@ -50,14 +56,10 @@ ticks-stand t n ds old new is r desk clock held = record {
     now : new.station.clock ≡ clock_of ds + 1
     now = clock ∙ ap (λ k. k + 1) is.clock
 
-    deeds : deeds_in (ticked ds) ≡ deeds_in ds ++ Ticked new.station.clock ∷ []
-    deeds =
-        deeds-more ds (Did (Ticked (clock_of ds + 1)) ∷ []) ∙ ap (λ k. deeds_in ds ++ Ticked k ∷ []) (sym now)
-
 pub items-stand : ItemsStand
 items-stand t n ds i old new is r desk clock held = record {
   sound =
-      subst (λ xs. IsSound t n xs new.station) (sym deeds)
+      subst (λ xs. IsSound t n xs new.station) (sym (deed-done ds (λ k. Handled k) new.station.clock now))
       (items-are-deeds t n (deeds_in ds) i old.station new.station is.sound r desk clock);
   clock = now ∙ sym (clock-did ds (Handled (clock_of ds + 1)));
   held = ap (map frame_of) held ∙ is.held ∙ sym (held_more ds (Did (Handled (clock_of ds + 1)) ∷ []));
@@ -68,10 +70,6 @@ items-stand t n ds i old new is r desk clock held = record {
   where
     now : new.station.clock ≡ clock_of ds + 1
     now = clock ∙ ap (λ k. k + 1) is.clock
-
-    deeds : deeds_in (handled ds) ≡ deeds_in ds ++ Handled new.station.clock ∷ []
-    deeds =
-        deeds-more ds (Did (Handled (clock_of ds + 1)) ∷ []) ∙ ap (λ k. deeds_in ds ++ Handled k ∷ []) (sym now)
 
 -- Taking
 

@@ -7,17 +7,17 @@ use Rattle.std.proofs.lemmas.List.{length-append}
 use Rattle.std.specs.List.{AllByRecursion}
 use Rattle.ason_base.specs.declared.ids.NodeId.{NodeId}
 use Rattle.ason_base.specs.declared.commands.Command.{Command}
-use Rattle.ason_base.specs.declared.commands.Command.TheVariants.{Setup, Release, Protect, Retry, Revert, Fail, Repair}
 use Rattle.ason_base.specs.declared.commands.Event.TheVariants.{Post}
 use Rattle.ason_base.specs.Network.{Network, is_node_id}
 use Rattle.mesh_rules.specs.Events.{has_first}
 use Rattle.world_rules.specs.WorldRuns.{is_channel, step}
 use Rattle.world_rules.specs.Worlds.{World, start, with_event}
+use Rattle.world_rules.proofs.Counted.{made_posted}
 use Rattle.world_rules.proofs.Stepping.{self_test}
 use Rattle.world_merge.specs.Deeds.{AreDoable, Deed, Handled, Heard, IsDoable, Posted, Ticked, Took, alone_from, done}
 use Rattle.world_merge.specs.Deeds.{stamp_of, upto}
 use Rattle.world_merge.specs.Logs.{RisesAbove, line_of, log_of}
-use Rattle.world_merge.proofs.Elsewhere.{kept-delivered}
+use Rattle.world_rules.proofs.Delivered.{kept-delivered}
 use Rattle.station_sound.specs.Links.{LinkView}
 use Rattle.station_sound.specs.Parcels.{AreStamped, IsStamped, clock_after}
 use Rattle.station_sound.specs.Stations.{LogsAreCounted, LogsAreFew}
@@ -91,13 +91,7 @@ made-once w n = ap (λ b. cond b (w.made n.0 + 1) (w.made n.0)) (self_test n.0)
 
 -- a post isn't
 pub made-still : (t : Network) (w : World) (c : Command) (n : ℕ) → (step t w (Post c)).made n ≡ w.made n
-made-still t w (Setup k from to protected both via backup) n = refl
-made-still t w (Release k from) n = refl
-made-still t w (Protect k from) n = refl
-made-still t w (Retry k from) n = refl
-made-still t w (Revert k from) n = refl
-made-still t w (Fail g) n = refl
-made-still t w (Repair g) n = refl
+made-still t w c n = ap (λ (f : ℕ → ℕ). f n) (made_posted t w c)
 
 -- as many lines more as the log has of a deed
 made_by : (t : Network) (n : NodeId) (w : World) (d : Deed) →

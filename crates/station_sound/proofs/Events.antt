@@ -20,7 +20,7 @@ use Rattle.world_rules.specs.Worlds.{World, delivered, with_event}
 use Rattle.world_rules.proofs.Stepping.{self_test}
 use Rattle.world_rules.proofs.Stepping.{contents-are-taken, items-are-handled, noise-moves-nothing, ticks-are-ticked}
 use Rattle.world_merge.specs.Deeds.{Handled, Heard, Ticked, Took, alone}
-use Rattle.world_merge.proofs.Elsewhere.{IsKept, kept-delivered}
+use Rattle.world_rules.proofs.Delivered.{IsKept, kept-delivered}
 use Rattle.station_sound.specs.Links.{LinkView}
 use Rattle.station_sound.specs.Parcels.{IsBroughtIn, IsStampedBy}
 use Rattle.station_sound.specs.Steps.{FramesAreDeeds, HasReacted, ItemsAreDeeds, NoiseIsADeed, TicksAreDeeds}

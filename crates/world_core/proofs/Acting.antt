@@ -21,7 +21,7 @@ use Rattle.world_rules.proofs.Stepping.{self_test}
 use Rattle.world_core.proofs.Places.{all-set, nodes-set, numbers-set, seat-there}
 use Rattle.world_core.proofs.Seating.{frame-stands, handle-stands, noise-stands, still-stands, tick-stands}
 use Rattle.world_rules.proofs.Untouched.{channels-join-neighbours, others-are-untouched}
-use Rattle.world_core.proofs.Left.{IsLeft, others-left, posted-left, failed-left, not_of, still-nowhere}
+use Rattle.world_core.proofs.Left.{IsLeft, others-left, posts-left, not_of, still-nowhere}
 use Rattle.world_core.proofs.FramesThere.{IsSent, channel-there, was-sent, never-sent}
 
 -- Desks and numbers of events that an event leaves
@@ -102,8 +102,8 @@ acted-stands t k after w e n i s new stands of is at node seat seats posted fail
   seats = subst (AllByRecursion (SeatStands t (step t w e))) (sym seats)
       (all-set (SeatStands t w) (SeatStands t (step t w e)) k.seats i s new at stands.apart stands.seats other seat);
   nowhere = λ m none. still-nowhere t w e n m of is.there none (stands.nowhere m none);
-  posted = posted ∙ stands.posted ∙ sym (posted-left t w e n.0 of);
-  failed = failed ∙ stands.failed ∙ sym (failed-left t w e n.0 of);
+  posted = posted ∙ stands.posted ∙ sym (posts-left t w e n.0 of).posted;
+  failed = failed ∙ stands.failed ∙ sym (posts-left t w e n.0 of).failed;
 }
   where
     other : (x : SeatState) → nat_eq x.node.0 s.node.0 ≡ false → SeatStands t w x → SeatStands t (step t w e) x
@@ -112,6 +112,16 @@ acted-stands t k after w e n i s new stands of is at node seat seats posted fail
         let left : IsLeft w (step t w e) x.node.0 = others-left t w e n.0 x.node.0 of differs in
         still-stands t w (step t w e) x (others-are-untouched t w e x.node.0 (not_of e n.0 x.node.0 of differs))
         left.desk left.made sits
+
+-- a node that acts makes its event
+acts : (t : Network) (k after : WorldState) (w : World) (n : NodeId) (a : Act) (e : NodeId → Event) →
+    is_event_of n.0 (e n) ≡ true → (acted : HasActed k n a after) → StandsFor t k w → IsActing t w n acted.seat →
+    acted.done.new.node ≡ acted.seat.node → SeatStands t (step t w (e acted.seat.node)) acted.done.new →
+    StandsFor t after (step t w (e n))
+acts t k after w n a e of acted stands is node seat =
+    acted-stands t k after w (e n) n acted.place acted.seat acted.done.new stands of is acted.there node
+    (subst (λ (m : NodeId). SeatStands t (step t w (e m)) acted.done.new) is.node seat)
+    acted.done.seats acted.posted acted.failed
 
 -- A frame that was sent
 
@@ -156,13 +166,11 @@ delivered-steps t k after d u number bytes e acted w stands =
     let is : IsActing t w d acted.seat = acting t k w d acted.place acted.seat stands acted.found acted.there in (
       three (may_act t w d) (is_channel t u d) (is_some (frame_at w u d number)) is.may sent.channel
           (ap is_some sent.frame.there),
-      acted-stands t k after w (world.Deliver d u number) d acted.place acted.seat acted.done.new stands
-          (self_test d.0) is
-          acted.there acted.done.done.0.node
-          (subst (λ (n : NodeId). SeatStands t (step t w (world.Deliver n u number)) acted.done.new) is.node
+      acts t k after w d (act.Take u bytes) (λ (n : NodeId). world.Deliver n u number) (self_test d.0) acted stands is
+          acted.done.done.0.node
           (frame-stands t w acted.seat acted.done.new u number bytes sent.frame.content
           (subst (λ (n : NodeId). frame_at w u n number ≡ Some sent.frame.content) (sym is.node) sent.frame.there)
-          sent.frame.bears is.stands acted.done.done)) acted.done.seats acted.posted acted.failed,
+          sent.frame.bears is.stands acted.done.done),
     )
 
 pub undelivered : (t : Network) (k : WorldState) (d u : NodeId) (number : ℕ) → frame_there k.seats u d number ≡ None →
@@ -187,11 +195,9 @@ pub noise-steps : (t : Network) (k after : WorldState) (d u : NodeId) (bytes : L
 noise-steps t k after d u bytes on nothing acted w stands =
     let is : IsActing t w d acted.seat = acting t k w d acted.place acted.seat stands acted.found acted.there in (
       (rw is.may (sym (channel-there t k w u d stands) ∙ on), nothing),
-      acted-stands t k after w (world.Noise d u bytes) d acted.place acted.seat acted.done.new stands (self_test d.0) is
-          acted.there acted.done.done.0.node
-          (subst (λ (n : NodeId). SeatStands t (step t w (world.Noise n u bytes)) acted.done.new) is.node
-          (noise-stands t w acted.seat acted.done.new u bytes nothing is.stands acted.done.done)) acted.done.seats
-          acted.posted acted.failed,
+      acts t k after w d (act.Take u bytes) (λ (n : NodeId). world.Noise n u bytes) (self_test d.0) acted stands is
+          acted.done.done.0.node
+          (noise-stands t w acted.seat acted.done.new u bytes nothing is.stands acted.done.done),
     )
 
 second : (a b : Bool) → (a && b) ≡ true → b ≡ true
@@ -224,12 +230,8 @@ pub ticked-steps : (t : Network) (k after : WorldState) (n : NodeId) → HasActe
 ticked-steps t k after n acted w stands =
     let is : IsActing t w n acted.seat = acting t k w n acted.place acted.seat stands acted.found acted.there in (
       is.may,
-      acted-stands t k after w (world.Tick n) n acted.place acted.seat acted.done.new stands
-          (self_test n.0) is acted.there
-          acted.done.done.0.node
-          (subst (λ (m : NodeId). SeatStands t (step t w (world.Tick m)) acted.done.new) is.node
-          (tick-stands t w acted.seat acted.done.new is.stands acted.done.done))
-          acted.done.seats acted.posted acted.failed,
+      acts t k after w n act.Tick (λ (m : NodeId). world.Tick m) (self_test n.0) acted stands is
+          acted.done.done.0.node (tick-stands t w acted.seat acted.done.new is.stands acted.done.done),
     )
 
 pub not-ticked : (t : Network) (k : WorldState) (n : NodeId) → IsUnable k n act.Tick → IsDisabled t k (world.Tick n)
@@ -243,12 +245,8 @@ handled-steps t k after n acted w stands =
     let is : IsActing t w n acted.seat = acting t k w n acted.place acted.seat stands acted.found acted.there in
     let items = sym acted.done.done.1 ∙ is.stands.desk ∙ ap (λ (m : NodeId). w.desks m.0) is.node in (
       rw is.may (sym (ap has_first items)),
-      acted-stands t k after w (world.Desk n) n acted.place acted.seat acted.done.new stands
-          (self_test n.0) is acted.there
-          acted.done.done.2.node
-          (subst (λ (m : NodeId). SeatStands t (step t w (world.Desk m)) acted.done.new) is.node
-          (handle-stands t w acted.seat acted.done.new is.stands acted.done.done))
-          acted.done.seats acted.posted acted.failed,
+      acts t k after w n act.Handle (λ (m : NodeId). world.Desk m) (self_test n.0) acted stands is
+          acted.done.done.2.node (handle-stands t w acted.seat acted.done.new is.stands acted.done.done),
     )
 
 pub not-handled : (t : Network) (k : WorldState) (n : NodeId) → IsUnable k n act.Handle → IsDisabled t k (world.Desk n)

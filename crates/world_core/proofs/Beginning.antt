@@ -1,5 +1,5 @@
 -- New seats stand for the start of a world.
-use Rattle.std.proofs.Common.{◌≡◌, ◌<◌, ◌-◌, ℕ, zero, suc, Bool, true, false, cond, nat_eq, nat_lt, List, [], ◌∷◌, get_or, length, map, refl, sym, ap, ◌∙◌, subst, arith}
+use Rattle.std.proofs.Common.{◌≡◌, ◌<◌, ◌-◌, ℕ, Bool, true, false, nat_eq, List, [], ◌∷◌, get_or, length, map, refl, sym, ap, ◌∙◌, subst, arith}
 use Rattle.std.specs.Prelude.{◌||◌, IsTrue, filter, is_some, slice_get}
 use Rattle.std.specs.List.{AllByRecursion, list_any}
 use Rattle.std.proofs.lemmas.Option.{slice_get-get_or}
@@ -7,7 +7,7 @@ use Rattle.ason_base.specs.declared.ids.NodeId.{NodeId}
 use Rattle.ason_base.specs.declared.network.LinkSpec.{LinkSpec}
 use Rattle.ason_base.specs.declared.network.NodeSpec.{NodeSpec}
 use Rattle.ason_base.specs.declared.network.TeRow.{TeRow}
-use Rattle.ason_base.specs.Network.{IsTopology, Network, end_beside, find_node, is_distinct, is_link, is_node_id, node_number, row_of, touches}
+use Rattle.ason_base.specs.Network.{IsTopology, Network, end_beside, find_node, is_distinct, is_link, is_node_id, row_of, touches}
 use Rattle.flood.specs.Networks.{declared_rows, new_flood, own_rows}
 use Rattle.flood.specs.State.{pending_count}
 use Rattle.mesh_rules.proofs.Topologies.{each-link}
@@ -16,48 +16,11 @@ use Rattle.world_core.specs.Replays.{StandsFor}
 use Rattle.world_core.specs.Seats.{SeatStands, SeatState, new_seat}
 use Rattle.world_rules.specs.Worlds.{start}
 use Rattle.world_core.proofs.Finding.{item-found}
+use Rattle.world_rules.proofs.Numbered.{Rises, rises}
 use Rattle.world_rules.proofs.Stepping.{self_test}
 use Rattle.world_core.proofs.Seating.{new-stands}
 
--- The nodes of a topology rise
-
-abbrev Rises : ℕ → List NodeSpec → Type 0
-Rises n [] = Unit {0}
-Rises n (m ∷ ms) = (n < m.id.0) × Rises m.id.0 ms
-
-abbrev before : ℕ → List NodeSpec → ℕ → ℕ
-before n nodes zero = n
-before n nodes (suc k) = node_number (slice_get nodes k)
-
-rises-from : (n : ℕ) (nodes : List NodeSpec) →
-    ((k : ℕ) → k < length nodes → before n nodes k < node_number (slice_get nodes k)) → Rises n nodes
-rises-from n [] each = tt
-rises-from n (m ∷ ms) each = (each 0 (omega arith), rises-from m.id.0 ms (λ k below. go k below))
-  where
-    inside : (k : ℕ) → k < length ms → suc k < suc (length ms)
-    inside k below = omega arith
-
-    go : (k : ℕ) → k < length ms → before m.id.0 ms k < node_number (slice_get ms k)
-    go zero below = each 1 (inside 0 below)
-    go (suc k) below = each (suc (suc k)) (inside (suc k) below)
-
-at_start : (nodes : List NodeSpec) (k : ℕ) →
-    cond (nat_eq k 0) 0 (node_number (slice_get nodes (k - 1))) ≡ before 0 nodes k
-at_start nodes zero = refl
-at_start nodes (suc k) =
-    let less : suc k - 1 ≡ k = omega arith in
-    let past : nat_eq (suc k) 0 ≡ false = grind arith in
-    ap (λ b. cond b 0 (node_number (slice_get nodes (suc k - 1)))) past ∙ ap (λ j. node_number (slice_get nodes j)) less
-
-rises : (t : Network) → IsTopology t → Rises 0 t.nodes
-rises t is =
-    rises-from 0 t.nodes (λ k below. subst (λ j. j < node_number (slice_get t.nodes k)) (at_start t.nodes k)
-    (less _ _ (is.nodes k below)))
-  where
-    less : (a b : ℕ) → nat_lt a b ≡ true → a < b
-    less a b h = grind arith
-
--- so no two have the same number
+-- The nodes of a topology rise, so no two have the same number
 
 rises_less : (n k : ℕ) (nodes : List NodeSpec) → n < k → Rises k nodes → Rises n nodes
 rises_less n k [] less rising = tt

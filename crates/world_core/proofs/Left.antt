@@ -1,22 +1,17 @@
 -- What an event leaves as it was, at other nodes and of posts.
-use Rattle.std.proofs.Common.{◌≡◌, ◌+◌, ℕ, Bool, true, false, cond, nat_eq, List, [], ◌∷◌, drop, refl, sym, ap, ◌∙◌, subst, arith}
-use Rattle.std.specs.Prelude.{Option, Some, None}
+use Rattle.std.proofs.Common.{◌≡◌, ◌+◌, ℕ, Bool, true, false, cond, nat_eq, drop, refl, sym, ap, ◌∙◌, subst, arith}
 use Rattle.ason_base.specs.declared.ids.NodeId.{NodeId}
 use Rattle.ason_base.specs.declared.commands.Event.{Event}
 use Rattle.ason_base.specs.declared.commands.Event.TheVariants as world
-use Rattle.ason_base.specs.declared.messages.Msg.{Msg}
 use Rattle.ason_base.specs.Network.{Network, is_node_id}
-use Rattle.channel_frames.specs.declared.frames.Content.{Content}
-use Rattle.channel_frames.specs.declared.frames.Content.TheVariants.{Message, Flood}
 use Rattle.hop_reliable.specs.Schedules.{HopEnd}
 use Rattle.flood.specs.State.{pending_count}
 use Rattle.world_core.specs.Replays.{IsNowhere}
 use Rattle.world_rules.specs.WorldRuns.{is_event_of, step}
 use Rattle.world_rules.specs.Standing.{IsUntouched}
-use Rattle.world_rules.specs.Worlds.{World, delivered, frame_at, handed_up, taken, with_event}
-use Rattle.world_rules.specs.Worlds as worlds
+use Rattle.world_rules.specs.Worlds.{World, frame_at, with_event}
 use Rattle.world_core.proofs.Finding.{same_number}
-use Rattle.world_core.proofs.Seating.{desk_kept, made_kept}
+use Rattle.world_rules.proofs.Delivered.{kept-delivered}
 use Rattle.world_rules.proofs.Untouched.{others-are-untouched}
 
 turned : (a b : ℕ) (c : Bool) → nat_eq a b ≡ c → nat_eq b a ≡ c
@@ -35,10 +30,9 @@ differs a b m h k = grind arith
 
 pub others-left : (t : Network) (w : World) (e : Event) (n m : ℕ) → is_event_of n e ≡ true → nat_eq m n ≡ false →
     IsLeft w (step t w e) m
-others-left t w (world.Deliver d u k) n m of other = record {
-  desk = desk_kept t (with_event w d.0) d u (frame_at w u d k) m;
-  made = made_kept t (with_event w d.0) d u (frame_at w u d k) m ∙ uncounted w d.0 m (differs d.0 n m of other);
-}
+others-left t w (world.Deliver d u k) n m of other =
+    let kept = kept-delivered t (with_event w d.0) d u (frame_at w u d k) m in
+    record { desk = kept.desk; made = kept.made ∙ uncounted w d.0 m (differs d.0 n m of other) }
 others-left t w (world.Noise d u bytes) n m of other =
     record { desk = refl; made = uncounted w d.0 m (differs d.0 n m of other) }
 others-left t w (world.Tick d) n m of other =
@@ -49,38 +43,19 @@ others-left t w (world.Desk d) n m of other = record {
 }
 others-left t w (world.Post c) n m of other = absurd (cc (of))
 
-posted_kept : (t : Network) (w : World) (d u : NodeId) (o : Option Content) → (delivered t w d u o).posted ≡ w.posted
-posted_kept t w d u None = refl
-posted_kept t w d u (Some (Message p)) = go (handed_up w d u p)
-  where
-    go : (ms : List Msg) → (worlds.handled t (taken w d u p) d u ms).posted ≡ w.posted
-    go [] = refl
-    go (m ∷ ms) = refl
-posted_kept t w d u (Some (Flood m)) = refl
+-- what was posted and what has failed stay where a node does something
+pub record PostsStay (w new : World) : Type 0 where
+  pub posted : new.posted ≡ w.posted
+  pub failed : new.failed ≡ w.failed
 
-pub posted-left : (t : Network) (w : World) (e : Event) (n : ℕ) → is_event_of n e ≡ true → (step t w e).posted ≡ w.posted
-posted-left t w (world.Deliver d u k) n of = posted_kept t (with_event w d.0) d u (frame_at w u d k)
-posted-left t w (world.Noise d u bytes) n of = refl
-posted-left t w (world.Tick d) n of = refl
-posted-left t w (world.Desk d) n of = refl
-posted-left t w (world.Post c) n of = absurd (cc (of))
-
-failed_kept : (t : Network) (w : World) (d u : NodeId) (o : Option Content) → (delivered t w d u o).failed ≡ w.failed
-failed_kept t w d u None = refl
-failed_kept t w d u (Some (Message p)) = go (handed_up w d u p)
-  where
-    go : (ms : List Msg) → (worlds.handled t (taken w d u p) d u ms).failed ≡ w.failed
-    go [] = refl
-    go (m ∷ ms) = refl
-failed_kept t w d u (Some (Flood m)) = refl
-
-pub failed-left : (t : Network) (w : World) (e : Event) (n : ℕ) → is_event_of n e ≡ true →
-    (step t w e).failed ≡ w.failed
-failed-left t w (world.Deliver d u k) n of = failed_kept t (with_event w d.0) d u (frame_at w u d k)
-failed-left t w (world.Noise d u bytes) n of = refl
-failed-left t w (world.Tick d) n of = refl
-failed-left t w (world.Desk d) n of = refl
-failed-left t w (world.Post c) n of = absurd (cc (of))
+pub posts-left : (t : Network) (w : World) (e : Event) (n : ℕ) → is_event_of n e ≡ true → PostsStay w (step t w e)
+posts-left t w (world.Deliver d u k) n of =
+    let kept = kept-delivered t (with_event w d.0) d u (frame_at w u d k) n in
+    record { posted = kept.posted; failed = kept.failed }
+posts-left t w (world.Noise d u bytes) n of = record { posted = refl; failed = refl }
+posts-left t w (world.Tick d) n of = record { posted = refl; failed = refl }
+posts-left t w (world.Desk d) n of = record { posted = refl; failed = refl }
+posts-left t w (world.Post c) n of = absurd (cc (of))
 
 pub not_of : (e : Event) (n m : ℕ) → is_event_of n e ≡ true → nat_eq m n ≡ false → is_event_of m e ≡ false
 not_of (world.Deliver d u k) n m of other = turned m d.0 false (differs d.0 n m of other)

@@ -35,31 +35,16 @@ desk_after t w c (Some n) m = cond (nat_eq m n.0) (w.desks m ++ Order c ∷ []) 
 
 desks-posted : (t : Network) (w : World) (c : Command) (m : ℕ) →
     (posted t w c).desks m ≡ desk_after t w c (ingress_of c) m
-desks-posted t w (Setup n from to protected both via backup) m = refl
-desks-posted t w (Release n from) m = refl
-desks-posted t w (Protect n from) m = refl
-desks-posted t w (Retry n from) m = refl
-desks-posted t w (Revert n from) m = refl
 desks-posted t w (Fail g) m = refl
-desks-posted t w (Repair g) m = refl
+desks-posted t w c m = refl
 
 pub failed-posted : (t : Network) (w : World) (c : Command) → (posted t w c).failed ≡ failed_after c w.failed
-failed-posted t w (Setup n from to protected both via backup) = refl
-failed-posted t w (Release n from) = refl
-failed-posted t w (Protect n from) = refl
-failed-posted t w (Retry n from) = refl
-failed-posted t w (Revert n from) = refl
 failed-posted t w (Fail g) = refl
-failed-posted t w (Repair g) = refl
+failed-posted t w c = refl
 
 numbers-posted : (t : Network) (w : World) (c : Command) → (posted t w c).posted ≡ w.posted ++ numbers_of c
 numbers-posted t w (Setup n from to protected both via backup) = refl
-numbers-posted t w (Release n from) = sym (append-nil w.posted)
-numbers-posted t w (Protect n from) = sym (append-nil w.posted)
-numbers-posted t w (Retry n from) = sym (append-nil w.posted)
-numbers-posted t w (Revert n from) = sym (append-nil w.posted)
-numbers-posted t w (Fail g) = sym (append-nil w.posted)
-numbers-posted t w (Repair g) = sym (append-nil w.posted)
+numbers-posted t w c = sym (append-nil w.posted)
 
 -- a valid command's ingress is a node
 ingress-is-node : (t : Network) (c : Command) (n : NodeId) → is_valid t c ≡ true → ingress_of c ≡ Some n →

@@ -1,14 +1,12 @@
 -- A seat that stands for its node still does after an event.
-use Rattle.std.proofs.Common.{◌≡◌, ◌+◌, ℕ, cond, nat_eq, List, [], ◌∷◌, ◌++◌, drop, refl, sym, ap, ◌∙◌, subst}
+use Rattle.std.proofs.Common.{◌≡◌, ◌+◌, ℕ, cond, nat_eq, List, ◌++◌, drop, refl, sym, ap, ◌∙◌, subst}
 use Rattle.std.specs.Prelude.{Option, Some, None}
 use Rattle.std.specs.Option.{option_map}
 use Rattle.ason_base.specs.declared.ids.NodeId.{NodeId}
 use Rattle.ason_base.specs.declared.commands.DeskItem.{DeskItem}
 use Rattle.ason_base.specs.declared.commands.Event.TheVariants as world
-use Rattle.ason_base.specs.declared.messages.Msg.{Msg}
 use Rattle.ason_base.specs.Network.{Network}
 use Rattle.channel_frames.specs.declared.frames.Content.{Content}
-use Rattle.channel_frames.specs.declared.frames.Content.TheVariants.{Message, Flood}
 use Rattle.channel_frames.specs.Frames.{IsFrame, SpellsNothing}
 use Rattle.flood.specs.State as flood
 use Rattle.flood.specs.State.{FloodState}
@@ -25,9 +23,9 @@ use Rattle.world_core.specs.Channels.{AreSent, ChannelState, HasFrames, after_fr
 use Rattle.world_rules.specs.WorldRuns.{step}
 use Rattle.world_core.specs.Seats.{HasDone, HasReacted, SeatStands, SeatState, new_seat}
 use Rattle.world_rules.specs.Standing.{IsStepOf, IsUntouched, contents_to}
-use Rattle.world_rules.specs.Worlds.{World, delivered, frame_at, handed_up, start, taken, with_event}
-use Rattle.world_rules.specs.Worlds as worlds
+use Rattle.world_rules.specs.Worlds.{World, frame_at, start, with_event}
 use Rattle.world_core.proofs.Finding.{found-passes, same_number}
+use Rattle.world_rules.proofs.Delivered.{kept-delivered}
 use Rattle.world_rules.proofs.Stepping.{self_test}
 use Rattle.world_core.proofs.Sending.{has-sent, new-frames, new-there, still-there}
 use Rattle.world_rules.proofs.Stepping.{deliveries-are-taken, items-are-handled, noise-moves-nothing, ticks-are-ticked}
@@ -36,22 +34,20 @@ use Rattle.world_rules.proofs.Stepping.{deliveries-are-taken, items-are-handled,
 record IsStepped (w new : World) (s after : SeatState) (x : Stepped) (f : FloodState)
     (frames : List Frame) : Type 0 where
   are : AreMade (parts_of s.controller) (parts_of after.controller) x f frames
-  steps : after.controller.steps ≡ s.controller.steps + 1
-  sent : AreSent frames s.channels after.channels
-  node : after.node ≡ s.node
   world : IsStepOf w new s.node.0 x f
   desk : after.desk ≡ new.desks s.node.0
   count : new.made s.node.0 ≡ w.made s.node.0 + 1
 
-stepped : (t : Network) (w new : World) (s after : SeatState) (x : Stepped) (f : FloodState) (frames : List Frame) →
-    SeatStands t w s → IsStepped w new s after x f frames → SeatStands t new after
-stepped t w new s after x f frames stands is =
+stepped : (t : Network) (w new : World) (s after : SeatState) (x : Stepped) (f : FloodState) {i : CoreInput}
+    (done : HasReacted s after i) → SeatStands t w s → IsStepped w new s after x f done.frames →
+    SeatStands t new after
+stepped t w new s after x f done stands is =
     subst (λ (n : NodeId). SeatStands t new (record {
       node = n;
       controller = after.controller;
       desk = after.desk;
       channels = after.channels;
-    })) (sym is.node) (record {
+    })) (sym done.node) (record {
       place = is.are.made.becomes.place ∙ stands.place;
       stands = record {
         state = is.are.made.becomes.state ∙ is.world.stands.state;
@@ -59,30 +55,30 @@ stepped t w new s after x f frames stands is =
       };
       flood = is.are.flood ∙ is.world.flood;
       hops = is.are.made.becomes.peers ∙ stands.hops;
-      made = is.steps ∙ ap (λ k. k + 1) stands.made ∙ sym is.count;
+      made = done.step.steps ∙ ap (λ k. k + 1) stands.made ∙ sym is.count;
       desk = is.desk;
-      channels = λ d. still-there frames s.channels after.channels is.sent d.0 ∙ stands.channels d;
-      frames = λ d c found. go d c (channel_to s.channels d.0) refl (sym (is.sent d.0) ∙ found);
+      channels = λ d. still-there done.frames s.channels after.channels done.sent d.0 ∙ stands.channels d;
+      frames = λ d c found. go d c (channel_to s.channels d.0) refl (sym (done.sent d.0) ∙ found);
     })
   where
     id : s.controller.node.place.id ≡ s.node
     id = ap (λ (p : LocalNode). p.id) stands.place
 
-    sent : frames ≡ frames_to s.node x.sendings
+    sent : done.frames ≡ frames_to s.node x.sendings
     sent = is.are.made.frames ∙ ap (λ (n : NodeId). frames_to n x.sendings) id
 
     spelled : AllSpelled s.node x.sendings
     spelled = subst (λ (n : NodeId). AllSpelled n x.sendings) id is.are.made.spelled
 
     go : (d : NodeId) (c : ChannelState) (o : Option ChannelState) → channel_to s.channels d.0 ≡ o →
-        option_map (after_frames frames) o ≡ Some c → HasFrames s.node (new.channels s.node.0 d.0) c.frames
+        option_map (after_frames done.frames) o ≡ Some c → HasFrames s.node (new.channels s.node.0 d.0) c.frames
     go d c None there e = absurd (cc (e))
     go d c (Some k) there e =
-        let same : after_frames frames k ≡ c = cc (e) in
+        let same : after_frames done.frames k ≡ c = cc (e) in
         let to : k.to.0 ≡ d.0 = same_number k.to.0 d.0
         (found-passes (λ (y : ChannelState). nat_eq y.to.0 d.0) s.channels k there) in
         subst (λ (y : ChannelState). HasFrames s.node (new.channels s.node.0 d.0) y.frames) same
-        (subst (λ contents. HasFrames s.node contents (after_frames frames k).frames) (sym (is.world.channels d.0))
+        (subst (λ contents. HasFrames s.node contents (after_frames done.frames k).frames) (sym (is.world.channels d.0))
         (subst (λ fs. HasFrames s.node (w.channels s.node.0 d.0 ++ contents d)
         (after_frames fs k).frames) (sym sent)
         (has-sent s.node (w.channels s.node.0 d.0) k d.0 x.sendings to spelled (stands.frames d k there))))
@@ -110,12 +106,9 @@ pub tick-stands : (t : Network) (w : World) (s after : SeatState) → SeatStands
 tick-stands t w s after stands done =
     stepped t w (step t w (world.Tick s.node)) s after
     (after_tick s.controller.node.place s.controller.node.state s.controller.adjacencies s.controller.flood)
-    (flood.ticked s.controller.flood) done.0.frames stands
+    (flood.ticked s.controller.flood) done.0 stands
     (record {
       are = done.0.step.reaction;
-      steps = done.0.step.steps;
-      sent = done.0.sent;
-      node = done.0.node;
       world = subst (λ (p : LocalNode). IsStepOf w (step t w (world.Tick s.node)) s.node.0
           (after_tick p s.controller.node.state s.controller.adjacencies s.controller.flood)
           (flood.ticked s.controller.flood)) (sym stands.place)
@@ -134,12 +127,9 @@ pub handle-stands : (t : Network) (w : World) (s after : SeatState) → SeatStan
 handle-stands t w s after stands done =
     stepped t w (step t w (world.Desk s.node)) s after
     (handled s.controller.node.place (meaning s.controller.node s.controller.adjacencies) done.0) s.controller.flood
-    done.2.frames stands
+    done.2 stands
     (record {
       are = done.2.step.reaction;
-      steps = done.2.step.steps;
-      sent = done.2.sent;
-      node = done.2.node;
       world = subst (λ (p : LocalNode). IsStepOf w (step t w (world.Desk s.node)) s.node.0
           (handled p (meaning s.controller.node s.controller.adjacencies) done.0) s.controller.flood) (sym stands.place)
           (subst (λ (f : FloodState). IsStepOf w (step t w (world.Desk s.node)) s.node.0
@@ -155,38 +145,16 @@ handle-stands t w s after stands done =
 
 -- A frame
 
-pub desk_kept : (t : Network) (w : World) (d u : NodeId) (o : Option Content) (n : ℕ) →
-    (delivered t w d u o).desks n ≡ w.desks n
-desk_kept t w d u None n = refl
-desk_kept t w d u (Some (Message p)) n = go (handed_up w d u p)
-  where
-    go : (ms : List Msg) → (worlds.handled t (taken w d u p) d u ms).desks n ≡ w.desks n
-    go [] = refl
-    go (m ∷ ms) = refl
-desk_kept t w d u (Some (Flood m)) n = refl
-
-pub made_kept : (t : Network) (w : World) (d u : NodeId) (o : Option Content) (n : ℕ) →
-    (delivered t w d u o).made n ≡ w.made n
-made_kept t w d u None n = refl
-made_kept t w d u (Some (Message p)) n = go (handed_up w d u p)
-  where
-    go : (ms : List Msg) → (worlds.handled t (taken w d u p) d u ms).made n ≡ w.made n
-    go [] = refl
-    go (m ∷ ms) = refl
-made_kept t w d u (Some (Flood m)) n = refl
-
 pub frame-stands : (t : Network) (w : World) (s after : SeatState) (u : NodeId) (k : ℕ) (bytes : List ℕ)
     (x : Content) → frame_at w u s.node k ≡ Some x → IsFrame bytes x → SeatStands t w s →
     HasDone s (act.Take u bytes) after → SeatStands t (step t w (world.Deliver s.node u k)) after
 frame-stands t w s after u k bytes x there bears stands done =
+    let kept = kept-delivered t (with_event w s.node.0) s.node u (frame_at w u s.node k) s.node.0 in
     stepped t w (step t w (world.Deliver s.node u k)) s after
     (took_frame s.controller.node.place (meaning s.controller.node s.controller.adjacencies) s.controller.flood u x)
-    (flood_after s.controller.flood u x) done.0.frames stands
+    (flood_after s.controller.flood u x) done.0 stands
     (record {
       are = done.0.step.reaction.0 x bears;
-      steps = done.0.step.steps;
-      sent = done.0.sent;
-      node = done.0.node;
       world = subst (λ (m : LocalNode). IsStepOf w (step t w (world.Deliver s.node u k)) s.node.0
           (took_frame m (meaning s.controller.node s.controller.adjacencies) s.controller.flood u x)
           (flood_after s.controller.flood u x)) (sym stands.place)
@@ -195,20 +163,17 @@ frame-stands t w s after u k bytes x there bears stands done =
           (flood_after f u x)) (sym stands.flood)
           (deliveries-are-taken t w s.node u k x (meaning s.controller.node s.controller.adjacencies) stands.stands
           there));
-      desk = done.1 ∙ stands.desk ∙ sym (desk_kept t (with_event w s.node.0) s.node u (frame_at w u s.node k) s.node.0);
-      count = made_kept t (with_event w s.node.0) s.node u (frame_at w u s.node k) s.node.0 ∙ made_once w s.node;
+      desk = done.1 ∙ stands.desk ∙ sym kept.desk;
+      count = kept.made ∙ made_once w s.node;
     })
 
 pub noise-stands : (t : Network) (w : World) (s after : SeatState) (u : NodeId) (bytes : List ℕ) → SpellsNothing bytes →
     SeatStands t w s → HasDone s (act.Take u bytes) after → SeatStands t (step t w (world.Noise s.node u bytes)) after
 noise-stands t w s after u bytes nothing stands done =
     stepped t w (step t w (world.Noise s.node u bytes)) s after
-    (unmoved (meaning s.controller.node s.controller.adjacencies)) s.controller.flood done.0.frames stands
+    (unmoved (meaning s.controller.node s.controller.adjacencies)) s.controller.flood done.0 stands
     (record {
       are = done.0.step.reaction.1 nothing;
-      steps = done.0.step.steps;
-      sent = done.0.sent;
-      node = done.0.node;
       world = subst (λ (f : FloodState). IsStepOf w (step t w (world.Noise s.node u bytes)) s.node.0
           (unmoved (meaning s.controller.node s.controller.adjacencies)) f) (sym stands.flood)
           (noise-moves-nothing t w s.node u bytes (meaning s.controller.node s.controller.adjacencies) stands.stands);
@@ -218,9 +183,11 @@ noise-stands t w s after u bytes nothing stands done =
 
 -- Events of other nodes
 
-pub still-stands : (t : Network) (w new : World) (s : SeatState) → IsUntouched w new s.node.0 →
-    new.desks s.node.0 ≡ w.desks s.node.0 → new.made s.node.0 ≡ w.made s.node.0 → SeatStands t w s → SeatStands t new s
-still-stands t w new s same desks made stands = record {
+-- a seat of which the event isn't, with the desk that its node has in the world
+desk-stands : (t : Network) (w new : World) (s : SeatState) (desk : List DeskItem) → IsUntouched w new s.node.0 →
+    desk ≡ new.desks s.node.0 → new.made s.node.0 ≡ w.made s.node.0 → SeatStands t w s →
+    SeatStands t new (record s { desk = desk })
+desk-stands t w new s desk same desks made stands = record {
   place = stands.place;
   stands = record {
     state = stands.stands.state ∙ sym same.nodes;
@@ -229,30 +196,23 @@ still-stands t w new s same desks made stands = record {
   flood = stands.flood ∙ sym same.floods;
   hops = stands.hops;
   made = stands.made ∙ sym made;
-  desk = stands.desk ∙ sym desks;
+  desk = desks;
   channels = stands.channels;
   frames = λ d c found. subst (λ contents. HasFrames s.node contents c.frames) (sym (same.channels d.0))
       (stands.frames d c found);
 }
 
+pub still-stands : (t : Network) (w new : World) (s : SeatState) → IsUntouched w new s.node.0 →
+    new.desks s.node.0 ≡ w.desks s.node.0 → new.made s.node.0 ≡ w.made s.node.0 → SeatStands t w s → SeatStands t new s
+still-stands t w new s same desks made stands =
+    desk-stands t w new s s.desk same (stands.desk ∙ sym desks) made stands
+
 -- these items more on the desk, here and in the world
 pub put-stands : (t : Network) (w new : World) (s : SeatState) (more : List DeskItem) → IsUntouched w new s.node.0 →
     new.desks s.node.0 ≡ w.desks s.node.0 ++ more → new.made s.node.0 ≡ w.made s.node.0 → SeatStands t w s →
     SeatStands t new (record s { desk = s.desk ++ more })
-put-stands t w new s more same desks made stands = record {
-  place = stands.place;
-  stands = record {
-    state = stands.stands.state ∙ sym same.nodes;
-    hops = λ d. stands.stands.hops d ∙ sym (ap (λ (x : HopEnd). x.hop) (same.ends d));
-  };
-  flood = stands.flood ∙ sym same.floods;
-  hops = stands.hops;
-  made = stands.made ∙ sym made;
-  desk = ap (λ items. items ++ more) stands.desk ∙ sym desks;
-  channels = stands.channels;
-  frames = λ d c found. subst (λ contents. HasFrames s.node contents c.frames) (sym (same.channels d.0))
-      (stands.frames d c found);
-}
+put-stands t w new s more same desks made stands =
+    desk-stands t w new s (s.desk ++ more) same (ap (λ items. items ++ more) stands.desk ∙ sym desks) made stands
 
 -- A new seat
 

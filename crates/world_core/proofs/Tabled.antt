@@ -47,6 +47,15 @@ rows-are {R} F t w (s ∷ ss) (m ∷ ms) e all =
         ap (λ n. F n s.controller.node.state) (ap (λ (p : LocalNode). p.id) all.0.place ∙ node)
         ∙ ap (F m.id) (all.0.stands.state ∙ ap (λ (n : NodeId). w.nodes n.0) node)
 
+-- the rows of a world's seats are those of its nodes
+pub rows-stand : {R : Type 0} (F : NodeId → NodeState → List R) (t : Network) (w : World) (k : WorldState)
+    (seats : List SeatState) → seats ≡ k.seats → StandsFor t k w →
+    flat_map (λ (s : SeatState). F s.controller.node.place.id s.controller.node.state) seats
+    ≡ flat_map (λ (m : NodeSpec). F m.id (w.nodes m.id.0)) t.nodes
+rows-stand F t w k seats same stands =
+    ap (flat_map (λ (s : SeatState). F s.controller.node.place.id s.controller.node.state)) same
+    ∙ rows-are F t w k.seats t.nodes stands.nodes stands.seats
+
 -- Quiet
 
 all_pass : (p : SeatState → Bool) (seats : List SeatState) → list_all p seats ≡ true →

@@ -35,83 +35,59 @@ use Rattle.world_merge.specs.Merges.{Agrees}
 
 -- Agreeing
 
-pub agrees-self : (n : ℕ) (w : World) → Agrees n w w
-agrees-self n w = record {
-  node = refl;
-  desk = refl;
-  ends = λ d. refl;
-  flood = refl;
-  channels = λ d. refl;
-  made = refl;
-  posted = refl;
-  failed = refl;
+-- Worlds agree of a node where what they have of it is the same: the node, its desk, its ends, its flood, its channels
+-- and its count, and the posts.
+pub agree : (n : ℕ) (w v : World) → w.nodes n ≡ v.nodes n → w.desks n ≡ v.desks n →
+    ((d : ℕ) → w.ends n d ≡ v.ends n d) → w.floods n ≡ v.floods n → ((d : ℕ) → w.channels n d ≡ v.channels n d) →
+    w.made n ≡ v.made n → w.posted ≡ v.posted → w.failed ≡ v.failed → Agrees n w v
+agree n w v node desk ends flood channels made posted failed = record {
+  node = node;
+  desk = desk;
+  ends = ends;
+  flood = flood;
+  channels = channels;
+  made = made;
+  posted = posted;
+  failed = failed;
 }
+
+pub agrees-self : (n : ℕ) (w : World) → Agrees n w w
+agrees-self n w = agree n w w refl refl (λ d. refl) refl (λ d. refl) refl refl refl
 
 pub then-agrees : (n : ℕ) (u v w : World) → Agrees n u v → Agrees n v w → Agrees n u w
-then-agrees n u v w f g = record {
-  node = f.node ∙ g.node;
-  desk = f.desk ∙ g.desk;
-  ends = λ d. f.ends d ∙ g.ends d;
-  flood = f.flood ∙ g.flood;
-  channels = λ d. f.channels d ∙ g.channels d;
-  made = f.made ∙ g.made;
-  posted = f.posted ∙ g.posted;
-  failed = f.failed ∙ g.failed;
-}
+then-agrees n u v w f g =
+    agree n u w (f.node ∙ g.node) (f.desk ∙ g.desk) (λ d. f.ends d ∙ g.ends d) (f.flood ∙ g.flood)
+    (λ d. f.channels d ∙ g.channels d) (f.made ∙ g.made) (f.posted ∙ g.posted) (f.failed ∙ g.failed)
 
 pub agrees-back : (n : ℕ) (w v : World) → Agrees n w v → Agrees n v w
-agrees-back n w v f = record {
-  node = sym f.node;
-  desk = sym f.desk;
-  ends = λ d. sym (f.ends d);
-  flood = sym f.flood;
-  channels = λ d. sym (f.channels d);
-  made = sym f.made;
-  posted = sym f.posted;
-  failed = sym f.failed;
-}
+agrees-back n w v f =
+    agree n v w (sym f.node) (sym f.desk) (λ d. sym (f.ends d)) (sym f.flood) (λ d. sym (f.channels d)) (sym f.made)
+    (sym f.posted) (sym f.failed)
 
 -- The same deed in two worlds that agree
 
 counted : (n k : ℕ) (w v : World) → Agrees n w v → Agrees n (with_event w k) (with_event v k)
-counted n k w v p = record {
-  node = p.node;
-  desk = p.desk;
-  ends = p.ends;
-  flood = p.flood;
-  channels = p.channels;
-  made = λ i. cond (nat_eq n k) (p.made i + 1) (p.made i);
-  posted = p.posted;
-  failed = p.failed;
-}
+counted n k w v p =
+    agree n (with_event w k) (with_event v k) p.node p.desk p.ends p.flood p.channels
+    (λ i. cond (nat_eq n k) (p.made i + 1) (p.made i)) p.posted p.failed
 
 committed : (n k : ℕ) (w v : World) (a b : Answer) → a ≡ b → Agrees n w v → Agrees n (commit w k a) (commit v k b)
-committed n k w v a b e p = record {
-  node = λ i. cond (nat_eq n k) (changed (p.node i) (e i)) (p.node i);
-  desk = p.desk;
-  ends = λ d i. cond (nat_eq n k) (sends_all (sent_to d (e i).sent) (p.ends d i)) (p.ends d i);
-  flood = p.flood;
-  channels = λ d i.
-      cond (nat_eq n k)
-      (with_packets (p.channels d i) (numbered_after (p.ends d i).hop.sent (sent_to d (e i).sent))) (p.channels d i);
-  made = p.made;
-  posted = p.posted;
-  failed = p.failed;
-}
+committed n k w v a b e p =
+    agree n (commit w k a) (commit v k b) (λ i. cond (nat_eq n k) (changed (p.node i) (e i)) (p.node i)) p.desk
+    (λ d i. cond (nat_eq n k) (sends_all (sent_to d (e i).sent) (p.ends d i)) (p.ends d i)) p.flood
+    (λ d i.
+    cond (nat_eq n k)
+    (with_packets (p.channels d i) (numbered_after (p.ends d i).hop.sent (sent_to d (e i).sent))) (p.channels d i))
+    p.made p.posted p.failed
 
 took_packet : (n u : NodeId) (p : Packet) (w v : World) → Agrees n.0 w v → Agrees n.0 (taken w n u p) (taken v n u p)
-took_packet n u p w v f = record {
-  node = f.node;
-  desk = f.desk;
-  ends = λ d i. cond (nat_eq n.0 n.0 && nat_eq d u.0) (takes (Some p) (f.ends d i)) (f.ends d i);
-  flood = f.flood;
-  channels = λ d i.
-      cond (nat_eq n.0 n.0 && nat_eq d u.0)
-      (with_packets (f.channels d i) (answers_to (heard_as (f.ends d i).hop p) p)) (f.channels d i);
-  made = f.made;
-  posted = f.posted;
-  failed = f.failed;
-}
+took_packet n u p w v f =
+    agree n.0 (taken w n u p) (taken v n u p) f.node f.desk
+    (λ d i. cond (nat_eq n.0 n.0 && nat_eq d u.0) (takes (Some p) (f.ends d i)) (f.ends d i)) f.flood
+    (λ d i.
+    cond (nat_eq n.0 n.0 && nat_eq d u.0)
+    (with_packets (f.channels d i) (answers_to (heard_as (f.ends d i).hop p) p)) (f.channels d i))
+    f.made f.posted f.failed
 
 same_handled : (t : Network) (n u : NodeId) (ms : List Msg) (w v : World) → Agrees n.0 w v →
     Agrees n.0 (handled t w n u ms) (handled t v n u ms)
@@ -127,43 +103,28 @@ same_delivered t n u (Message p) w v f =
     subst (λ ms. Agrees n.0 (handled t (taken w n u p) n u (handed_up w n u p)) (handled t (taken v n u p) n u ms))
     (λ i. handed_up_of (heard_as (f.ends u.0 i).hop p) p)
     (same_handled t n u (handed_up w n u p) (taken w n u p) (taken v n u p) (took_packet n u p w v f))
-same_delivered t n u (Flood m) w v f = record {
-  node = λ i. cond (nat_eq n.0 n.0) (with_learnt (local_node t n) (f.node i) (learnt_of (f.flood i) m)) (f.node i);
-  desk = f.desk;
-  ends = f.ends;
-  flood = λ i. cond (nat_eq n.0 n.0) (flood.received (f.flood i) u m) (f.flood i);
-  channels = λ d i.
-      cond (nat_eq n.0 n.0) (with_floods (f.channels d i) (sent_to_node d (sends_after (f.flood i) u m)))
-      (f.channels d i);
-  made = f.made;
-  posted = f.posted;
-  failed = f.failed;
-}
+same_delivered t n u (Flood m) w v f =
+    agree n.0 (delivered t w n u (Some (Flood m))) (delivered t v n u (Some (Flood m)))
+    (λ i. cond (nat_eq n.0 n.0) (with_learnt (local_node t n) (f.node i) (learnt_of (f.flood i) m)) (f.node i))
+    f.desk f.ends (λ i. cond (nat_eq n.0 n.0) (flood.received (f.flood i) u m) (f.flood i))
+    (λ d i.
+    cond (nat_eq n.0 n.0) (with_floods (f.channels d i) (sent_to_node d (sends_after (f.flood i) u m)))
+    (f.channels d i)) f.made f.posted f.failed
 
 hops : (n k : ℕ) (w v : World) → Agrees n w v → Agrees n (hops_ticked w k) (hops_ticked v k)
-hops n k w v f = record {
-  node = f.node;
-  desk = f.desk;
-  ends = λ d i. cond (nat_eq n k) (ticks (f.ends d i)) (f.ends d i);
-  flood = f.flood;
-  channels = λ d i. cond (nat_eq n k) (with_packets (f.channels d i) (resent (f.ends d i).hop)) (f.channels d i);
-  made = f.made;
-  posted = f.posted;
-  failed = f.failed;
-}
+hops n k w v f =
+    agree n (hops_ticked w k) (hops_ticked v k) f.node f.desk
+    (λ d i. cond (nat_eq n k) (ticks (f.ends d i)) (f.ends d i)) f.flood
+    (λ d i. cond (nat_eq n k) (with_packets (f.channels d i) (resent (f.ends d i).hop)) (f.channels d i)) f.made
+    f.posted f.failed
 
 floods : (n k : ℕ) (w v : World) → Agrees n w v → Agrees n (floods_ticked w k) (floods_ticked v k)
-floods n k w v f = record {
-  node = f.node;
-  desk = f.desk;
-  ends = f.ends;
-  flood = λ i. cond (nat_eq n k) (flood.ticked (f.flood i)) (f.flood i);
-  channels = λ d i.
-      cond (nat_eq n k) (with_floods (f.channels d i) (sent_to_node d (sent_at_tick (f.flood i)))) (f.channels d i);
-  made = f.made;
-  posted = f.posted;
-  failed = f.failed;
-}
+floods n k w v f =
+    agree n (floods_ticked w k) (floods_ticked v k) f.node f.desk f.ends
+    (λ i. cond (nat_eq n k) (flood.ticked (f.flood i)) (f.flood i))
+    (λ d i.
+    cond (nat_eq n k) (with_floods (f.channels d i) (sent_to_node d (sent_at_tick (f.flood i)))) (f.channels d i))
+    f.made f.posted f.failed
 
 same_ticked : (t : Network) (n : NodeId) (w v : World) → Agrees n.0 w v →
     Agrees n.0 (step t w (Tick n)) (step t v (Tick n))
@@ -175,16 +136,9 @@ same_ticked t n w v f =
     (hops n.0 n.0 (with_event w n.0) (with_event v n.0) (counted n.0 n.0 w v f)))
 
 popped : (n k : ℕ) (w v : World) → Agrees n w v → Agrees n (without_item w k) (without_item v k)
-popped n k w v f = record {
-  node = f.node;
-  desk = λ i. cond (nat_eq n k) (drop 1 (f.desk i)) (f.desk i);
-  ends = f.ends;
-  flood = f.flood;
-  channels = f.channels;
-  made = f.made;
-  posted = f.posted;
-  failed = f.failed;
-}
+popped n k w v f =
+    agree n (without_item w k) (without_item v k) f.node (λ i. cond (nat_eq n k) (drop 1 (f.desk i)) (f.desk i))
+    f.ends f.flood f.channels f.made f.posted f.failed
 
 same_desk : (t : Network) (n : NodeId) (w v : World) → Agrees n.0 w v →
     Agrees n.0 (step t w (Desk n)) (step t v (Desk n))
@@ -196,41 +150,20 @@ same_desk t n w v f =
     (popped n.0 n.0 (with_event w n.0) (with_event v n.0) (counted n.0 n.0 w v f))
 
 ordered : (n k : ℕ) (x : DeskItem) (w v : World) → Agrees n w v → Agrees n (with_item w k x) (with_item v k x)
-ordered n k x w v f = record {
-  node = f.node;
-  desk = λ i. cond (nat_eq n k) (f.desk i ++ x ∷ []) (f.desk i);
-  ends = f.ends;
-  flood = f.flood;
-  channels = f.channels;
-  made = f.made;
-  posted = f.posted;
-  failed = f.failed;
-}
+ordered n k x w v f =
+    agree n (with_item w k x) (with_item v k x) f.node (λ i. cond (nat_eq n k) (f.desk i ++ x ∷ []) (f.desk i))
+    f.ends f.flood f.channels f.made f.posted f.failed
 
 told : (t : Network) (n : ℕ) (after before : List Group) (w v : World) → after ≡ before → Agrees n w v →
     Agrees n (with_failed t w after) (with_failed t v before)
-told t n after before w v e f = record {
-  node = f.node;
-  desk = λ i. f.desk i ++ all_news t (f.failed i) (e i) n;
-  ends = f.ends;
-  flood = f.flood;
-  channels = f.channels;
-  made = f.made;
-  posted = f.posted;
-  failed = e;
-}
+told t n after before w v e f =
+    agree n (with_failed t w after) (with_failed t v before) f.node
+    (λ i. f.desk i ++ all_news t (f.failed i) (e i) n) f.ends f.flood f.channels f.made f.posted e
 
 numbered : (n : ℕ) (c : CallNo) (w v : World) → Agrees n w v → Agrees n (with_posted w c) (with_posted v c)
-numbered n c w v f = record {
-  node = f.node;
-  desk = f.desk;
-  ends = f.ends;
-  flood = f.flood;
-  channels = f.channels;
-  made = f.made;
-  posted = λ i. f.posted i ++ c ∷ [];
-  failed = f.failed;
-}
+numbered n c w v f =
+    agree n (with_posted w c) (with_posted v c) f.node f.desk f.ends f.flood f.channels f.made
+    (λ i. f.posted i ++ c ∷ []) f.failed
 
 -- a post
 pub same-posted : (t : Network) (n : ℕ) (c : Command) (w v : World) → Agrees n w v →

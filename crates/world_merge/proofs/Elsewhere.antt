@@ -1,39 +1,18 @@
 -- What one node does leaves the other nodes' parts of a world.
-use Rattle.std.proofs.Common.{◌≡◌, ℕ, false, cond, nat_eq, List, [], ◌∷◌, drop, refl, ap, ◌∙◌}
-use Rattle.std.specs.Prelude.{◌+◌, Option, Some, None}
+use Rattle.std.proofs.Common.{◌≡◌, ℕ, false, cond, nat_eq, List, drop, refl, ap, ◌∙◌}
+use Rattle.std.specs.Prelude.{◌+◌}
 use Rattle.ason_base.specs.declared.ids.NodeId.{NodeId}
 use Rattle.ason_base.specs.declared.commands.Event.{Event}
 use Rattle.ason_base.specs.declared.commands.Event.TheVariants.{Deliver, Noise, Tick, Desk}
-use Rattle.ason_base.specs.declared.messages.Msg.{Msg}
 use Rattle.ason_base.specs.Network.{Network}
-use Rattle.channel_frames.specs.declared.frames.Content.{Content}
-use Rattle.channel_frames.specs.declared.frames.Content.TheVariants.{Message, Flood}
-use Rattle.world_rules.specs.Worlds.{World, delivered, frame_at, handed_up, handled, taken, with_event}
+use Rattle.world_rules.specs.Worlds.{World, frame_at, with_event}
 use Rattle.world_rules.specs.WorldRuns.{is_event_of, step}
 use Rattle.world_rules.specs.Standing.{IsUntouched}
+use Rattle.world_rules.proofs.Delivered.{IsKept, kept-delivered}
 use Rattle.world_rules.proofs.Sent.{turned}
 use Rattle.world_rules.proofs.Untouched.{others-are-untouched}
 use Rattle.world_merge.specs.Merges.{Agrees}
-
--- The parts that `IsUntouched` of `world_core` doesn't speak of stay too.
-pub record IsKept (w v : World) (m : ℕ) : Type 0 where
-  pub desk : v.desks m ≡ w.desks m
-  pub made : v.made m ≡ w.made m
-  pub posted : v.posted ≡ w.posted
-  pub failed : v.failed ≡ w.failed
-
-kept_handled : (t : Network) (w : World) (d u : NodeId) (ms : List Msg) (m : ℕ) → IsKept w (handled t w d u ms) m
-kept_handled t w d u [] m = record { desk = refl; made = refl; posted = refl; failed = refl }
-kept_handled t w d u (x ∷ xs) m = record { desk = refl; made = refl; posted = refl; failed = refl }
-
--- a frame that is delivered leaves all desks, counts and posts, those of its taker too
-pub kept-delivered : (t : Network) (w : World) (d u : NodeId) (o : Option Content) (m : ℕ) →
-    IsKept w (delivered t w d u o) m
-kept-delivered t w d u None m = record { desk = refl; made = refl; posted = refl; failed = refl }
-kept-delivered t w d u (Some (Message p)) m =
-    let f = kept_handled t (taken w d u p) d u (handed_up w d u p) m in
-    record { desk = f.desk; made = f.made; posted = f.posted; failed = f.failed }
-kept-delivered t w d u (Some (Flood f)) m = record { desk = refl; made = refl; posted = refl; failed = refl }
+use Rattle.world_merge.proofs.Agreeing.{agree}
 
 counted_elsewhere : (w : World) (k m : ℕ) → nat_eq k m ≡ false → (with_event w k).made m ≡ w.made m
 counted_elsewhere w k m e = ap (λ b. cond b (w.made m + 1) (w.made m)) (turned k m false e)
@@ -73,13 +52,4 @@ pub others-agree : (t : Network) (w : World) (e : NodeEvent) (m : ℕ) → is_ev
 others-agree t w e m other =
     let f : IsUntouched w (step t w (event e)) m = others-are-untouched t w (event e) m other in
     let g = kept_elsewhere t w e m other in
-    record {
-      node = f.nodes;
-      desk = g.desk;
-      ends = f.ends;
-      flood = f.floods;
-      channels = f.channels;
-      made = g.made;
-      posted = g.posted;
-      failed = g.failed;
-    }
+    agree m (step t w (event e)) w f.nodes g.desk f.ends f.floods f.channels g.made g.posted g.failed

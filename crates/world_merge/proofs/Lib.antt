@@ -3,6 +3,7 @@ pub mod Before
 pub mod Elsewhere
 pub mod Example
 pub mod Growing
+pub mod Lines
 pub mod Merging
 pub mod NextLine
 pub mod Ordering

@@ -8,7 +8,7 @@ use Rattle.world_rules.specs.WorldRuns.{IsRun, after, step}
 use Rattle.world_merge.specs.Deeds.{Deed, alone}
 use Rattle.world_merge.specs.Histories.{AreHistories, Histories, at}
 use Rattle.world_merge.specs.Logs.{line_of}
-use Rattle.world_merge.specs.Merges.{Agrees, Ascends, EveryMergeIsARun, assembled, concerns, events_of}
+use Rattle.world_merge.specs.Merges.{Agrees, Ascends, EveryMergeIsARun, concerns, events_of}
 use Rattle.world_merge.proofs.Agreeing.{agrees-self}
 use Rattle.world_merge.proofs.Splitting.{Fits, left, moved, next}
 use Rattle.world_merge.proofs.NextLine.{one-step}
@@ -36,10 +36,22 @@ runs t hists are (e ∷ m) s up w before ahead f =
     (λ n. left (concerns n e) (ahead n)) (next t hists w (step t w e.event) before ahead e m f one.agree) in
     record { run = (one.enabled, rest.run); parts = rest.parts }
 
+-- the world whose parts are those of these worlds, each of its node
+abbrev pub joined : (ℕ → World) → World
+joined ws = record {
+  nodes = λ n. (ws n).nodes n;
+  desks = λ n. (ws n).desks n;
+  ends = λ u d. (ws u).ends u d;
+  floods = λ n. (ws n).floods n;
+  channels = λ u d. (ws u).channels u d;
+  posted = (ws 0).posted;
+  failed = (ws 0).failed;
+  made = λ n. (ws n).made n;
+}
+
 -- the nodes' parts make a world
-whole : (t : Network) (hists : Histories) (w : World) → ((n : ℕ) → Agrees n w (alone t (at n) (hists n))) →
-    w ≡ assembled t hists
-whole t hists w parts = λ i. record {
+pub same-joined : (ws vs : ℕ → World) → ((n : ℕ) → Agrees n (ws n) (vs n)) → joined ws ≡ joined vs
+same-joined ws vs parts = λ i. record {
   nodes = λ n. (parts n).node i;
   desks = λ n. (parts n).desk i;
   ends = λ u d. (parts u).ends d i;
@@ -54,7 +66,7 @@ pub every-merge-is-a-run : EveryMergeIsARun
 every-merge-is-a-run t hists m are is = record {
   run = r.run;
   parts = r.parts;
-  leads = whole t hists (after t (start t) (events_of m)) r.parts;
+  leads = same-joined (λ n. after t (start t) (events_of m)) (λ n. alone t (at n) (hists n)) r.parts;
 }
   where
     fits : Fits t hists (start t) (λ n. []) hists m

@@ -12,7 +12,7 @@ use Rattle.world_rules.specs.Worlds.{World, start, with_event}
 use Rattle.world_merge.specs.Deeds.{Deed, Handled, Heard, Posted, Ticked, Took, alone, alone_from, done}
 use Rattle.world_merge.specs.Logs.{is_posted}
 use Rattle.world_merge.specs.Posts.{HasSamePosts, PostsTellTheRest}
-use Rattle.world_merge.proofs.Elsewhere.{IsKept, kept-delivered}
+use Rattle.world_rules.proofs.Delivered.{IsKept, kept-delivered}
 
 same_post : (t : Network) (w v : World) (c : Command) → HasSamePosts w v →
     HasSamePosts (step t w (Post c)) (step t v (Post c))

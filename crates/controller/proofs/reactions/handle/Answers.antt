@@ -25,11 +25,7 @@ returns-clause-kept c = λ k kept.
     (on_item c.args.node.now.place c.args.node.now.state c.args.item.now) [] c.give_item.new.frames.items kept
     (λ d. refl) kept.again kept.waiting
     (item-sent c.args.node.now.place c.args.node.now.state c.args.item.now c.fits.ensures.place c.fits.ensures.state)
-    (handled-made c.args.node.now c.give_item.new.node c.args.adjacencies.now c.give_item.new.adjacencies
-    c.commit_all.new.adjacencies c.args.item.now c.args.item.now
-    c.new-frames.result.items c.give_item.new.frames.items refl c.in_ok-give_item.ensures.node
-    c.in_ok-give_item.ensures.hops c.in_ok-give_item.ensures.rest
-    c.commit_all.ensures c.new-frames.ensures.items c.in_ok-give_item.ensures.frames c.in_ok-give_item.ensures.spelled)
+    (returns-clause-made c)
 
 pub returns-clause-near : goal.returns-clause-near
 returns-clause-near c =
@@ -37,11 +33,7 @@ returns-clause-near c =
     (hop_at c.args.adjacencies.now)
     (on_item c.args.node.now.place c.args.node.now.state c.args.item.now) [] c.give_item.new.frames.items tt
     (item-sent c.args.node.now.place c.args.node.now.state c.args.item.now c.fits.ensures.place c.fits.ensures.state)
-    (handled-made c.args.node.now c.give_item.new.node c.args.adjacencies.now c.give_item.new.adjacencies
-    c.commit_all.new.adjacencies c.args.item.now c.args.item.now
-    c.new-frames.result.items c.give_item.new.frames.items refl c.in_ok-give_item.ensures.node
-    c.in_ok-give_item.ensures.hops c.in_ok-give_item.ensures.rest
-    c.commit_all.ensures c.new-frames.ensures.items c.in_ok-give_item.ensures.frames c.in_ok-give_item.ensures.spelled)
+    (returns-clause-made c)
 
 pub returns-clause-few : goal.returns-clause-few
 returns-clause-few c =

@@ -5,8 +5,9 @@ use Rattle.control_channels.specs.Adjacencies.{prepared_at, taken_by}
 use Rattle.control_channels.specs.Controllers.{acks_to, handed_body}
 use Rattle.control_channels.specs.Frames.{AllSpelled, frames_to}
 use Rattle.control_channels.proofs.Resting.{same-hop, same-reach}
-use Rattle.controller.proofs.Taking.{took-becomes, took-frames, took-spelled}
+use Rattle.controller.proofs.Taking.{IsTaken, took-becomes, took-frames, took-spelled}
 use Rattle.controller.proofs.reactions.take_packet.Goals as goal
+use Rattle.controller.proofs.reactions.take_packet.Goals.{After-commit_all}
 
 pub take-requires-clause-reached : goal.take-requires-clause-reached
 take-requires-clause-reached c =
@@ -19,31 +20,36 @@ take-requires-clause-next c = λ e.
     (sym (same-hop c.hand_up.new.adjacencies c.args.adjacencies.now c.in_ok-hand_up.ensures.rest c.args.from.0))
     (c.hears-heard.ensures.next e)
 
+-- the parts of the packet's taking together
+taken : (c : After-commit_all) → IsTaken c.args.node.now c.args.adjacencies.now c.hand_up.new.adjacencies
+    c.take.new.adjacencies c.commit_all.new.adjacencies c.args.from c.hears-heard.result c.args.packet
+    c.handed_up-body.result
+taken c =
+    let mid = c.hand_up.new.adjacencies in
+    record {
+      heard = c.hears-heard.ensures.heard;
+      handed =
+          c.handed_up-body.ensures.handed
+          ∙ ap (λ parts. handed_body c.hears-heard.result parts.1) c.into_parts-acks.ensures;
+      are = c.in_ok-hand_up.ensures.hops;
+      rest = c.in_ok-hand_up.ensures.rest;
+      takes = λ d. c.take.ensures.hops d
+          ∙ ap (λ acks. cond (nat_eq d c.args.from.0) (taken_by c.hears-heard.result acks (prepared_at mid d))
+          (prepared_at mid d)) (c.items.ensures ∙ ap (λ parts. parts.0) c.into_parts-acks.ensures);
+      peers = c.take.ensures.peers;
+      is = c.commit_all.ensures;
+    }
+
 pub returns-clause-becomes : goal.returns-clause-becomes
 returns-clause-becomes c =
-    let mid = c.hand_up.new.adjacencies in
-    took-becomes c.args.node.now c.hand_up.new.node c.args.adjacencies.now mid c.take.new.adjacencies _ c.args.from
-    c.hears-heard.result c.args.packet c.handed_up-body.result
-    c.hears-heard.ensures.heard
-    (c.handed_up-body.ensures.handed ∙ ap (λ parts. handed_body c.hears-heard.result parts.1) c.into_parts-acks.ensures)
-    c.in_ok-hand_up.ensures.hops c.in_ok-hand_up.ensures.rest
-    (λ d. c.take.ensures.hops d ∙ ap (λ acks. cond (nat_eq d c.args.from.0)
-    (taken_by c.hears-heard.result acks (prepared_at mid d)) (prepared_at mid d))
-    (c.items.ensures ∙ ap (λ parts. parts.0) c.into_parts-acks.ensures))
-    c.take.ensures.peers c.commit_all.ensures c.in_ok-hand_up.ensures.place c.in_ok-hand_up.ensures.node
+    took-becomes c.args.node.now c.hand_up.new.node _ _ _ _ _ _ _ _
+    (taken (goal.at.returns-clause-becomes c).After-commit_all) c.in_ok-hand_up.ensures.place
+    c.in_ok-hand_up.ensures.node
 
 pub returns-clause-frames : goal.returns-clause-frames
 returns-clause-frames c =
-    let mid = c.hand_up.new.adjacencies in
-    took-frames c.args.node.now c.hand_up.new.node c.args.adjacencies.now mid c.take.new.adjacencies _ c.args.from
-    c.hears-heard.result c.args.packet c.handed_up-body.result
-    c.hears-heard.ensures.heard
-    (c.handed_up-body.ensures.handed ∙ ap (λ parts. handed_body c.hears-heard.result parts.1) c.into_parts-acks.ensures)
-    c.in_ok-hand_up.ensures.hops c.in_ok-hand_up.ensures.rest
-    (λ d. c.take.ensures.hops d ∙ ap (λ acks. cond (nat_eq d c.args.from.0)
-    (taken_by c.hears-heard.result acks (prepared_at mid d)) (prepared_at mid d))
-    (c.items.ensures ∙ ap (λ parts. parts.0) c.into_parts-acks.ensures))
-    c.take.ensures.peers c.commit_all.ensures
+    took-frames c.args.node.now c.hand_up.new.node _ _ _ _ _ _ _ _
+    (taken (goal.at.returns-clause-frames c).After-commit_all)
     c.args.frames.now.items c.acknowledge.new.frames.items c.hand_up.new.frames.items
     (c.in_ok-acknowledge.ensures.frames ∙ ap (λ (n : NodeId). c.args.frames.now.items ++
     frames_to n (acks_to c.args.from c.hears-heard.result c.args.packet)) c.id.ensures)
@@ -51,16 +57,8 @@ returns-clause-frames c =
 
 pub returns-clause-spelled : goal.returns-clause-spelled
 returns-clause-spelled c =
-    let mid = c.hand_up.new.adjacencies in
-    took-spelled c.args.node.now c.hand_up.new.node c.args.adjacencies.now mid c.take.new.adjacencies _ c.args.from
-    c.hears-heard.result c.args.packet c.handed_up-body.result
-    c.hears-heard.ensures.heard
-    (c.handed_up-body.ensures.handed ∙ ap (λ parts. handed_body c.hears-heard.result parts.1) c.into_parts-acks.ensures)
-    c.in_ok-hand_up.ensures.hops c.in_ok-hand_up.ensures.rest
-    (λ d. c.take.ensures.hops d ∙ ap (λ acks. cond (nat_eq d c.args.from.0)
-    (taken_by c.hears-heard.result acks (prepared_at mid d)) (prepared_at mid d))
-    (c.items.ensures ∙ ap (λ parts. parts.0) c.into_parts-acks.ensures))
-    c.take.ensures.peers c.commit_all.ensures
+    took-spelled c.args.node.now c.hand_up.new.node _ _ _ _ _ _ _ _
+    (taken (goal.at.returns-clause-spelled c).After-commit_all)
     (subst (λ (n : NodeId). AllSpelled n (acks_to c.args.from c.hears-heard.result c.args.packet)) c.id.ensures
     c.in_ok-acknowledge.ensures.spelled)
     c.in_ok-hand_up.ensures.spelled

@@ -39,13 +39,7 @@ returns-clause-kept c = λ k kept.
     (λ d. older-again (hop_at c.args.adjacencies.now d).unacked (kept.again d))
     (λ d. older-waits (hop_at c.args.adjacencies.now d).unacked (hop_at c.args.adjacencies.now d).sent
     (kept.waiting d)) (tick-sent c.args.node.now.place c.args.node.now.state c.fits.ensures.state c.fits.ensures.few)
-    (ticked-made c.args.node.now c.give.new.node c.id-me.result c.args.adjacencies.now c.give.new.adjacencies
-    c.age_all.new.adjacencies c.commit_all.new.adjacencies c.args.flood.now
-    c.new-frames.result.items c.frame_due.new.frames.items c.frame_floods_due.new.frames.items c.give.new.frames.items
-    c.in_ok-give.ensures.node c.in_ok-give.ensures.hops c.in_ok-give.ensures.rest
-    c.age_all.ensures c.commit_all.ensures c.new-frames.ensures.items c.id-me.ensures c.in_ok-frame_due.ensures.frames
-    c.in_ok-frame_floods_due.ensures.frames c.in_ok-give.ensures.frames
-    c.in_ok-frame_due.ensures.spelled c.in_ok-frame_floods_due.ensures.spelled c.in_ok-give.ensures.spelled)
+    (returns-clause-made c)
 
 pub returns-clause-fits : goal.returns-clause-fits
 returns-clause-fits c =
@@ -54,8 +48,7 @@ returns-clause-fits c =
 
 pub returns-clause-near : goal.returns-clause-near
 returns-clause-near c =
-    made-to_neighbours c.args.node.now c.give.new.node c.args.adjacencies.now c.commit_all.new.adjacencies
-    (λ d. ticked (hop_at c.args.adjacencies.now d))
+    made-to_neighbours _ _ _ c.commit_all.new.adjacencies (λ d. ticked (hop_at c.args.adjacencies.now d))
     (on_tick c.args.node.now.place c.args.node.now.state)
     (flat_map again_to c.args.adjacencies.now ++ floods_to (sent_at_tick c.args.flood.now)) c.give.new.frames.items
     (each-append (λ (s : Sending). is_neighbour c.args.node.now.place s.to ≡ true)
@@ -63,27 +56,14 @@ returns-clause-near c =
     (again-near c.args.node.now.place c.args.adjacencies.now c.requires.ready.near)
     (floods-near c.args.node.now.place c.args.flood.now c.requires.fits.neighbours))
     (tick-sent c.args.node.now.place c.args.node.now.state c.fits.ensures.state c.fits.ensures.few)
-    (ticked-made c.args.node.now c.give.new.node c.id-me.result c.args.adjacencies.now c.give.new.adjacencies
-    c.age_all.new.adjacencies c.commit_all.new.adjacencies c.args.flood.now
-    c.new-frames.result.items c.frame_due.new.frames.items c.frame_floods_due.new.frames.items c.give.new.frames.items
-    c.in_ok-give.ensures.node c.in_ok-give.ensures.hops c.in_ok-give.ensures.rest
-    c.age_all.ensures c.commit_all.ensures c.new-frames.ensures.items c.id-me.ensures c.in_ok-frame_due.ensures.frames
-    c.in_ok-frame_floods_due.ensures.frames c.in_ok-give.ensures.frames
-    c.in_ok-frame_due.ensures.spelled c.in_ok-frame_floods_due.ensures.spelled c.in_ok-give.ensures.spelled)
+    (returns-clause-made c)
 
 pub returns-clause-few : goal.returns-clause-few
 returns-clause-few c =
-    made-few c.args.node.now c.give.new.node c.args.adjacencies.now c.commit_all.new.adjacencies
-    (λ d. ticked (hop_at c.args.adjacencies.now d))
+    made-few _ _ _ c.commit_all.new.adjacencies (λ d. ticked (hop_at c.args.adjacencies.now d))
     (on_tick c.args.node.now.place c.args.node.now.state)
     (flat_map again_to c.args.adjacencies.now ++ floods_to (sent_at_tick c.args.flood.now)) c.give.new.frames.items
     (first-few c.args.node.now.place c.args.adjacencies.now c.args.flood.now c.requires.ready.waiting
     c.requires.ready.narrow c.requires.fits.neighbours c.counts.ensures)
     (tick-sent c.args.node.now.place c.args.node.now.state c.fits.ensures.state c.fits.ensures.few)
-    (ticked-made c.args.node.now c.give.new.node c.id-me.result c.args.adjacencies.now c.give.new.adjacencies
-    c.age_all.new.adjacencies c.commit_all.new.adjacencies c.args.flood.now
-    c.new-frames.result.items c.frame_due.new.frames.items c.frame_floods_due.new.frames.items c.give.new.frames.items
-    c.in_ok-give.ensures.node c.in_ok-give.ensures.hops c.in_ok-give.ensures.rest
-    c.age_all.ensures c.commit_all.ensures c.new-frames.ensures.items c.id-me.ensures c.in_ok-frame_due.ensures.frames
-    c.in_ok-frame_floods_due.ensures.frames c.in_ok-give.ensures.frames
-    c.in_ok-frame_due.ensures.spelled c.in_ok-frame_floods_due.ensures.spelled c.in_ok-give.ensures.spelled)
+    (returns-clause-made c)

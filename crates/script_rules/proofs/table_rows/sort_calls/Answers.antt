@@ -1,8 +1,5 @@
 use Rattle.std.proofs.Common.{rules}
 use Rattle.std.proofs.lemmas.List.Sorted.{answers_always}
-use Rattle.std.specs.List.Sorted.{IsSortedBy}
-use Rattle.ason_base.specs.declared.calls.CallRow.{CallRow}
-use Rattle.script_rules.specs.Tables.{call_before}
 use Rattle.script_rules.proofs.LegOrder.{calls_in_order}
 use Rattle.script_rules.proofs.table_rows.sort_calls.Goals as goal
 
@@ -10,6 +7,4 @@ pub returns-clause-sorted : goal.returns-clause-sorted
 returns-clause-sorted c =
     let by_key = c.in_ok-sort_by_key.ensures.sorted (λ r. (r.call, r.ingress)) (answers_always _ _ _
     (λ f a r q k. search rules)) in
-    let sorted : IsSortedBy {X = CallRow} call_before c.sort_by_key.new.self.items =
-    calls_in_order c.sort_by_key.new.self.items by_key in
-    search rules
+    let sorted = calls_in_order c.sort_by_key.new.self.items by_key in search rules

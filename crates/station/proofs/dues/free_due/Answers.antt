@@ -1,12 +1,10 @@
-use Rattle.std.proofs.Common.{sym, ap, ◌∙◌, subst}
+use Rattle.std.proofs.Common.{sym, ap, ◌∙◌}
 use Rattle.std.specs.Prelude.{Err, Ok}
-use Rattle.std.proofs.lemmas.Result.{err_from_is_err_and}
 use Rattle.station_doings.specs.Phases.{due_phase}
 use Rattle.station.specs.Dues.{is_first_due}
 use Rattle.station.specs.Fits.{state_of}
-use Rattle.station.specs.Leads.{Leads}
 use Rattle.station.proofs.Freeing.{due-ends}
-use Rattle.station.proofs.Stepping.{sending-none, sending-then}
+use Rattle.station.proofs.Stepping.{passed-leads, sending-none, sending-then}
 use Rattle.station.proofs.dues.free_due.Goals as goal
 
 pub dues-init : goal.dues-init
@@ -35,8 +33,7 @@ pub returns-in_err-free_first-clause-on : goal.returns-in_err-free_first-clause-
 returns-in_err-free_first-clause-on g c =
     let s = state_of c.args.parts.now in
     let m = state_of c.free_first.new.parts in
-    let p = err_from_is_err_and c.from_residual.result c.from_residual.ensures.1 in
-    subst (λ r. Leads r due_phase s m) (sym (p.1 ∙ ap Err p.2))
+    passed-leads c.from_residual.result _ due_phase s m c.from_residual.ensures.1
     (c.dues.invariant.on (Err _) m c.in_err-free_first.ensures.on)
 
 pub returns-in_err-free_first-clause-sends : goal.returns-in_err-free_first-clause-sends

@@ -1,4 +1,4 @@
-use Rattle.std.proofs.Common.{◌≡◌, inl, get_or, refl, sym, ap, ◌∙◌, subst}
+use Rattle.std.proofs.Common.{◌≡◌, ◌∷◌, inl, get_or, refl, sym, ap, ◌∙◌, subst}
 use Rattle.std.specs.List.{AllByRecursion}
 use Rattle.station_doings.specs.declared.held.HeldParcel.{HeldParcel}
 use Rattle.station.specs.Dues.{is_first_due}
@@ -7,7 +7,9 @@ use Rattle.station.specs.Fits.{HeldKeeps, state_of}
 use Rattle.station.proofs.Ageing.{held-parts}
 use Rattle.station.proofs.Freeing.{due-full, due-given, first-due, given-fewer, removed, some-due}
 use Rattle.station.proofs.Stepping.{given-sends, sending-none}
+use Rattle.station.proofs.dues.free_first.Given as given
 use Rattle.station.proofs.dues.free_first.Goals as goal
+use Rattle.station.proofs.dues.free_first.Goals.{After-remove-parcel}
 
 pub returns-then-not-is_able_for-clause-on : goal.returns-then-not-is_able_for-clause-on
 returns-then-not-is_able_for-clause-on g c =
@@ -22,31 +24,33 @@ returns-then-not-is_able_for-clause-on g c =
 pub returns-then-not-is_able_for-clause-sends : goal.returns-then-not-is_able_for-clause-sends
 returns-then-not-is_able_for-clause-sends g c = sending-none (state_of c.args.parts.now)
 
+-- the first parcel was taken off the others
+first-taken : (g : given.Over) (c : After-remove-parcel g) →
+    c.args.parts.now.held.items ≡ c.remove-parcel.result ∷ c.remove-parcel.new.self.items
+first-taken g c =
+    removed c.args.parts.now.held.items c.remove-parcel.new.self.items c.remove-parcel.result
+    (some-due c.args.parts.now.held.items c.requires.due) c.remove-parcel.ensures.value c.remove-parcel.ensures.items
+
+-- and what is known of those that are held is known of it
+first-keeps : (g : given.Over) (c : After-remove-parcel g) →
+    HeldKeeps c.args.parts.now.controller.node.place c.args.parts.now.controller.steps c.remove-parcel.result
+first-keeps g c =
+    (subst (AllByRecursion (HeldKeeps c.args.parts.now.controller.node.place c.args.parts.now.controller.steps))
+    (first-taken g c) c.requires.fit.station.held).0
+
 pub enter_frame-requires-clause-fit : goal.enter_frame-requires-clause-fit
 enter_frame-requires-clause-fit g c =
     λ κs le.
     held-parts c.args.parts.now _ c.remove-parcel.result c.remove-parcel.new.self.items
-    (removed c.args.parts.now.held.items c.remove-parcel.new.self.items c.remove-parcel.result
-    (some-due c.args.parts.now.held.items c.requires.due) c.remove-parcel.ensures.value c.remove-parcel.ensures.items)
-    refl refl c.requires.fit
+    (first-taken g (goal.at.enter_frame-requires-clause-fit g c).After-remove-parcel) refl refl c.requires.fit
 
 pub enter_frame-requires-clause-from : goal.enter_frame-requires-clause-from
 enter_frame-requires-clause-from g c =
-    λ κs le.
-    (subst
-    (AllByRecursion (HeldKeeps c.args.parts.now.controller.node.place c.args.parts.now.controller.steps))
-    (removed c.args.parts.now.held.items c.remove-parcel.new.self.items c.remove-parcel.result
-    (some-due c.args.parts.now.held.items c.requires.due) c.remove-parcel.ensures.value c.remove-parcel.ensures.items)
-    c.requires.fit.station.held).0.near
+    λ κs le. (first-keeps g (goal.at.enter_frame-requires-clause-from g c).After-remove-parcel).near
 
 pub enter_frame-requires-clause-read : goal.enter_frame-requires-clause-read
 enter_frame-requires-clause-read g c =
-    λ κs le.
-    inl (subst
-    (AllByRecursion (HeldKeeps c.args.parts.now.controller.node.place c.args.parts.now.controller.steps))
-    (removed c.args.parts.now.held.items c.remove-parcel.new.self.items c.remove-parcel.result
-    (some-due c.args.parts.now.held.items c.requires.due) c.remove-parcel.ensures.value c.remove-parcel.ensures.items)
-    c.requires.fit.station.held).0.bears
+    λ κs le. inl (first-keeps g (goal.at.enter_frame-requires-clause-read g c).After-remove-parcel).bears
 
 pub enter_frame-requires-clause-able : goal.enter_frame-requires-clause-able
 enter_frame-requires-clause-able g c =
@@ -55,9 +59,7 @@ enter_frame-requires-clause-able g c =
     let h = c.remove-parcel.result in
     let first : c.index.result.now ≡ h =
     c.index.ensures ∙ ap (λ ys. get_or ys 0 c.index.result.now)
-    (removed c.args.parts.now.held.items c.remove-parcel.new.self.items h
-    (some-due c.args.parts.now.held.items c.requires.due) c.remove-parcel.ensures.value
-    c.remove-parcel.ensures.items) in
+    (first-taken g (goal.at.enter_frame-requires-clause-able g c).After-remove-parcel) in
     ap (λ (k : HeldParcel). is_able_for k.parcel.stamp s) (sym first) ∙ sym c.is_able_for.ensures
     ∙ c.if-not-is_able_for.false
 
@@ -66,9 +68,7 @@ returns-clause-on g c =
     let s = state_of c.args.parts.now in
     let h = c.remove-parcel.result in
     let rest = c.remove-parcel.new.self.items in
-    let whole =
-    removed c.args.parts.now.held.items rest h (some-due c.args.parts.now.held.items c.requires.due)
-    c.remove-parcel.ensures.value c.remove-parcel.ensures.items in
+    let whole = first-taken g (goal.at.returns-clause-on g c).After-remove-parcel in
     let first : c.index.result.now ≡ h = c.index.ensures ∙ ap (λ ys. get_or ys 0 c.index.result.now) whole in
     due-given c.enter_frame.result s (state_of c.enter_frame.new.parts) h rest whole
     (ap is_first_due (sym whole) ∙ c.requires.due)
@@ -80,9 +80,7 @@ returns-clause-fewer g c =
     given-fewer c.enter_frame.result _ _ _
     (record (state_of c.args.parts.now) { held = c.remove-parcel.new.self.items })
     (state_of c.enter_frame.new.parts) c.args.parts.now.held.items c.remove-parcel.result
-    (removed c.args.parts.now.held.items c.remove-parcel.new.self.items c.remove-parcel.result
-    (some-due c.args.parts.now.held.items c.requires.due) c.remove-parcel.ensures.value c.remove-parcel.ensures.items)
-    c.enter_frame.ensures.gives
+    (first-taken g (goal.at.returns-clause-fewer g c).After-remove-parcel) c.enter_frame.ensures.gives
 
 pub returns-clause-sends : goal.returns-clause-sends
 returns-clause-sends g c =

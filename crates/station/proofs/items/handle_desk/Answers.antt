@@ -1,10 +1,8 @@
-use Rattle.std.proofs.Common.{sym, ap, ◌∙◌, subst, arith}
+use Rattle.std.proofs.Common.{arith}
 use Rattle.std.specs.Prelude.{Err, Ok}
-use Rattle.std.proofs.lemmas.Result.{err_from_is_err_and}
 use Rattle.station_doings.specs.Phases.{desk_phase}
 use Rattle.station.specs.Fits.{state_of}
-use Rattle.station.specs.Leads.{Leads}
-use Rattle.station.proofs.Stepping.{desk-ends, none-of, sending-none, sending-then}
+use Rattle.station.proofs.Stepping.{desk-ends, none-of, passed-leads, sending-none, sending-then}
 use Rattle.station.proofs.items.handle_desk.Goals as goal
 
 pub items-init : goal.items-init
@@ -33,8 +31,7 @@ pub returns-in_err-handle_first-clause-on : goal.returns-in_err-handle_first-cla
 returns-in_err-handle_first-clause-on g c =
     let s = state_of c.args.parts.now in
     let m = state_of c.handle_first.new.parts in
-    let p = err_from_is_err_and c.from_residual.result c.from_residual.ensures.1 in
-    subst (λ r. Leads r desk_phase s m) (sym (p.1 ∙ ap Err p.2))
+    passed-leads c.from_residual.result _ desk_phase s m c.from_residual.ensures.1
     (c.items.invariant.on (Err _) m c.in_err-handle_first.ensures.on)
 
 pub returns-in_err-handle_first-clause-sends : goal.returns-in_err-handle_first-clause-sends

@@ -7,33 +7,29 @@ use Rattle.station.specs.Rings.{HasTaken}
 use Rattle.station.proofs.Frames.{lose-goes}
 use Rattle.station.proofs.Taking.{has-taken, taken-at, taken-moves, taken-parts}
 use Rattle.station.proofs.rings.lose.Goals as goal
+use Rattle.station.proofs.rings.lose.Goals.{After-take_at-lost}
+
+-- the frame was taken
+taken : (c : After-take_at-lost) → HasTaken c.args.ahead c.take_at-lost.result (state_of c.args.parts.now)
+    c.take_at-lost.new.links.items
+taken c = has-taken c.args.ahead _ _ _ c.requires.ahead c.take_at-lost.ensures
 
 pub returns-clause-on : goal.returns-clause-on
 returns-clause-on c =
     let s = state_of c.args.parts.now in
     let a = c.args.ahead in
-    let q = c.take_at-lost.result in
-    let links = c.take_at-lost.new.links.items in
-    lose-goes a q s links c.requires.fit.station.apart
-    (has-taken a q s links c.requires.ahead c.take_at-lost.ensures)
+    lose-goes a _ s _ c.requires.fit.station.apart (taken (goal.at.returns-clause-on c).After-take_at-lost)
     (subst (λ n. says s.lines a.from n a.head.number ≡ Some Lose) c.requires.fit.me c.requires.says)
 
 pub returns-clause-taken : goal.returns-clause-taken
-returns-clause-taken c =
-    let s = state_of c.args.parts.now in
-    let q = c.take_at-lost.result in
-    let links = c.take_at-lost.new.links.items in
-    taken-at c.args.ahead q s links (has-taken c.args.ahead q s links c.requires.ahead c.take_at-lost.ensures)
+returns-clause-taken c = taken-at _ _ _ _ (taken (goal.at.returns-clause-taken c).After-take_at-lost)
 
 pub returns-clause-moves : goal.returns-clause-moves
 returns-clause-moves c =
-    let s = state_of c.args.parts.now in
-    let a = c.args.ahead in
-    let q = c.take_at-lost.result in
-    let links = c.take_at-lost.new.links.items in
-    let h : HasTaken a q s links = has-taken a q s links c.requires.ahead c.take_at-lost.ensures in
-    taken-moves a.from q a.place s (record s { links = links }) (takes-at a.from q a.place s.links links h.taken) refl
-    (omega arith)
+    taken-moves c.args.ahead.from c.take_at-lost.result c.args.ahead.place (state_of c.args.parts.now)
+    (record (state_of c.args.parts.now) { links = c.take_at-lost.new.links.items })
+    (takes-at c.args.ahead.from c.take_at-lost.result c.args.ahead.place c.args.parts.now.links.items
+    c.take_at-lost.new.links.items (taken (goal.at.returns-clause-moves c).After-take_at-lost).taken) refl (omega arith)
 
 pub returns-clause-fit : goal.returns-clause-fit
 returns-clause-fit c =

@@ -1,6 +1,5 @@
 use Rattle.std.proofs.Common.{◌+◌, cond, map, refl, sym, ap, ◌∙◌, subst}
 use Rattle.std.specs.Prelude.{Err, Ok}
-use Rattle.std.proofs.lemmas.Result.{err_from_is_err_and}
 use Rattle.ason_base.specs.declared.commands.Event.TheVariants.{Tick}
 use Rattle.control_channels.specs.declared.inputs.CoreInput.TheVariants as input
 use Rattle.station_doings.specs.Phases.{tick_phase}
@@ -10,7 +9,7 @@ use Rattle.station.specs.declared.halts.Halt.TheVariants as halt
 use Rattle.station.specs.Fits.{state_of}
 use Rattle.station.specs.Leads.{Leads}
 use Rattle.station.proofs.Ageing.{aged-parts, may-age}
-use Rattle.station.proofs.Stepping.{given-sends, sending-entered, sending-none}
+use Rattle.station.proofs.Stepping.{given-sends, passed-leads, sending-entered, sending-none}
 use Rattle.station.proofs.Stepping.{tick-full, tick-leads, tick-none, tick-refused}
 use Rattle.station.proofs.ticks.tick.Goals as goal
 
@@ -74,8 +73,7 @@ pub returns-in_err-enter-clause-on : goal.returns-in_err-enter-clause-on
 returns-in_err-enter-clause-on g c =
     let s = state_of c.args.parts.now in
     let m = state_of c.enter.new.parts in
-    let p = err_from_is_err_and c.from_residual.result c.from_residual.ensures.1 in
-    subst (λ r. Leads r (tick_phase c.args.tick) s m) (sym (p.1 ∙ ap Err p.2))
+    passed-leads c.from_residual.result _ (tick_phase c.args.tick) s m c.from_residual.ensures.1
     (tick-refused _ _ _ _ c.args.tick s m c.in_err-enter.ensures.enters)
 
 pub returns-in_err-enter-clause-sends : goal.returns-in_err-enter-clause-sends

@@ -16,7 +16,6 @@ log_lines-requires c =
 
 pub returns-clause-count : goal.returns-clause-count
 returns-clause-count c =
-    let f = c.args.self.now in
     let logs = c.log_lines.ensures.lines
     ∙ ap (sum_by (λ (x : StationState). length x.log)) (c.deref.ensures.value
     ∙ ap (λ (x : FleetState). x.stations) c.self.view_is) in
@@ -30,15 +29,4 @@ returns-clause-count c =
 
 pub returns-clause-record : goal.returns-clause-record
 returns-clause-record c t lines r s =
-    let f = c.args.self.now in
-    let logs = c.log_lines.ensures.lines
-    ∙ ap (sum_by (λ (x : StationState). length x.log)) (c.deref.ensures.value
-    ∙ ap (λ (x : FleetState). x.stations) c.self.view_is) ∙ lines-stand t lines f r s in
-    omega (
-      arith,
-      logs,
-      c.len.ensures,
-      c.self.inside.posts.ok.0,
-      ap (λ (x : FleetState). length x.posts) c.self.view_is,
-      ap length s.posts,
-    )
+    omega (arith, returns-clause-count c, lines-stand t lines c.args.self.now r s, ap length s.posts)

@@ -13,8 +13,7 @@ returns-in-None-clause-on c =
     c.change.ensures.on
 
 pub returns-in-None-clause-err : goal.returns-in-None-clause-err
-returns-in-None-clause-err c =
-    on_err c.change.result _ _ (room-stands c.args.self.now c.change.new.self) c.change.ensures.err
+returns-in-None-clause-err c = on_err c.change.result _ _ (room-stands _ _) c.change.ensures.err
 
 pub returns-in-Some-clause-on : goal.returns-in-Some-clause-on
 returns-in-Some-clause-on c =
@@ -25,5 +24,4 @@ returns-in-Some-clause-on c =
     c.order.ensures.on
 
 pub returns-in-Some-clause-err : goal.returns-in-Some-clause-err
-returns-in-Some-clause-err c =
-    on_err c.order.result _ _ (room-stands c.args.self.now c.order.new.self) c.order.ensures.err
+returns-in-Some-clause-err c = on_err c.order.result _ _ (room-stands _ _) c.order.ensures.err

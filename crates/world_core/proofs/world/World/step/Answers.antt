@@ -1,14 +1,18 @@
-use Rattle.std.proofs.Common.{sym, subst}
-use Rattle.world_core.specs.Replays.{HasStepped, IsDisabled}
+use Rattle.std.proofs.Common.{◌≡◌, sym, subst}
+use Rattle.std.specs.Prelude.{OnOk, Result}
+use Rattle.ason_base.specs.declared.commands.Event.{Event}
+use Rattle.ason_base.specs.Network.{Network}
+use Rattle.world_core.specs.Replays.{HasStepped, IsDisabled, WorldState}
 use Rattle.ason_base.proofs.Results.{if_err, on_ok}
 use Rattle.world_core.proofs.world.World.step.Goals as goal
 
+-- what the event did whose kind is known
+stepped : {T E : Type 0} (t : Network) (old new : WorldState) (e kind : Event) (r : Result T E) → e ≡ kind →
+    OnOk r ((u : Network) → HasStepped u old kind new) → OnOk r (HasStepped t old e new)
+stepped t old new e kind r is = on_ok r _ _ (λ does. subst (λ k. HasStepped t old k new) (sym is) (does t))
+
 pub returns-in-Noise-clause-done : goal.returns-in-Noise-clause-done
-returns-in-Noise-clause-done c =
-    on_ok c.make_noise.result _ _
-    (λ does. subst (λ e. HasStepped c.args.t.now c.args.self.now e c.make_noise.new.self) (sym c.in-Noise.is)
-    (does c.args.t.now))
-    c.make_noise.ensures.done
+returns-in-Noise-clause-done c = stepped _ _ _ _ _ c.make_noise.result c.in-Noise.is c.make_noise.ensures.done
 
 pub returns-in-Noise-clause-refused : goal.returns-in-Noise-clause-refused
 returns-in-Noise-clause-refused c =
@@ -17,15 +21,7 @@ returns-in-Noise-clause-refused c =
     c.make_noise.ensures.refused
 
 pub returns-in-Tick-clause-done : goal.returns-in-Tick-clause-done
-returns-in-Tick-clause-done c =
-    on_ok c.tick.result _ _
-    (λ does. subst (λ e. HasStepped c.args.t.now c.args.self.now e c.tick.new.self) (sym c.in-Tick.is)
-    (does c.args.t.now))
-    c.tick.ensures.done
+returns-in-Tick-clause-done c = stepped _ _ _ _ _ c.tick.result c.in-Tick.is c.tick.ensures.done
 
 pub returns-in-Desk-clause-done : goal.returns-in-Desk-clause-done
-returns-in-Desk-clause-done c =
-    on_ok c.handle.result _ _
-    (λ does. subst (λ e. HasStepped c.args.t.now c.args.self.now e c.handle.new.self) (sym c.in-Desk.is)
-    (does c.args.t.now))
-    c.handle.ensures.done
+returns-in-Desk-clause-done c = stepped _ _ _ _ _ c.handle.result c.in-Desk.is c.handle.ensures.done

@@ -3,10 +3,7 @@ use Rattle.ason_base.proofs.Results.{if_err, on_ok}
 use Rattle.world_core.proofs.world.World.tick.Goals as goal
 
 pub returns-clause-done : goal.returns-clause-done
-returns-clause-done c =
-    on_ok c.act.result _ _ (λ acted t. ticked-steps t c.args.self.now c.act.new.self c.args.node acted)
-    c.act.ensures.done
+returns-clause-done c = on_ok c.act.result _ _ (λ acted t. ticked-steps t _ _ _ acted) c.act.ensures.done
 
 pub returns-clause-refused : goal.returns-clause-refused
-returns-clause-refused c =
-    if_err c.act.result _ _ (λ f unable e t. not-ticked t c.args.self.now c.args.node (unable e)) c.act.ensures.refused
+returns-clause-refused c = if_err c.act.result _ _ (λ f unable e t. not-ticked t _ _ (unable e)) c.act.ensures.refused
