@@ -10,7 +10,7 @@ use Rattle.fleet.specs.Standing.{FleetState}
 use Rattle.load_plan.specs.declared.parts.LoadParts.{LoadParts}
 use Rattle.trace_text.specs.Complete.{EveryCheckIsOne}
 use Rattle.ason_main.specs.declared.answers.Status.{Status}
-use Rattle.ason_main.specs.Answers.{Ask, Check, Decode, Request, Run, Survey, Trace, Watch}
+use Rattle.ason_main.specs.Answers.{Ask, Check, Decode, Request, Trace}
 use Rattle.ason_main.specs.Answers.{Done, EventLimit, NotRun, PlanRefused, ReadFault, Reply, TooLong, Unfinished, Usage}
 use Rattle.ason_main.specs.Answers.{EndsLoad, EndsTooLong, EndsWell, HasReadFew, IsCheckedTrace, IsComplete, IsCompleteLoad, IsDoneOrOutOfMemory, IsJudged, IsLoadReply, IsReadAndJudged, IsReply, IsReplyFor, IsReplyTo, PassesCheck, TellsItsRun, TellsRun, TellsRunFor, WasGiven, generated, request_for, status_of, text_of_reply}
 use Rattle.ason_main.specs.Traces.{IsTraceOfRun}
@@ -49,31 +49,14 @@ pub judged_for : {S : Type 0} (left : S → Option (List ℕ)) (handed : S → L
     IsReplyFor left handed ended faults old new k r kept
 judged_for left handed ended faults old new bs k (Done text) kept read few is = (bs, read, few, is)
 judged_for left handed ended faults old new bs k (NotRun text) kept read few is = (bs, read, few, is)
-judged_for left handed ended faults old new bs (Run pace) Usage kept read few is = absurd is
-judged_for left handed ended faults old new bs (Trace pace) Usage kept read few is = absurd is
-judged_for left handed ended faults old new bs (Watch pace name) Usage kept read few is = absurd is
-judged_for left handed ended faults old new bs Check Usage kept read few is = absurd is.0
-judged_for left handed ended faults old new bs Decode Usage kept read few is = absurd is.0
-judged_for left handed ended faults old new bs Survey Usage kept read few is = absurd is
-judged_for left handed ended faults old new bs (Ask question from to) Usage kept read few is = absurd is.0
 judged_for left handed ended faults old new bs k (PlanRefused text) kept read few is = (bs, read, few, is)
-judged_for left handed ended faults old new bs (Run pace) ReadFault kept read few is = absurd is
-judged_for left handed ended faults old new bs (Trace pace) ReadFault kept read few is = absurd is
-judged_for left handed ended faults old new bs (Watch pace name) ReadFault kept read few is = absurd is
-judged_for left handed ended faults old new bs Check ReadFault kept read few is = absurd is.0
-judged_for left handed ended faults old new bs Decode ReadFault kept read few is = absurd is.0
-judged_for left handed ended faults old new bs Survey ReadFault kept read few is = absurd is
-judged_for left handed ended faults old new bs (Ask question from to) ReadFault kept read few is = absurd is.0
 judged_for left handed ended faults old new bs k (EventLimit text) kept read few is = (bs, read, few, is)
 judged_for left handed ended faults old new bs k (Unfinished text) kept read few is =
     (read_few left handed ended old new bs read few, inr (bs, read, few, is))
-judged_for left handed ended faults old new bs (Run pace) TooLong kept read few is = absurd is
-judged_for left handed ended faults old new bs (Trace pace) TooLong kept read few is = absurd is
-judged_for left handed ended faults old new bs (Watch pace name) TooLong kept read few is = absurd is
-judged_for left handed ended faults old new bs Check TooLong kept read few is = absurd is.0
-judged_for left handed ended faults old new bs Decode TooLong kept read few is = absurd is.0
-judged_for left handed ended faults old new bs Survey TooLong kept read few is = absurd is
-judged_for left handed ended faults old new bs (Ask question from to) TooLong kept read few is = absurd is.0
+judged_for left handed ended faults old new bs Check r kept read few is = absurd is.0
+judged_for left handed ended faults old new bs Decode r kept read few is = absurd is.0
+judged_for left handed ended faults old new bs (Ask question from to) r kept read few is = absurd is.0
+judged_for left handed ended faults old new bs k r kept read few is = absurd is
 
 too_many : (n m : ℕ) → n ≡ 4194304 + 1 → m ≤ 4194304 → n ≤ m → ⊥
 too_many n m a b c = grind arith

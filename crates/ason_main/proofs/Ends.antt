@@ -36,84 +36,56 @@ comes_to p how stop more text printed stopped = record {
       ∙ stopped;
 }
 
+-- the same, told of the plan that was read
+comes_for : (bs : List ℕ) (p q : Plan) (how : How) (stop : Option NodeId) (more : List Stage) (text : List ℕ) →
+    PlanOf bs (Ok q) → PlanOf bs (Ok p) → Prints q how (script_of q) new_stage more text →
+    (end_of more).stopped ≡ stop → ComesTo p how stop
+comes_for bs p q how stop more text from plan printed stopped =
+    subst (λ (x : Plan). ComesTo x how stop) (one_plan bs q p from plan) (comes_to q how stop more text printed stopped)
+
 -- a plan's reply
 judged_end : (workers : ℕ) (bs : List ℕ) (p : Plan) (r : Reply) (kept : Option FleetState) (s : Status) →
     PlanOf bs (Ok p) → IsRunReply workers bs r kept → s ≡ status_of r → IsEnd p (printing workers) s
-judged_end workers bs p (Done text) kept s plan holds is = inl (
-  is,
-  subst (λ (q : Plan). ComesTo q (printing workers) None) (one_plan bs holds.0 p holds.1 plan)
-      (comes_to holds.0 (printing workers) None holds.2.0 text holds.2.1.output.printed holds.2.1.output.ended),
-)
+judged_end workers bs p (Done text) kept s plan holds is =
+    let out = holds.2.1.output in
+    inl (is, comes_for bs p holds.0 (printing workers) None holds.2.0 text holds.1 plan out.printed out.ended)
 judged_end workers bs p (PlanRefused text) kept s plan holds is = absurd (no_plan bs holds.0.0 p holds.0.1 plan)
 judged_end workers bs p (EventLimit text) kept s plan holds is =
     let out = holds.2.2.cut.output in
-    inr (inl (
-      is,
-      (
-        holds.2.0,
-        subst (λ (q : Plan). ComesTo q (printing workers) (Some holds.2.0)) (one_plan bs holds.0 p holds.1 plan)
-            (comes_to holds.0 (printing workers) (Some holds.2.0) holds.2.1 holds.2.2.told out.printed out.stopped),
-      ),
-    ))
+    let at = comes_for bs p holds.0 (printing workers) (Some holds.2.0) holds.2.1 holds.2.2.told holds.1 plan
+    out.printed out.stopped in
+    inr (inl (is, (holds.2.0, at)))
 judged_end workers bs p (Unfinished text) kept s plan holds is = inr (inr is)
-judged_end workers bs p (NotRun text) kept s plan holds is = absurd holds
-judged_end workers bs p Usage kept s plan holds is = absurd holds
-judged_end workers bs p ReadFault kept s plan holds is = absurd holds
-judged_end workers bs p TooLong kept s plan holds is = absurd holds
+judged_end workers bs p r kept s plan holds is = absurd holds
 
 -- the reply to a run of which the trace is told
 traced_end : (workers : ℕ) (bs : List ℕ) (p : Plan) (r : Reply) (kept : Option FleetState) (s : Status) →
     PlanOf bs (Ok p) → IsTraceReply workers bs r kept → s ≡ status_of r → IsEnd p (silent_on workers) s
 traced_end workers bs p (Done text) kept s plan holds is =
     let out = holds.2.1.is.output in
-    inl (
-      is,
-      subst (λ (q : Plan). ComesTo q (silent_on workers) None) (one_plan bs holds.0 p holds.1 plan)
-          (comes_to holds.0 (silent_on workers) None holds.2.0 [] out.printed out.ended),
-    )
+    inl (is, comes_for bs p holds.0 (silent_on workers) None holds.2.0 [] holds.1 plan out.printed out.ended)
 traced_end workers bs p (PlanRefused text) kept s plan holds is = absurd (no_plan bs holds.0.0 p holds.0.1 plan)
 traced_end workers bs p (EventLimit text) kept s plan holds is =
     let out = holds.2.2.cut.output in
-    inr (inl (
-      is,
-      (
-        holds.2.0,
-        subst (λ (q : Plan). ComesTo q (silent_on workers) (Some holds.2.0)) (one_plan bs holds.0 p holds.1 plan)
-            (comes_to holds.0 (silent_on workers) (Some holds.2.0) holds.2.1 [] out.printed out.stopped),
-      ),
-    ))
+    let at = comes_for bs p holds.0 (silent_on workers) (Some holds.2.0) holds.2.1 [] holds.1 plan out.printed
+    out.stopped in
+    inr (inl (is, (holds.2.0, at)))
 traced_end workers bs p (Unfinished text) kept s plan holds is = inr (inr is)
-traced_end workers bs p (NotRun text) kept s plan holds is = absurd holds
-traced_end workers bs p Usage kept s plan holds is = absurd holds
-traced_end workers bs p ReadFault kept s plan holds is = absurd holds
-traced_end workers bs p TooLong kept s plan holds is = absurd holds
+traced_end workers bs p r kept s plan holds is = absurd holds
 
 -- a survey's reply
 surveyed_end : (bs : List ℕ) (p : Plan) (r : Reply) (kept : Option FleetState) (s : Status) → PlanOf bs (Ok p) →
     IsSurveyReply bs r kept → s ≡ status_of r → IsEnd p silent s
 surveyed_end bs p (Done text) kept s plan holds is =
     let out = holds.2.1.is.output in
-    inl (
-      is,
-      subst (λ (q : Plan). ComesTo q silent None) (one_plan bs holds.0 p holds.1 plan)
-          (comes_to holds.0 silent None holds.2.0 [] out.printed out.ended),
-    )
+    inl (is, comes_for bs p holds.0 silent None holds.2.0 [] holds.1 plan out.printed out.ended)
 surveyed_end bs p (PlanRefused text) kept s plan holds is = absurd (no_plan bs holds.0.0 p holds.0.1 plan)
 surveyed_end bs p (EventLimit text) kept s plan holds is =
     let out = holds.2.2.cut.output in
-    inr (inl (
-      is,
-      (
-        holds.2.0,
-        subst (λ (q : Plan). ComesTo q silent (Some holds.2.0)) (one_plan bs holds.0 p holds.1 plan)
-            (comes_to holds.0 silent (Some holds.2.0) holds.2.1 [] out.printed out.stopped),
-      ),
-    ))
+    let at = comes_for bs p holds.0 silent (Some holds.2.0) holds.2.1 [] holds.1 plan out.printed out.stopped in
+    inr (inl (is, (holds.2.0, at)))
 surveyed_end bs p (Unfinished text) kept s plan holds is = inr (inr is)
-surveyed_end bs p (NotRun text) kept s plan holds is = absurd holds
-surveyed_end bs p Usage kept s plan holds is = absurd holds
-surveyed_end bs p ReadFault kept s plan holds is = absurd holds
-surveyed_end bs p TooLong kept s plan holds is = absurd holds
+surveyed_end bs p r kept s plan holds is = absurd holds
 
 -- a reply to `check`: bytes have one answer, so two others exclude each other
 are_apart : (r s : Result Checked TraceFault) → (r ≡ Err TraceFault.OutOfMemory → ⊥) →

@@ -13,6 +13,7 @@ use Rattle.trace_text.specs.TraceRead.{IsRefused as IsRefusedTrace}
 use Rattle.table_text.specs.TableText.{stopped_text}
 use Rattle.ason_main.specs.declared.answers.Status.{Status}
 use Rattle.ason_main.specs.Answers.{Ask, Check, Decode, Done, EventLimit, PlanRefused, Reply, Request, Run, Survey, Trace, Unfinished, Watch}
+use Rattle.ason_main.specs.Answers.{IsRunReply}
 use Rattle.ason_main.specs.Answers.{HasKept, IsAnswered, IsJudged, IsReply, IsReplyTo, MayKeep, TakesPlan, TellsItsRun, TellsRun, TellsRunFor, WasTold, WasToldOrNothing, printing, request_for}
 use Rattle.ason_main.specs.declared.runner.stops.Stop.{Stop}
 use Rattle.fleet.specs.Standing.{FleetState}
@@ -76,6 +77,21 @@ cut_begun p how n more text cut = record {
   printed = (script_of p, [], append-nil (script_of p), cut.output.printed);
 }
 
+-- the reply of a run that was stopped
+stopped_reply : (bs : List ℕ) (p : Plan) (workers : ℕ) (n : NodeId) (f : FleetState) (kept : Option FleetState)
+    (a b : Option (List ℕ)) → PlanOf bs (Ok p) → kept ≡ Some f → (is : HasBeenCut p (printing workers) n f a b) →
+    IsRunReply workers bs (EventLimit (is.text ++ stopped_text p n)) kept
+stopped_reply bs p workers n f kept a b plan keeps is = (
+  p,
+  plan,
+  (
+    n,
+    is.more,
+    record { told = is.text; cut = is.output; all = refl },
+    has_kept p f kept (end_of is.more) keeps is.kept,
+  ),
+)
+
 -- the line of the stop comes last
 pub stopped : {K : Type 0} (written : K → Option (List ℕ)) (faults : K → ℕ) (bs : List ℕ) (p : Plan) (pace : PaceView)
     (n : NodeId) (f : FleetState) (kept : Option FleetState) (old now new : K) (s : Status) → PlanOf bs (Ok p) →
@@ -85,31 +101,13 @@ pub stopped : {K : Type 0} (written : K → Option (List ℕ)) (faults : K → �
     IsAnswered written faults (Run pace) bs old new kept s
 stopped written faults bs p pace n f kept old now new s plan keeps rises is (inl (inl told)) = (
   EventLimit (is.text ++ stopped_text p n),
-  (
-    p,
-    plan,
-    (
-      n,
-      is.more,
-      record { told = is.text; cut = is.output; all = refl },
-      has_kept p f kept (end_of is.more) keeps is.kept,
-    ),
-  ),
+  stopped_reply bs p pace.workers n f kept (written old) (written now) plan keeps is,
   inl (told.0, Appends-trans (written old) (written now) (written new) is.text (stopped_text p n) is.written told.1),
   tt,
 )
 stopped written faults bs p pace n f kept old now new s plan keeps rises is (inl (inr part)) = (
   EventLimit (is.text ++ stopped_text p n),
-  (
-    p,
-    plan,
-    (
-      n,
-      is.more,
-      record { told = is.text; cut = is.output; all = refl },
-      has_kept p f kept (end_of is.more) keeps is.kept,
-    ),
-  ),
+  stopped_reply bs p pace.workers n f kept (written old) (written now) plan keeps is,
   inr (
     part.0,
     rose_later (faults old) (faults now) (faults new) rises part.1,

@@ -14,6 +14,7 @@ use Rattle.script_rules.specs.Stages.{Stage}
 use Rattle.table_text.specs.EndsText.{no_node_text, plan_node}
 use Rattle.table_text.specs.TableText.{stopped_text}
 use Rattle.ason_main.specs.declared.answers.Status.{Status}
+use Rattle.ason_main.specs.Answers.{IsWatchReply}
 use Rattle.ason_main.specs.Answers.{Done, EventLimit, IsAnswered, IsWatchOf, Unfinished, WasTold, WasToldOrNothing, Watch, printing}
 use Rattle.ason_main.specs.RunLaws.{RunLaws}
 use Rattle.ason_main.specs.Outputs.{HasBeenCut, HasEnded, IsBegun, IsTheOutput, end_of}
@@ -128,18 +129,21 @@ module _ {K : Type 0} (written : K → Option (List ℕ)) (faults : K → ℕ) (
   -- the run was stopped: the line of the stop comes last
   module _ (stop : NodeId) (now new : K) (s : Status) (rises : faults old ≤ faults now)
       (is : HasBeenCut p how stop f (written old) (written now)) where
+    stopped_reply : IsWatchReply pace.workers name bs (EventLimit (is.text ++ stopped_text p stop)) (Some f)
+    stopped_reply = (
+      p,
+      plan,
+      (
+        subst IsSome (sym named) refl,
+        (stop, is.more, record { told = is.text; cut = is.output; all = refl }, is.kept),
+      ),
+    )
+
     pub watch_stopped : WasToldOrNothing written faults now new (stopped_text p stop) Status.EventLimit s →
         Answered new s
     watch_stopped (inl (inl told)) = (
       EventLimit (is.text ++ stopped_text p stop),
-      (
-        p,
-        plan,
-        (
-          subst IsSome (sym named) refl,
-          (stop, is.more, record { told = is.text; cut = is.output; all = refl }, is.kept),
-        ),
-      ),
+      stopped_reply,
       inl (
         told.0,
         Appends-trans (written old) (written now) (written new) is.text (stopped_text p stop) is.written told.1,
@@ -148,14 +152,7 @@ module _ {K : Type 0} (written : K → Option (List ℕ)) (faults : K → ℕ) (
     )
     watch_stopped (inl (inr part)) = (
       EventLimit (is.text ++ stopped_text p stop),
-      (
-        p,
-        plan,
-        (
-          subst IsSome (sym named) refl,
-          (stop, is.more, record { told = is.text; cut = is.output; all = refl }, is.kept),
-        ),
-      ),
+      stopped_reply,
       inr (
         part.0,
         rose_later (faults old) (faults now) (faults new) rises part.1,
