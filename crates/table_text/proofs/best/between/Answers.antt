@@ -5,15 +5,11 @@ use Rattle.table_text.specs.BestText.{TellsNoPair}
 use Rattle.table_text.proofs.PlanRows.{searchable}
 use Rattle.table_text.proofs.best.between.Goals as goal
 
-pub best-requires-clause-metrics : goal.best-requires-clause-metrics
-best-requires-clause-metrics c =
-    (searchable c.args.plan.now.topology _ _ c.requires c.links.ensures.list
-    (c.deref.ensures.value ∙ c.in_ok-rows.ensures)).metrics
-
-pub best-requires-clause-links : goal.best-requires-clause-links
-best-requires-clause-links c =
-    (searchable c.args.plan.now.topology _ _ c.requires c.links.ensures.list
-    (c.deref.ensures.value ∙ c.in_ok-rows.ensures)).links
+pub best-requires : goal.best-requires
+best-requires c =
+    let are = searchable c.args.plan.now.topology _ _ c.requires c.links.ensures.list
+    (c.deref.ensures.value ∙ c.in_ok-rows.ensures) in
+    record { metrics = are.metrics; links = are.links }
 
 pub pair_told-requires-clause-links : goal.pair_told-requires-clause-links
 pair_told-requires-clause-links c =

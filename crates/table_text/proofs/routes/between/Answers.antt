@@ -13,21 +13,13 @@ use Rattle.table_text.specs.RouteText.{found_text, plan_rows, primary_line, rout
 use Rattle.table_text.proofs.FoundRoutes.{both_told, none_told, primary_told}
 use Rattle.table_text.proofs.PlanRows.{rows-searchable, searchable}
 use Rattle.table_text.proofs.routes.between.Goals as goal
+use Rattle.table_text.proofs.routes.between.Goals.{After-pair_in}
 
-pub new-requires-clause-ends : goal.new-requires-clause-ends
-new-requires-clause-ends c =
-    (searchable c.args.plan.now.topology _ _ c.requires c.links.ensures.list
-    (c.deref.ensures.value ∙ c.in_ok-rows.ensures)).ends
-
-pub new-requires-clause-metrics : goal.new-requires-clause-metrics
-new-requires-clause-metrics c =
-    (searchable c.args.plan.now.topology _ _ c.requires c.links.ensures.list
-    (c.deref.ensures.value ∙ c.in_ok-rows.ensures)).metrics
-
-pub new-requires-clause-links : goal.new-requires-clause-links
-new-requires-clause-links c =
-    (searchable c.args.plan.now.topology _ _ c.requires c.links.ensures.list
-    (c.deref.ensures.value ∙ c.in_ok-rows.ensures)).links
+pub new-requires : goal.new-requires
+new-requires c =
+    let are = searchable c.args.plan.now.topology _ _ c.requires c.links.ensures.list
+    (c.deref.ensures.value ∙ c.in_ok-rows.ensures) in
+    record { ends = are.ends; metrics = are.metrics; links = are.links }
 
 -- what is found is told
 module _ (p : Plan) (valid : IsTopology p.topology) (rows : List TeRow) (same : rows ≡ plan_rows p)
@@ -52,30 +44,31 @@ module _ (p : Plan) (valid : IsTopology p.topology) (rows : List TeRow) (same : 
   none entries text is told = told ∙ none_told p can_be_asked from to entries
       (subst (λ rs. JoinsNone rs NoLink NoNode from to entries) same is)
 
+-- the rows that are searched are those of the plan
+searched : (c : After-pair_in) → c.deref-2.result.now ≡ plan_rows c.args.plan.now
+searched c = c.deref-2.ensures.value ∙ (c.in_ok-rows.ensures ∙ ap (map row_of) c.links.ensures.list)
+
 pub returns-in-Ok : goal.returns-in-Ok
 returns-in-Ok c =
-    let p = c.args.plan.now in
-    let same = c.deref-2.ensures.value ∙ (c.in_ok-rows.ensures ∙ ap (map row_of) c.links.ensures.list) in
     if_ok c.both_told.result _ _
-    (λ text told. both p c.requires c.deref-2.result.now same c.args.from c.args.to c.in-Ok.pair.primary
-    c.in-Ok.pair.backup (string_bytes text) c.in-Ok.ensures.primary c.in-Ok.ensures.backup told) c.both_told.ensures
+    (λ text told. both c.args.plan.now c.requires _ (searched (goal.at.returns-in-Ok c).After-pair_in) c.args.from
+    c.args.to c.in-Ok.pair.primary c.in-Ok.pair.backup (string_bytes text) c.in-Ok.ensures.primary
+    c.in-Ok.ensures.backup told) c.both_told.ensures
 
 pub returns-in-Err-NoPrimary : goal.returns-in-Err-NoPrimary
 returns-in-Err-NoPrimary c =
     let p = c.args.plan.now in
-    let same = c.deref-2.ensures.value ∙ (c.in_ok-rows.ensures ∙ ap (map row_of) c.links.ensures.list) in
-    let fault = subst (IsPairFault c.deref-2.result.now c.args.from c.args.to) c.in-Err-NoPrimary.field-0-is
-    c.in-Err-NoPrimary.ensures.fault in
     if_ok c.none_told.result _ _
-    (λ text told. none p c.requires c.deref-2.result.now same c.args.from c.args.to c.in-Err-NoPrimary.potential
-    (string_bytes text) fault (told ∙ ap (found_text p (codes "no primary\n")) c.items.ensures)) c.none_told.ensures
+    (λ text told. none p c.requires _ (searched (goal.at.returns-in-Err-NoPrimary c).After-pair_in) c.args.from
+    c.args.to c.in-Err-NoPrimary.potential (string_bytes text)
+    (subst (IsPairFault c.deref-2.result.now c.args.from c.args.to) c.in-Err-NoPrimary.field-0-is
+    c.in-Err-NoPrimary.ensures.fault) (told ∙ ap (found_text p (codes "no primary\n")) c.items.ensures))
+    c.none_told.ensures
 
 pub returns-in-Err-NoBackup : goal.returns-in-Err-NoBackup
 returns-in-Err-NoBackup c =
-    let p = c.args.plan.now in
-    let same = c.deref-2.ensures.value ∙ (c.in_ok-rows.ensures ∙ ap (map row_of) c.links.ensures.list) in
-    let fault = subst (IsPairFault c.deref-2.result.now c.args.from c.args.to) c.in-Err-NoBackup.field-0-is
-    c.in-Err-NoBackup.ensures.fault in
     if_ok c.primary_told.result _ _
-    (λ text told. primary p c.requires c.deref-2.result.now same c.args.from c.args.to c.in-Err-NoBackup.primary
-    (string_bytes text) fault told) c.primary_told.ensures
+    (λ text told. primary c.args.plan.now c.requires _ (searched (goal.at.returns-in-Err-NoBackup c).After-pair_in)
+    c.args.from c.args.to c.in-Err-NoBackup.primary (string_bytes text)
+    (subst (IsPairFault c.deref-2.result.now c.args.from c.args.to) c.in-Err-NoBackup.field-0-is
+    c.in-Err-NoBackup.ensures.fault) told) c.primary_told.ensures
