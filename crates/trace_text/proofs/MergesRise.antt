@@ -6,7 +6,7 @@ use Rattle.ason_base.specs.declared.commands.Entry.{Entry}
 use Rattle.ason_base.specs.declared.commands.Event.{Event}
 use Rattle.ason_base.specs.declared.commands.Event.TheVariants.{Deliver, Noise, Tick, Desk, Post}
 use Rattle.ason_base.specs.declared.ids.NodeId.{NodeId}
-use Rattle.world_merge.specs.Deeds.{Deed, Handled, Heard, Posted, Ticked, Took}
+use Rattle.world_merge.specs.Deeds.{Deed, Posted}
 use Rattle.world_merge.specs.Histories.{at}
 use Rattle.world_merge.specs.Logs.{is_posted, log_of, posts_of}
 use Rattle.world_merge.specs.Orders.{IsBefore, IsMerge, IsSorted, is_of, is_post}
@@ -48,19 +48,13 @@ IsOwn e = IsEventOf e.node e.event
 
 own_log : (n : NodeId) (ds : List Deed) → AllByRecursion IsOwn (log_of n ds)
 own_log n [] = tt
-own_log n (Ticked s ∷ ds) = (refl, own_log n ds)
-own_log n (Handled s ∷ ds) = (refl, own_log n ds)
-own_log n (Took s u k x ∷ ds) = (refl, own_log n ds)
-own_log n (Heard s u bytes ∷ ds) = (refl, own_log n ds)
 own_log n (Posted s c ∷ ds) = own_log n ds
+own_log n (d ∷ ds) = (refl, own_log n ds)
 
 own_posts : (n : NodeId) (ds : List Deed) → AllByRecursion IsOwn (posts_of n ds)
 own_posts n [] = tt
-own_posts n (Ticked s ∷ ds) = own_posts n ds
-own_posts n (Handled s ∷ ds) = own_posts n ds
-own_posts n (Took s u k x ∷ ds) = own_posts n ds
-own_posts n (Heard s u bytes ∷ ds) = own_posts n ds
 own_posts n (Posted s c ∷ ds) = (tt, own_posts n ds)
+own_posts n (d ∷ ds) = own_posts n ds
 
 all_own : (m : List Entry) → ((n : ℕ) → AllByRecursion IsOwn (filter (is_of n) m)) →
     AllByRecursion IsOwn (filter is_post m) → AllByRecursion IsOwn m
