@@ -22,6 +22,7 @@ pub mod PathErrs
 pub mod Paths
 pub mod Protects
 pub mod Quiet
+pub mod Readings
 pub mod Releases
 pub mod Reports
 pub mod Resvs

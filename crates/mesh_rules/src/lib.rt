@@ -11,8 +11,12 @@ pub mod failures;
 pub mod limits;
 pub mod links;
 pub mod neighbours;
+pub mod readings;
+pub mod requests;
+pub mod roles;
 
-pub use arrivals::Arrival;
+pub use arrivals::{Arrival, GivenLabel};
 pub use changes::{CallChange, LegChange, NextNumbers};
 pub use events::{MeshEvent, StepFault};
 pub use neighbours::Neighbour;
+pub use requests::PathRequest;
