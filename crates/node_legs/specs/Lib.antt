@@ -1,3 +1,4 @@
 pub mod Edits
 pub mod LegTables
+pub mod Settings
 pub mod TakenLabels

@@ -6,10 +6,19 @@ ghost use Rattle.mesh_rules.specs.declared.changes.LegChange.TheVariants as chan
 ghost use Rattle.mesh_rules.specs.Legs.{with_phase};
 ghost use Rattle.node_legs.specs.Edits.{change_of, leg_put};
 ghost use Rattle.node_legs.specs.LegTables.{with_back_labels, with_labels};
+ghost use Rattle.node_legs.specs.Settings.{with_setting};
 
 use ason_base::{Copied, Label, Leg, Lsp, OutOfMemory, Phase};
 use std::alloc::Global;
 use std::marker::Model;
+
+/// What is set of a leg: its phase, its labels, or those of its backward direction.
+#[derive(Clone, Copy, Drop)]
+pub(crate) enum Setting {
+    InPhase(Phase),
+    Labels(Option<Label>, Option<Label>),
+    BackLabels(Option<Label>, Option<Label>),
+}
 
 /// A leg in a box.
 pub struct BoxedLeg {
@@ -56,6 +65,16 @@ impl BoxedLeg {
     {
         self.leg.back_in = back_in;
         self.leg.back_out = back_out;
+    }
+
+    pub(crate) fn set(&mut self, setting: Setting)
+        ensures { self.new ≡ with_setting setting self.old }
+    {
+        match setting {
+            Setting::InPhase(phase) => self.set_phase(phase),
+            Setting::Labels(in_label, out_label) => self.set_labels(in_label, out_label),
+            Setting::BackLabels(back_in, back_out) => self.set_back(back_in, back_out),
+        }
     }
 
     pub fn into_leg(self) -> Leg

@@ -38,6 +38,9 @@ impl Model for ChangeParts {
     } };
 }
 
+/// What a rule changes and sends, or want of memory.
+pub type Changed = Result<Change, OutOfMemory>;
+
 /// What a rule changes at its node, and what it sends, in order. All else stays.
 pub struct Change {
     alloc: Global,

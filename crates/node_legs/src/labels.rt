@@ -17,8 +17,7 @@ pub struct TakenLabel {
 fn taken_over(fibre: Option<Fibre>, label: Option<Label>) -> Option<TakenLabel>
     ensures { result ≡ taken_over fibre label }
 {
-    let fibre = fibre?;
-    let label = label?;
+    let (fibre, label) = fibre.zip(label)?;
     Some(TakenLabel { fibre, label })
 }
 

@@ -4,11 +4,12 @@ ghost use Rattle.std.specs.Prelude.{◌≡◌, ◌≤◌, ◌<◌, ◌+◌, IfOk
 ghost use Rattle.std.specs.Option.{option_copied};
 ghost use Rattle.ason_base.specs.Lsps.{lsp_before, same_lsp};
 ghost use Rattle.ason_base.proofs.LspOrder.{lsp_order};
-ghost use Rattle.mesh_rules.specs.Legs.{find_leg, with_leg, with_phase, without_leg};
-ghost use Rattle.node_legs.specs.LegTables.{LegsRise, leg_changed, with_back_labels, with_labels};
+ghost use Rattle.mesh_rules.specs.Legs.{find_leg, with_leg, without_leg};
+ghost use Rattle.node_legs.specs.LegTables.{LegsRise, leg_changed};
+ghost use Rattle.node_legs.specs.Settings.{with_setting};
 
-use crate::boxes::BoxedLeg;
-use ason_base::{Label, Leg, Lsp, OutOfMemory, Phase};
+use crate::boxes::{BoxedLeg, Setting};
+use ason_base::{Leg, Lsp, OutOfMemory};
 use std::alloc::Global;
 use table_lists::keyed::{Keyed, find_item, find_place, place_of, put_item, take_item};
 
@@ -112,47 +113,14 @@ pub fn take_leg(legs: &mut Vec<BoxedLeg>, lsp: Lsp) -> Option<Leg>
     }
 }
 
-pub(crate) fn set_phase(legs: &mut Vec<BoxedLeg>, lsp: Lsp, phase: Phase)
+/// Sets this of the leg of the LSP.
+pub(crate) fn set(legs: &mut Vec<BoxedLeg>, lsp: Lsp, setting: Setting)
     requires { LegsRise legs.old.items }
-    ensures changed { legs.new.items ≡ leg_changed lsp (with_phase phase) legs.old.items }
+    ensures changed { legs.new.items ≡ leg_changed lsp (with_setting setting) legs.old.items }
     ensures rising { LegsRise legs.new.items }
     ensures len { length legs.new.items ≡ length legs.old.items }
 {
     if let Some(place) = find_place(legs, lsp) {
-        legs[place].set_phase(phase);
-    }
-}
-
-pub(crate) fn set_labels(
-    legs: &mut Vec<BoxedLeg>,
-    lsp: Lsp,
-    in_label: Option<Label>,
-    out_label: Option<Label>,
-)
-    requires { LegsRise legs.old.items }
-    ensures changed { legs.new.items ≡ leg_changed lsp
-        (with_labels in_label out_label) legs.old.items }
-    ensures rising { LegsRise legs.new.items }
-    ensures len { length legs.new.items ≡ length legs.old.items }
-{
-    if let Some(place) = find_place(legs, lsp) {
-        legs[place].set_labels(in_label, out_label);
-    }
-}
-
-pub(crate) fn set_back(
-    legs: &mut Vec<BoxedLeg>,
-    lsp: Lsp,
-    back_in: Option<Label>,
-    back_out: Option<Label>,
-)
-    requires { LegsRise legs.old.items }
-    ensures changed { legs.new.items ≡ leg_changed lsp
-        (with_back_labels back_in back_out) legs.old.items }
-    ensures rising { LegsRise legs.new.items }
-    ensures len { length legs.new.items ≡ length legs.old.items }
-{
-    if let Some(place) = find_place(legs, lsp) {
-        legs[place].set_back(back_in, back_out);
+        legs[place].set(setting);
     }
 }

@@ -1,10 +1,13 @@
 //! One leg: its phase, its neighbours, and what it becomes.
 
 ghost use Rattle.std.specs.Prelude.{◌≡◌, IfOk};
+ghost use Rattle.ason_base.specs.declared.messages.Msg.TheVariants.{PathErr};
 ghost use Rattle.mesh_rules.specs.Legs.{closed, closing_phase, connected, following, is_armed, is_asked, is_beyond_asked, is_closing, is_held, is_in_use, is_node, is_over, is_work, neighbour_over, previous, reserved, with_phase};
 ghost use Rattle.node_legs.specs.LegTables.{begins_here};
 
-use ason_base::{Copied, Fibre, Label, Leg, LinkId, NodeId, OutOfMemory, Phase, Role};
+use ason_base::{
+    Copied, ErrCode, Fibre, Label, Leg, LinkId, Msg, NodeId, OutOfMemory, Phase, Role,
+};
 use mesh_rules::Neighbour;
 use std::alloc::Global;
 
@@ -112,6 +115,19 @@ pub fn is_over(neighbour: Option<Neighbour>, node: NodeId, link: LinkId) -> bool
     match neighbour {
         None => false,
         Some(neighbour) => neighbour.node == node && neighbour.fibre.link == link,
+    }
+}
+
+/// The PathErr of node `at` for the leg's LSP.
+pub fn path_err(leg: &Leg, at: NodeId, removed: bool, code: ErrCode) -> Msg
+    ensures { result ≡ PathErr leg.now.lsp leg.now.egress at removed code }
+{
+    Msg::PathErr {
+        lsp: leg.lsp,
+        egress: leg.egress,
+        at,
+        removed,
+        code,
     }
 }
 

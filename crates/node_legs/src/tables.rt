@@ -10,7 +10,7 @@ ghost use Rattle.mesh_rules.specs.Legs.{find_leg, with_leg, with_phase, without_
 ghost use Rattle.mesh_rules.specs.Reports.{with_fibre};
 ghost use Rattle.node_legs.specs.LegTables.{LegsRise, PutRefused, find_own, learnt, new_table, node_or_none, with_back_labels, with_labels, with_leg_changed};
 
-use crate::boxes::BoxedLeg;
+use crate::boxes::{BoxedLeg, Setting};
 use crate::legs;
 use ason_base::network::rows_of;
 use ason_base::routes::touches;
@@ -118,7 +118,7 @@ impl NodeTables {
         requires { IsSome (find_leg lsp.now self.old.legs) }
         ensures { self.new ≡ with_leg_changed lsp.now (with_phase p) self.old }
     {
-        legs::set_phase(&mut self.legs, *lsp, p);
+        legs::set(&mut self.legs, *lsp, Setting::InPhase(p));
     }
 
     /// Sets the labels of the leg of this LSP.
@@ -126,7 +126,7 @@ impl NodeTables {
         requires { IsSome (find_leg lsp.now self.old.legs) }
         ensures { self.new ≡ with_leg_changed lsp.now (with_labels in_label out_label) self.old }
     {
-        legs::set_labels(&mut self.legs, *lsp, in_label, out_label);
+        legs::set(&mut self.legs, *lsp, Setting::Labels(in_label, out_label));
     }
 
     /// Sets the labels of the backward direction of the leg of this LSP.
@@ -134,7 +134,7 @@ impl NodeTables {
         requires { IsSome (find_leg lsp.now self.old.legs) }
         ensures { self.new ≡ with_leg_changed lsp.now (with_back_labels back_in back_out) self.old }
     {
-        legs::set_back(&mut self.legs, *lsp, back_in, back_out);
+        legs::set(&mut self.legs, *lsp, Setting::BackLabels(back_in, back_out));
     }
 
     /// Law: the legs rise by LSP, and there are at most 4,096.

@@ -1,17 +1,17 @@
 use Rattle.std.proofs.lemmas.List.{length-set}
-use Rattle.node_legs.specs.LegTables.{is_of_lsp, with_back_labels}
+use Rattle.node_legs.specs.LegTables.{is_of_lsp}
+use Rattle.node_legs.specs.Settings.{with_setting}
 use Rattle.table_lists.proofs.Halved.{changed-found, changed-none}
-use Rattle.node_legs.proofs.legs.set_back.Goals as goal
+use Rattle.node_legs.proofs.legs.set.Goals as goal
 
 pub returns-in-Some-clause-changed : goal.returns-in-Some-clause-changed
 returns-in-Some-clause-changed c =
-    changed-found (is_of_lsp c.args.lsp) (with_back_labels c.args.back_in c.args.back_out) c.in-Some.ensures
-    c.deref.ensures.value c.index_mut.ensures.value c.set_back.ensures
+    changed-found (is_of_lsp c.args.lsp) (with_setting c.args.setting) c.in-Some.ensures c.deref.ensures.value
+    c.index_mut.ensures.value c.set.ensures
 
 pub returns-in_default-clause-changed : goal.returns-in_default-clause-changed
 returns-in_default-clause-changed c =
-    changed-none (is_of_lsp c.args.lsp) (with_back_labels c.args.back_in c.args.back_out) c.in_default.ensures
-    c.deref.ensures.value
+    changed-none (is_of_lsp c.args.lsp) (with_setting c.args.setting) c.in_default.ensures c.deref.ensures.value
 
 pub returns-in-Some-clause-len : goal.returns-in-Some-clause-len
 returns-in-Some-clause-len c = length-set _ _ _
