@@ -190,22 +190,29 @@ index-replaced of n change calls es after l before index stands is kept has set 
 
 -- The list of calls
 
+-- one call is the other, with the same LSPs
+pub record NamesAlike (c d : CallRec) : Type 0 where
+  pub number : c.call ≡ d.call
+  pub work : c.work ≡ d.work
+  pub back : c.back ≡ d.back
+
 -- neither LSP of the call
 pub calls-kept : (n : CallNo) (change : CallRec → CallRec) (t after : CallList) → AreCalls t →
-    ((c : CallRec) → (change c).call ≡ c.call) → ((c : CallRec) → (change c).work ≡ c.work) →
-    ((c : CallRec) → (change c).back ≡ c.back) → CallsRise after.calls.items →
+    ((c : CallRec) → NamesAlike (change c) c) → CallsRise after.calls.items →
     after.calls.items ≡ call_changed n change t.calls.items → after.works ≡ t.works → after.backs ≡ t.backs →
     AreCalls after
-calls-kept n change t after fit number work back rise changed works backs = record {
+calls-kept n change t after fit alike rise changed works backs = record {
   rise = rise;
   of_works =
       subst (λ es. IsIndexOf work_of after.calls.items es) (ap (λ v. v.items) (sym works))
       (subst (λ xs. IsIndexOf work_of xs t.works.items) (sym changed)
-      (index-kept work_of n change t.calls.items t.works.items fit.of_works number work));
+      (index-kept work_of n change t.calls.items t.works.items fit.of_works (λ c. (alike c).number)
+      (λ c. (alike c).work)));
   of_backs =
       subst (λ es. IsIndexOf back_of after.calls.items es) (ap (λ v. v.items) (sym backs))
       (subst (λ xs. IsIndexOf back_of xs t.backs.items) (sym changed)
-      (index-kept back_of n change t.calls.items t.backs.items fit.of_backs number back));
+      (index-kept back_of n change t.calls.items t.backs.items fit.of_backs (λ c. (alike c).number)
+      (λ c. (alike c).back)));
 }
 
 pub calls-as-before : (t after : CallList) → AreCalls t → after.calls.items ≡ t.calls.items → after.works ≡ t.works →
@@ -222,26 +229,10 @@ calls-as-before t after fit calls works backs = record {
 
 -- Reports
 
-pub reported-call : (role : Role) (f : Fibre) (c : CallRec) → (reported role f c).call ≡ c.call
-reported-call Work f c = refl
-reported-call Back f c = refl
+pub reported-same : (role : Role) (f : Fibre) (c : CallRec) → NamesAlike (reported role f c) c
+reported-same Work f c = record { number = refl; work = refl; back = refl }
+reported-same Back f c = record { number = refl; work = refl; back = refl }
 
-pub reported-work : (role : Role) (f : Fibre) (c : CallRec) → (reported role f c).work ≡ c.work
-reported-work Work f c = refl
-reported-work Back f c = refl
-
-pub reported-back : (role : Role) (f : Fibre) (c : CallRec) → (reported role f c).back ≡ c.back
-reported-back Work f c = refl
-reported-back Back f c = refl
-
-pub unreported-call : (role : Role) (f : Fibre) (c : CallRec) → (unreported role f c).call ≡ c.call
-unreported-call Work f c = refl
-unreported-call Back f c = refl
-
-pub unreported-work : (role : Role) (f : Fibre) (c : CallRec) → (unreported role f c).work ≡ c.work
-unreported-work Work f c = refl
-unreported-work Back f c = refl
-
-pub unreported-back : (role : Role) (f : Fibre) (c : CallRec) → (unreported role f c).back ≡ c.back
-unreported-back Work f c = refl
-unreported-back Back f c = refl
+pub unreported-same : (role : Role) (f : Fibre) (c : CallRec) → NamesAlike (unreported role f c) c
+unreported-same Work f c = record { number = refl; work = refl; back = refl }
+unreported-same Back f c = record { number = refl; work = refl; back = refl }

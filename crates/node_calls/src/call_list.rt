@@ -7,33 +7,32 @@ ghost use Rattle.node_calls.specs.CallLists.{AreCalls, GrewBy, HasRoom, IsEntryO
 ghost use Rattle.node_calls.specs.LspIndexes.{HasJust, IndexRises, IsSet, IsTakenOff, back_of, work_of};
 ghost use Rattle.node_calls.specs.CallTables.{call_changed, number_of, with_lsps};
 
-use crate::calls::{find_call, set_call, set_lsps, take_call};
+use crate::calls::{find_call, set_lsps, take_call};
 use crate::lsp_index::{LspOfCall, add, first_call, remove, replace};
 use ason_base::{CallNo, CallRec, Lsp, OutOfMemory, copy_all};
 use mesh_rules::CallChange;
 use std::alloc::Global;
+use table_lists::keyed::put_item;
 
-fn work_entry(call: Option<&CallRec>) -> Option<LspOfCall>
-    ensures { result ≡ entry_of work_of (option_copied call.entry) }
+// What a call has in the indexes of working and of backup LSPs.
+fn entries(call: Option<&CallRec>) -> (Option<LspOfCall>, Option<LspOfCall>)
+    ensures work { result.0 ≡ entry_of work_of (option_copied call.entry) }
+    ensures back { result.1 ≡ entry_of back_of (option_copied call.entry) }
 {
     match call {
-        None => None,
-        Some(call) => Some(LspOfCall {
-            lsp: call.work,
-            call: call.call,
-        }),
-    }
-}
-
-fn back_entry(call: Option<&CallRec>) -> Option<LspOfCall>
-    ensures { result ≡ entry_of back_of (option_copied call.entry) }
-{
-    match call {
-        None => None,
-        Some(call) => Some(LspOfCall {
-            lsp: call.back,
-            call: call.call,
-        }),
+        None => (None, None),
+        Some(call) => {
+            let number = call.call;
+            let work = LspOfCall {
+                lsp: call.work,
+                call: number,
+            };
+            let back = LspOfCall {
+                lsp: call.back,
+                call: number,
+            };
+            (Some(work), Some(back))
+        }
     }
 }
 
@@ -146,7 +145,7 @@ impl CallList {
     {
         let number = call.call;
         let before = find_call(&self.calls, number);
-        let (work, back) = (work_entry(before), back_entry(before));
+        let (work, back) = entries(before);
         put_entry(
             &mut self.works,
             work,
@@ -163,7 +162,7 @@ impl CallList {
                 call: number,
             },
         );
-        set_call(&mut self.calls, call);
+        put_item(&mut self.calls, call);
     }
 
     /// Takes the call of this number off.
@@ -175,7 +174,7 @@ impl CallList {
         ensures grew { GrewBy 0 self.old self.new }
     {
         let before = find_call(&self.calls, number);
-        let (work, back) = (work_entry(before), back_entry(before));
+        let (work, back) = entries(before);
         take_entry(&mut self.works, work, number);
         take_entry(&mut self.backs, back, number);
         take_call(&mut self.calls, number)
@@ -220,7 +219,7 @@ impl CallList {
         ensures fit { AreCalls self.new }
     {
         let before = find_call(&self.calls, number);
-        let (work_before, back_before) = (work_entry(before), back_entry(before));
+        let (work_before, back_before) = entries(before);
         change_entry(&mut self.works, work_before, work);
         change_entry(&mut self.backs, back_before, back);
         set_lsps(&mut self.calls, alloc, number, work, back);

@@ -2,13 +2,13 @@
 
 ghost use Rattle.std.specs.Prelude.{◌≡◌, ◌≤◌, ◌<◌, ◌+◌, [], IfOk, None, OnErr, OnOk, Some, length, position, slice_get, true, vec_capacity, vec_len};
 ghost use Rattle.std.specs.Option.{option_copied};
-ghost use Rattle.mesh_rules.specs.Calls.{find_call, with_call, without_call};
+ghost use Rattle.mesh_rules.specs.Calls.{find_call, without_call};
 ghost use Rattle.node_calls.specs.CallTables.{CallsRise, call_changed, in_state, is_kept, reported, reports_left, unreported, with_lsps};
 
 use ason_base::{CallNo, CallRec, CallState, Cause, Fibre, Fibres, Lsp, OutOfMemory, Role};
 use std::alloc::Global;
 use table_lists::add_fibre;
-use table_lists::keyed::{find_item, find_place, put_item, take_item};
+use table_lists::keyed::{find_item, find_place, take_item};
 
 fn number_of(call: &CallRec) -> u16
     ensures number { result ≡ call.now.call.0 }
@@ -35,18 +35,6 @@ pub(crate) fn find_call(calls: &[CallRec], number: CallNo) -> Option<&CallRec>
     ensures { option_copied result ≡ find_call number calls.now }
 {
     find_item(calls, number)
-}
-
-/// Puts the call in the place of the one of its number, or before the greater ones. There is room for it.
-pub(crate) fn set_call(calls: &mut Vec<CallRec>, call: CallRec)
-    requires rising { CallsRise calls.old.items }
-    requires room { vec_len calls.old < vec_capacity calls.old }
-    ensures items { calls.new.items ≡ with_call call calls.old.items }
-    ensures rising { CallsRise calls.new.items }
-    ensures len { vec_len calls.new ≤ vec_len calls.old + 1 }
-    ensures capacity { vec_capacity calls.new ≡ vec_capacity calls.old }
-{
-    put_item(calls, call);
 }
 
 pub(crate) fn take_call(calls: &mut Vec<CallRec>, number: CallNo) -> Option<CallRec>

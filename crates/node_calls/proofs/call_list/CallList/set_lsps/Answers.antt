@@ -9,12 +9,12 @@ use Rattle.node_calls.proofs.call_list.CallList.set_lsps.Goals as goal
 pub change_entry-requires-clause-just : goal.change_entry-requires-clause-just
 change_entry-requires-clause-just c =
     entry-just work_of c.args.number c.requires.fit.of_works c.find_call-before.ensures c.deref.ensures.value
-    c.work_entry-work_before.ensures
+    c.entries-work_before.ensures.work
 
 pub change_entry-requires-2-clause-just : goal.change_entry-requires-2-clause-just
 change_entry-requires-2-clause-just c =
     entry-just back_of c.args.number c.requires.fit.of_backs c.find_call-before.ensures c.deref.ensures.value
-    c.back_entry-back_before.ensures
+    c.entries-work_before.ensures.back
 
 pub returns-clause-fit : goal.returns-clause-fit
 returns-clause-fit c =
@@ -28,14 +28,14 @@ returns-clause-fit c =
           subst (λ xs. IsIndexOf work_of xs c.change_entry.new.entries.items) (sym c.set_lsps.ensures.changed)
           (index-replaced work_of n change calls c.args.self.now.works.items
           c.change_entry.new.entries.items c.args.work
-          c.work_entry-work_before.result c.requires.fit.of_works c.requires.stands
-          (c.work_entry-work_before.ensures ∙ ap (entry_of work_of) found) (λ d. refl) (λ d. refl)
+          c.entries-work_before.result.0 c.requires.fit.of_works c.requires.stands
+          (c.entries-work_before.ensures.work ∙ ap (entry_of work_of) found) (λ d. refl) (λ d. refl)
           c.change_entry.ensures.set);
       of_backs =
           subst (λ xs. IsIndexOf back_of xs c.change_entry-2.new.entries.items) (sym c.set_lsps.ensures.changed)
           (index-replaced back_of n change calls c.args.self.now.backs.items
           c.change_entry-2.new.entries.items c.args.back
-          c.back_entry-back_before.result c.requires.fit.of_backs c.requires.stands
-          (c.back_entry-back_before.ensures ∙ ap (entry_of back_of) found) (λ d. refl) (λ d. refl)
+          c.entries-work_before.result.1 c.requires.fit.of_backs c.requires.stands
+          (c.entries-work_before.ensures.back ∙ ap (entry_of back_of) found) (λ d. refl) (λ d. refl)
           c.change_entry-2.ensures.set);
     }

@@ -6,12 +6,12 @@ use Rattle.node_calls.proofs.call_list.CallList.take.Goals as goal
 pub take_entry-requires-clause-before : goal.take_entry-requires-clause-before
 take_entry-requires-clause-before c =
     entry-found work_of c.args.number c.requires.of_works c.find_call-before.ensures c.deref.ensures.value
-    c.work_entry-work.ensures
+    c.entries-work.ensures.work
 
 pub take_entry-requires-2-clause-before : goal.take_entry-requires-2-clause-before
 take_entry-requires-2-clause-before c =
     entry-found back_of c.args.number c.requires.of_backs c.find_call-before.ensures c.deref.ensures.value
-    c.back_entry-back.ensures
+    c.entries-work.ensures.back
 
 pub returns-clause-fit : goal.returns-clause-fit
 returns-clause-fit c =

@@ -6,4 +6,5 @@ use Rattle.node_calls.proofs.call_table.Calls.set_state.Goals as goal
 pub invariant_of-self : goal.invariant_of-self
 invariant_of-self c =
     calls-kept c.args.call (in_state c.args.state c.args.cause c.args.ticks) c.self.inside.list _ c.self.invariant
-    (λ d. refl) (λ d. refl) (λ d. refl) c.set_state.ensures.rising c.set_state.ensures.changed refl refl
+    (λ d. record { number = refl; work = refl; back = refl }) c.set_state.ensures.rising c.set_state.ensures.changed refl
+    refl

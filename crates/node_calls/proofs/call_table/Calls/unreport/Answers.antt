@@ -1,11 +1,11 @@
 use Rattle.std.proofs.Common.{refl}
 use Rattle.node_calls.specs.CallTables.{unreported}
-use Rattle.node_calls.proofs.CallIndexes.{calls-kept, unreported-back, unreported-call, unreported-work}
+use Rattle.node_calls.proofs.CallIndexes.{calls-kept, unreported-same}
 use Rattle.node_calls.proofs.call_table.Calls.unreport.Goals as goal
 
 pub invariant_of-self : goal.invariant_of-self
 invariant_of-self c =
     let role = c.args.role in
     let f = c.args.f in
-    calls-kept c.args.call (unreported role f) c.self.inside.list _ c.self.invariant (unreported-call role f)
-    (unreported-work role f) (unreported-back role f) c.unreport.ensures.rising c.unreport.ensures.changed refl refl
+    calls-kept c.args.call (unreported role f) c.self.inside.list _ c.self.invariant (unreported-same role f)
+    c.unreport.ensures.rising c.unreport.ensures.changed refl refl
