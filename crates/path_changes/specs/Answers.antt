@@ -98,8 +98,8 @@ abbrev pub ended_here : LegTable → PathRequest → LinkSpec → List Risk → 
 ended_here t m link risks offered = at_egress (local_of t) m link risks offered (least offered)
 
 -- the Path that goes on over this link from the leg
-abbrev pub path_on : PathRequest → LinkSpec → Leg → Msg
-path_on m out g = Path m.arrival.lsp m.arrival.egress out.id g.route g.sent g.back_in m.role
+abbrev pub path_on : PathRequest → LinkId → Leg → Msg
+path_on m k g = Path m.arrival.lsp m.arrival.egress k g.route g.sent g.back_in m.role
 
 abbrev pub passed_over : LegTable → PathRequest → LinkSpec → List Risk → List ℕ → Option ℕ → Option LinkSpec → Answer
 passed_over t m link risks offered back None = nothing

@@ -2,53 +2,30 @@
 
 ghost use Rattle.std.specs.Prelude.{◌≡◌, ◌≤◌, false, IfErr, IfOk, IsTrue, OnOk};
 ghost use Rattle.std.specs.Option.{option_copied};
-ghost use Rattle.mesh_rules.specs.Paths.{is_active, leads_on, link_on, recorded, role_of, set_on};
+ghost use Rattle.mesh_rules.specs.Paths.{leads_on, link_on, recorded, role_of, set_on};
 ghost use Rattle.mesh_nodes.specs.LocalNodes.{LocalNodeFits};
 ghost use Rattle.leg_table.specs.Fits.{TablesFit};
 ghost use Rattle.leg_table.specs.States.{local_of};
-ghost use Rattle.path_changes.specs.Answers.{IsUnknownFor, admitted_here, asked_here, back_here, back_over, comes_back, comes_over, ended_here, first_here, is_down_here, is_unknown_here, judged_here, known_here, labelled_here, lacks_way_back, offered_here, passed_here, path_answer, path_here, path_on, recorded_here, refused_here};
+ghost use Rattle.path_changes.specs.Answers.{IsUnknownFor, asked_here, back_here, back_over, comes_back, comes_over, ended_here, is_down_here, is_unknown_here, judged_here, known_here, labelled_here, lacks_way_back, offered_here, passed_here, path_answer, path_here, path_on, recorded_here, refused_here};
 
 use ason_base::codes::{DOWN, FULL, LABEL, PRIMARY, ROUTE, SET};
 use ason_base::routes::other_end;
 use ason_base::{
-    Copied, ErrCode, Label, LabelSet, Leg, LinkSpec, Lsp, Msg, NodeId, OutOfMemory, PathRole,
+    Copied, ErrCode, Label, LabelSet, Leg, LinkId, LinkSpec, Msg, NodeId, OutOfMemory, PathRole,
     Phase, RiskFault, RiskSet, Role, Step, Steps,
 };
 use leg_labels::{label_through, usable};
+use leg_table::changes::Changed;
 use leg_table::one_leg::reserved;
 use leg_table::{Change, NodeTables};
 use link_owner::Owner;
-use mesh_rules::Arrival;
 use mesh_rules::limits::MOST_LEGS;
 use mesh_rules::links::{fibre_in, fibre_out, leads, reverse};
+use mesh_rules::readings::path_request;
+use mesh_rules::roles::is_active;
+use mesh_rules::{Arrival, PathRequest};
 use share_check::Shares;
 use std::alloc::Global;
-use std::marker::Model;
-
-/// What a Path asks for: of which LSP and from where it came, over which steps from here, with
-/// which labels, with which label for the way back of a two-way LSP, and for what.
-#[derive(Drop)]
-struct PathRequest<'a> {
-    arrival: Arrival,
-    route: &'a Steps,
-    set: &'a LabelSet,
-    upstream: Option<Label>,
-    role: &'a PathRole,
-}
-
-impl<'a> Model for PathRequest<'a> {
-    ghost use Rattle.mesh_rules.specs.Paths as paths;
-
-    ghost Value = { paths.PathRequest };
-
-    ghost view = { λ m. record {
-      arrival = m.arrival;
-      route = m.route.now;
-      set = m.set.now;
-      upstream = m.upstream;
-      role = m.role.now;
-    } };
-}
 
 // Refusals
 
@@ -164,12 +141,7 @@ fn is_down(tables: &NodeTables, link: &LinkSpec) -> bool
     tables.is_down(fibre_in(link, tables.node().id))
 }
 
-fn refuse(
-    alloc: Global,
-    tables: &NodeTables,
-    arrival: Arrival,
-    code: ErrCode,
-) -> Result<Change, OutOfMemory>
+fn refuse(alloc: Global, tables: &NodeTables, arrival: Arrival, code: ErrCode) -> Changed
     ensures { IfOk result (λ c. c ≡ refused_here tables.now arrival code) }
 {
     let msg = Msg::PathErr {
@@ -184,10 +156,12 @@ fn refuse(
 
 // Legs
 
-// What a leg that a Path makes may have: the labels of the fibre in from which one is taken, the
-// label for the way back, and the risks that it records.
+// What a leg that this Path makes, which came by this link, may have: the labels of the fibre in
+// from which one is taken, the label for the way back, and the risks that it records.
 #[derive(Drop)]
-struct Offer {
+struct Offer<'a> {
+    request: &'a PathRequest<'a>,
+    link: &'a LinkSpec,
     risks: RiskSet,
     labels: LabelSet,
     back: Option<Label>,
@@ -227,17 +201,17 @@ fn asked_leg(
 }
 
 // At the egress the leg has its label at once.
-fn end_here(
-    alloc: Global,
-    tables: &NodeTables,
-    request: &PathRequest<'_>,
-    link: &LinkSpec,
-    offer: Offer,
-) -> Result<Change, OutOfMemory>
-    ensures { IfOk result
-        (λ c. c ≡ ended_here tables.now request.now link.now offer.risks offer.labels) }
+fn end_here(alloc: Global, tables: &NodeTables, offer: Offer<'_>) -> Changed
+    ensures { IfOk result (λ c. c ≡ ended_here tables.now offer.entry.request.now
+        offer.entry.link.now offer.entry.risks offer.entry.labels) }
 {
-    let Offer { risks, labels, .. } = offer;
+    let Offer {
+        request,
+        link,
+        risks,
+        labels,
+        ..
+    } = offer;
     let Some(label) = labels.least() else {
         return Ok(Change::nothing(alloc));
     };
@@ -268,15 +242,15 @@ fn set_on(tables: &NodeTables, out: &LinkSpec, offered: &LabelSet) -> LabelSet
 fn path_on(
     alloc: Global,
     request: &PathRequest<'_>,
-    out: &LinkSpec,
+    link: LinkId,
     leg: &Leg,
 ) -> Result<Msg, OutOfMemory>
-    ensures { IfOk result (λ m. m ≡ path_on request.now out.now leg.now) }
+    ensures { IfOk result (λ m. m ≡ path_on request.now link leg.now) }
 {
     Ok(Msg::Path {
         lsp: request.arrival.lsp,
         egress: request.arrival.egress,
-        link: out.id,
+        link,
         route: leg.route.copy(alloc)?,
         set: leg.sent.copy(),
         upstream: leg.back_in,
@@ -285,23 +259,18 @@ fn path_on(
 }
 
 // The Path goes on over this step.
-fn pass_on(
-    alloc: Global,
-    tables: &NodeTables,
-    request: &PathRequest<'_>,
-    link: &LinkSpec,
-    hop: Step,
-    offer: Offer,
-) -> Result<Change, OutOfMemory>
+fn pass_on(alloc: Global, tables: &NodeTables, hop: Step, offer: Offer<'_>) -> Changed
     requires { LocalNodeFits (local_of tables.now) }
-    ensures { IfOk result (λ c. c ≡
-        passed_here tables.now request.now link.now offer.risks offer.labels offer.back hop.link) }
+    ensures { IfOk result (λ c. c ≡ passed_here tables.now offer.entry.request.now
+        offer.entry.link.now offer.entry.risks offer.entry.labels offer.entry.back hop.link) }
 {
     let here = tables.node().id;
     let Some(out) = tables.own(hop.link) else {
         return Ok(Change::nothing(alloc));
     };
     let Offer {
+        request,
+        link,
         risks,
         labels,
         back,
@@ -313,25 +282,8 @@ fn pass_on(
     leg.back_in = back;
     leg.sent = sent;
     leg.route = request.route.copy_from(alloc, 1)?;
-    let msg = path_on(alloc, request, out, &leg)?;
+    let msg = path_on(alloc, request, out.id, &leg)?;
     Change::puts(alloc, leg, other_end(out, here), msg)
-}
-
-fn admit(
-    alloc: Global,
-    tables: &NodeTables,
-    request: &PathRequest<'_>,
-    link: &LinkSpec,
-    offer: Offer,
-) -> Result<Change, OutOfMemory>
-    requires { LocalNodeFits (local_of tables.now) }
-    ensures { IfOk result (λ c. c ≡
-        admitted_here tables.now request.now link.now offer.risks offer.labels offer.back) }
-{
-    match request.route.items().first() {
-        None => end_here(alloc, tables, request, link, offer),
-        Some(&hop) => pass_on(alloc, tables, request, link, hop, offer),
-    }
 }
 
 // Whether the Path goes on from here and asks for a way back, and there is no label for it.
@@ -345,23 +297,21 @@ fn lacks_back(tables: &NodeTables, request: &PathRequest<'_>, back: Option<Label
 }
 
 // Where no label is left, there or for the way back, the Path is refused.
-fn admit_labelled(
-    alloc: Global,
-    tables: &NodeTables,
-    request: &PathRequest<'_>,
-    link: &LinkSpec,
-    offer: Offer,
-) -> Result<Change, OutOfMemory>
+fn admit_labelled(alloc: Global, tables: &NodeTables, offer: Offer<'_>) -> Changed
     requires { LocalNodeFits (local_of tables.now) }
-    ensures { IfOk result (λ c. c ≡
-        labelled_here tables.now request.now link.now offer.risks offer.labels offer.back) }
+    ensures { IfOk result (λ c. c ≡ labelled_here tables.now offer.entry.request.now
+        offer.entry.link.now offer.entry.risks offer.entry.labels offer.entry.back) }
 {
+    let request = offer.request;
     if offer.labels.least().is_none() {
-        refuse(alloc, tables, request.arrival, SET)
-    } else if lacks_back(tables, request, offer.back) {
-        refuse(alloc, tables, request.arrival, LABEL)
-    } else {
-        admit(alloc, tables, request, link, offer)
+        return refuse(alloc, tables, request.arrival, SET);
+    }
+    if lacks_back(tables, request, offer.back) {
+        return refuse(alloc, tables, request.arrival, LABEL);
+    }
+    match request.route.items().first() {
+        None => end_here(alloc, tables, offer),
+        Some(&hop) => pass_on(alloc, tables, hop, offer),
     }
 }
 
@@ -373,7 +323,7 @@ fn judge(
     shares: &Shares,
     request: &PathRequest<'_>,
     link: &LinkSpec,
-) -> Result<Change, OutOfMemory>
+) -> Changed
     requires fits { TablesFit tables.now owner.now shares.now }
     requires link { IsTrue (comes_over tables.now link.now) }
     ensures { IfOk result (λ c. c ≡ judged_here tables.now request.now link.now) }
@@ -390,38 +340,35 @@ fn judge(
             let labels = offered_labels(tables, owner, shares, request, link, &risks);
             let back = back_label(tables, owner, shares, request, &risks);
             let offer = Offer {
+                request,
+                link,
                 risks,
                 labels,
                 back,
             };
-            admit_labelled(alloc, tables, request, link, offer)
+            admit_labelled(alloc, tables, offer)
         }
         Err(RiskFault::Unknown(_)) => refuse(alloc, tables, request.arrival, PRIMARY),
         Err(RiskFault::OutOfMemory) => Err(OutOfMemory),
     }
 }
 
-fn is_active(role: &PathRole) -> bool
-    ensures { result ≡ is_active role.now }
-{
-    match role {
-        PathRole::Work { .. } => false,
-        PathRole::Back { active, .. } => *active,
-    }
-}
-
-fn first_path(
+// A Path makes a leg where none of its LSP stands.
+fn on_path(
     alloc: Global,
     tables: &NodeTables,
     owner: &Owner,
     shares: &Shares,
     request: &PathRequest<'_>,
-) -> Result<Change, OutOfMemory>
+) -> Changed
     requires { TablesFit tables.now owner.now shares.now }
-    ensures { IfOk result (λ c. c ≡ first_here tables.now request.now) }
+    ensures { IfOk result (λ c. c ≡ path_here tables.now request.now) }
 {
     let arrival = request.arrival;
     let here = tables.node().id;
+    let None = tables.get(&arrival.lsp) else {
+        return Ok(Change::nothing(alloc));
+    };
     let Some(link) = tables.own(arrival.link) else {
         return Ok(Change::nothing(alloc));
     };
@@ -429,22 +376,6 @@ fn first_path(
         judge(alloc, tables, owner, shares, request, link)
     } else {
         Ok(Change::nothing(alloc))
-    }
-}
-
-fn on_path(
-    alloc: Global,
-    tables: &NodeTables,
-    owner: &Owner,
-    shares: &Shares,
-    request: &PathRequest<'_>,
-) -> Result<Change, OutOfMemory>
-    requires { TablesFit tables.now owner.now shares.now }
-    ensures { IfOk result (λ c. c ≡ path_here tables.now request.now) }
-{
-    match tables.get(&request.arrival.lsp) {
-        None => first_path(alloc, tables, owner, shares, request),
-        Some(_) => Ok(Change::nothing(alloc)),
     }
 }
 
@@ -458,37 +389,12 @@ pub fn path_change(
     shares: &Shares,
     from: NodeId,
     msg: &Msg,
-) -> Result<Change, OutOfMemory>
+) -> Changed
     requires { TablesFit tables.now owner.now shares.now }
     ensures { IfOk result (λ c. c ≡ path_answer tables.now from msg.now) }
 {
-    match msg {
-        Msg::Path {
-            lsp,
-            egress,
-            link,
-            route,
-            set,
-            upstream,
-            role,
-        } => {
-            let arrival = Arrival {
-                lsp: *lsp,
-                egress: *egress,
-                from,
-                link: *link,
-            };
-            let request = PathRequest {
-                arrival,
-                route,
-                set,
-                upstream: *upstream,
-                role,
-            };
-            on_path(alloc, tables, owner, shares, &request)
-        }
-        Msg::Resv { .. } | Msg::PathTear { .. } | Msg::PathErr { .. } | Msg::Notify { .. } => {
-            Ok(Change::nothing(alloc))
-        }
+    match path_request(from, msg) {
+        None => Ok(Change::nothing(alloc)),
+        Some(request) => on_path(alloc, tables, owner, shares, &request),
     }
 }

@@ -2,7 +2,7 @@ use Rattle.std.proofs.Common.{◌≡◌, ◌∙◌, true, sym, subst}
 use Rattle.std.specs.Prelude.{Some}
 use Rattle.mesh_rules.specs.LocalNodes.{leads}
 use Rattle.leg_labels.proofs.InFibres.{sender-fibre_in}
-use Rattle.path_changes.proofs.paths.first_path.Goals as goal
+use Rattle.path_changes.proofs.paths.on_path.Goals as goal
 
 pub judge-requires-clause-link : goal.judge-requires-clause-link
 judge-requires-clause-link c =
