@@ -11,6 +11,7 @@ use Rattle.ason_base.specs.declared.messages.PathRole.TheVariants.{Work, Back}
 use Rattle.ason_base.specs.declared.steps.Step.{Step}
 use Rattle.ason_base.specs.declared.tables.Leg.{Leg}
 use Rattle.mesh_rules.specs.declared.arrivals.Arrival.{Arrival}
+use Rattle.mesh_rules.specs.declared.arrivals.GivenLabel.{GivenLabel}
 use Rattle.mesh_rules.specs.ActivationAnswers.{contended, disarmed, is_confirmed, resv_again}
 use Rattle.mesh_rules.specs.Activations.{activated, busy_to, path_again, resv_to}
 use Rattle.mesh_rules.specs.Changes.{Answer, nothing, puts, sends}
@@ -65,6 +66,13 @@ connected_here a x (Some g) = resv_again new_node a x g
 abbrev pub carries_leg : Arrival → ℕ → Option Leg → Bool
 carries_leg a x None = false
 carries_leg a x (Some g) = is_confirmed a x g && begins_here g
+
+-- of the leg of its LSP
+abbrev pub connected_by : LegTable → GivenLabel → Answer
+connected_by t given = connected_here given.arrival given.label (find_leg given.arrival.lsp t.legs)
+
+abbrev pub carries_by : LegTable → GivenLabel → Bool
+carries_by t given = carries_leg given.arrival given.label (find_leg given.arrival.lsp t.legs)
 
 -- A PathErr without Path_State_Removed
 

@@ -9,6 +9,6 @@ mod resvs;
 mod taken_back;
 
 pub use path_errs::{busy_change, contends};
-pub use paths::{activate_change, is_active};
+pub use paths::activate_change;
 pub use resvs::{carries, connect_change};
 pub use taken_back::take_back_change;

@@ -5,13 +5,14 @@ ghost use Rattle.std.specs.Prelude.{◌≡◌, IfOk};
 ghost use Rattle.mesh_rules.specs.Legs.{find_leg};
 ghost use Rattle.activation_changes.specs.Answers.{busy_answer, contended_here, contends, contends_leg, disarmed_here};
 
-use ason_base::{Copied, Leg, Lsp, Msg, NodeId, OutOfMemory, Phase};
+use ason_base::{Copied, Leg, Lsp, Msg, NodeId, Phase};
+use leg_table::changes::Changed;
 use leg_table::one_leg::{begins_here, following, is_armed, is_node, previous, with_phase};
 use leg_table::{Change, NodeTables};
 use std::alloc::Global;
 
 // The leg is Held again, and the PathErr is passed back; where it begins here nothing is sent.
-fn disarm(alloc: Global, leg: &Leg, msg: &Msg) -> Result<Change, OutOfMemory>
+fn disarm(alloc: Global, leg: &Leg, msg: &Msg) -> Changed
     ensures { IfOk result (λ c. c ≡ disarmed_here leg.now msg.now) }
 {
     let mut change = Change::nothing(alloc);
@@ -22,13 +23,7 @@ fn disarm(alloc: Global, leg: &Leg, msg: &Msg) -> Result<Change, OutOfMemory>
     Ok(change)
 }
 
-fn on_path_err(
-    alloc: Global,
-    tables: &NodeTables,
-    from: NodeId,
-    lsp: Lsp,
-    msg: &Msg,
-) -> Result<Change, OutOfMemory>
+fn on_path_err(alloc: Global, tables: &NodeTables, from: NodeId, lsp: Lsp, msg: &Msg) -> Changed
     ensures { IfOk result (λ c. c ≡ contended_here from msg.now (find_leg lsp tables.now.legs)) }
 {
     match tables.get(&lsp) {
@@ -62,12 +57,7 @@ pub fn contends(tables: &NodeTables, from: NodeId, msg: &Msg) -> bool
 /// What a PathErr without Path_State_Removed would change and send: a leg that is Armed is Held
 /// again, and the PathErr goes back unchanged. A PathErr at another leg, one that tells that the
 /// state was removed, and a message of another kind, do nothing.
-pub fn busy_change(
-    alloc: Global,
-    tables: &NodeTables,
-    from: NodeId,
-    msg: &Msg,
-) -> Result<Change, OutOfMemory>
+pub fn busy_change(alloc: Global, tables: &NodeTables, from: NodeId, msg: &Msg) -> Changed
     ensures { IfOk result (λ c. c ≡ busy_answer tables.now from msg.now) }
 {
     match msg {

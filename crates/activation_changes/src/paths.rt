@@ -4,7 +4,6 @@ ghost use Rattle.std.specs.Prelude.{◌≡◌, IfOk, drop};
 ghost use Rattle.ason_base.specs.declared.messages.Msg.TheVariants.{Path};
 ghost use Rattle.mesh_rules.specs.Activations.{armed_on};
 ghost use Rattle.mesh_rules.specs.Legs.{following};
-ghost use Rattle.mesh_rules.specs.Paths.{is_active};
 ghost use Rattle.leg_table.specs.LegClaims.{ClaimsFit};
 ghost use Rattle.activation_changes.specs.Answers.{activate_answer, activated_here, activating_here, busy_here};
 
@@ -12,33 +11,20 @@ use crate::resvs::go_live;
 use ason_base::codes::BUSY;
 use ason_base::{Copied, Leg, LinkId, Msg, NodeId, OutOfMemory, PathRole, Phase, Steps};
 use leg_labels::is_contended;
-use leg_table::one_leg::{following, is_held, is_over, previous, with_phase};
+use leg_table::changes::Changed;
+use leg_table::one_leg::{following, is_held, is_over, path_err, previous, with_phase};
 use leg_table::{Change, NodeTables};
 use link_owner::Owner;
-use mesh_rules::Arrival;
+use mesh_rules::PathRequest;
+use mesh_rules::readings::path_request;
+use mesh_rules::roles::is_active;
 use std::alloc::Global;
 
 // A label of the leg is in use: the sender is told, and the leg stays.
-fn refuse(alloc: Global, tables: &NodeTables, leg: &Leg, to: NodeId) -> Result<Change, OutOfMemory>
+fn refuse(alloc: Global, tables: &NodeTables, leg: &Leg, to: NodeId) -> Changed
     ensures { IfOk result (λ c. c ≡ busy_here tables.now leg.now to) }
 {
-    let msg = Msg::PathErr {
-        lsp: leg.lsp,
-        egress: leg.egress,
-        at: tables.node().id,
-        removed: false,
-        code: BUSY,
-    };
-    Change::sends(alloc, to, msg)
-}
-
-/// A Path where a leg of its LSP stands: from where it came, over which steps from here, and for
-/// what.
-#[derive(Drop)]
-pub(crate) struct PathAgain<'a> {
-    pub(crate) arrival: Arrival,
-    pub(crate) route: &'a Steps,
-    pub(crate) role: &'a PathRole,
+    Change::sends(alloc, to, path_err(leg, tables.node().id, false, BUSY))
 }
 
 /// The Path that goes on over this link, with the steps that are left.
@@ -65,7 +51,7 @@ pub(crate) fn path_on(
 
 // The leg is Armed and the Path goes on, over the steps that are left; at the egress it is Live and
 // a Resv goes back.
-fn arm(alloc: Global, leg: &Leg, route: &Steps, role: &PathRole) -> Result<Change, OutOfMemory>
+fn arm(alloc: Global, leg: &Leg, route: &Steps, role: &PathRole) -> Changed
     ensures { IfOk result
         (λ c. c ≡ armed_on leg.now (drop 1 route.now) role.now (following leg.now)) }
 {
@@ -80,12 +66,12 @@ fn activate_leg(
     alloc: Global,
     tables: &NodeTables,
     owner: &Owner,
-    path: &PathAgain<'_>,
+    path: &PathRequest<'_>,
     leg: &Leg,
-) -> Result<Change, OutOfMemory>
+) -> Changed
     requires { ClaimsFit tables.now.legs owner.now }
     ensures { IfOk result (λ c. c ≡ activated_here tables.now path.now.arrival
-        (drop 1 path.now.route.now) path.now.role.now leg.now) }
+        (drop 1 path.now.route) path.now.role leg.now) }
 {
     if is_contended(tables, owner, leg) {
         refuse(alloc, tables, leg, path.arrival.from)
@@ -94,25 +80,10 @@ fn activate_leg(
     }
 }
 
-/// Whether a Path with this role activates a backup.
-pub fn is_active(role: &PathRole) -> bool
-    ensures { result ≡ is_active role.now }
-{
-    match role {
-        PathRole::Work { .. } => false,
-        PathRole::Back { active, .. } => *active,
-    }
-}
-
-fn on_path(
-    alloc: Global,
-    tables: &NodeTables,
-    owner: &Owner,
-    path: &PathAgain<'_>,
-) -> Result<Change, OutOfMemory>
+fn on_path(alloc: Global, tables: &NodeTables, owner: &Owner, path: &PathRequest<'_>) -> Changed
     requires { ClaimsFit tables.now.legs owner.now }
     ensures { IfOk result (λ c. c ≡ activating_here tables.now path.now.arrival
-        (drop 1 path.now.route.now) path.now.role.now) }
+        (drop 1 path.now.route) path.now.role) }
 {
     match tables.get(&path.arrival.lsp) {
         Some(leg)
@@ -135,34 +106,12 @@ pub fn activate_change(
     owner: &Owner,
     from: NodeId,
     msg: &Msg,
-) -> Result<Change, OutOfMemory>
+) -> Changed
     requires { ClaimsFit tables.now.legs owner.now }
     ensures { IfOk result (λ c. c ≡ activate_answer tables.now from msg.now) }
 {
-    match msg {
-        Msg::Path {
-            lsp,
-            egress,
-            link,
-            route,
-            role,
-            ..
-        } => {
-            let arrival = Arrival {
-                lsp: *lsp,
-                egress: *egress,
-                from,
-                link: *link,
-            };
-            let path = PathAgain {
-                arrival,
-                route,
-                role,
-            };
-            on_path(alloc, tables, owner, &path)
-        }
-        Msg::Resv { .. } | Msg::PathTear { .. } | Msg::PathErr { .. } | Msg::Notify { .. } => {
-            Ok(Change::nothing(alloc))
-        }
+    match path_request(from, msg) {
+        None => Ok(Change::nothing(alloc)),
+        Some(path) => on_path(alloc, tables, owner, &path),
     }
 }

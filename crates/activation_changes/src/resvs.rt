@@ -2,25 +2,26 @@
 
 ghost use Rattle.std.specs.Prelude.{◌≡◌, IfOk};
 ghost use Rattle.mesh_rules.specs.ActivationAnswers.{is_confirmed};
-ghost use Rattle.mesh_rules.specs.Legs.{find_leg};
-ghost use Rattle.activation_changes.specs.Answers.{carries, carries_leg, connect_answer, connected_here, live_here};
+ghost use Rattle.activation_changes.specs.Answers.{carries, connect_answer, connected_by, live_here};
 
-use ason_base::{Label, Leg, Msg, NodeId, OutOfMemory, Phase};
+use ason_base::{Leg, Msg, NodeId, Phase};
+use leg_table::changes::Changed;
 use leg_table::one_leg::{begins_here, following, is_armed, is_over, previous, with_phase};
 use leg_table::{Change, NodeTables};
-use mesh_rules::Arrival;
+use mesh_rules::GivenLabel;
+use mesh_rules::readings::given_label;
 use std::alloc::Global;
 
-fn is_confirmed(arrival: Arrival, label: Label, leg: &Leg) -> bool
-    ensures { result ≡ is_confirmed arrival label leg.now }
+fn is_confirmed(given: GivenLabel, leg: &Leg) -> bool
+    ensures { result ≡ is_confirmed given.arrival given.label leg.now }
 {
     is_armed(leg.phase)
-        && is_over(following(leg), arrival.from, arrival.link)
-        && leg.out_label == Some(label)
+        && is_over(following(leg), given.arrival.from, given.arrival.link)
+        && leg.out_label == Some(given.label)
 }
 
 /// The leg is Live, and a Resv with its label in goes back; where it begins here nothing is sent.
-pub(crate) fn go_live(alloc: Global, leg: &Leg) -> Result<Change, OutOfMemory>
+pub(crate) fn go_live(alloc: Global, leg: &Leg) -> Changed
     ensures { IfOk result (λ c. c ≡ live_here leg.now) }
 {
     let mut change = Change::nothing(alloc);
@@ -37,27 +38,12 @@ pub(crate) fn go_live(alloc: Global, leg: &Leg) -> Result<Change, OutOfMemory>
     Ok(change)
 }
 
-fn on_resv(
-    alloc: Global,
-    tables: &NodeTables,
-    arrival: Arrival,
-    label: Label,
-) -> Result<Change, OutOfMemory>
-    ensures { IfOk result
-        (λ c. c ≡ connected_here arrival label (find_leg arrival.lsp tables.now.legs)) }
+fn on_resv(alloc: Global, tables: &NodeTables, given: GivenLabel) -> Changed
+    ensures { IfOk result (λ c. c ≡ connected_by tables.now given) }
 {
-    match tables.get(&arrival.lsp) {
-        Some(leg) if is_confirmed(arrival, label, leg) => go_live(alloc, leg),
+    match tables.get(&given.arrival.lsp) {
+        Some(leg) if is_confirmed(given, leg) => go_live(alloc, leg),
         _ => Ok(Change::nothing(alloc)),
-    }
-}
-
-fn carries_leg(tables: &NodeTables, arrival: Arrival, label: Label) -> bool
-    ensures { result ≡ carries_leg arrival label (find_leg arrival.lsp tables.now.legs) }
-{
-    match tables.get(&arrival.lsp) {
-        None => false,
-        Some(leg) => is_confirmed(arrival, label, leg) && begins_here(leg),
     }
 }
 
@@ -66,52 +52,22 @@ fn carries_leg(tables: &NodeTables, arrival: Arrival, label: Label) -> bool
 pub fn carries(tables: &NodeTables, from: NodeId, msg: &Msg) -> bool
     ensures { result ≡ carries tables.now from msg.now }
 {
-    match msg {
-        Msg::Resv {
-            lsp,
-            egress,
-            link,
-            label,
-        } => {
-            let arrival = Arrival {
-                lsp: *lsp,
-                egress: *egress,
-                from,
-                link: *link,
-            };
-            carries_leg(tables, arrival, *label)
-        }
-        Msg::Path { .. } | Msg::PathTear { .. } | Msg::PathErr { .. } | Msg::Notify { .. } => false,
-    }
+    let Some(given) = given_label(from, msg) else {
+        return false;
+    };
+    let Some(leg) = tables.get(&given.arrival.lsp) else {
+        return false;
+    };
+    is_confirmed(given, leg) && begins_here(leg)
 }
 
 /// What a Resv at a leg that is Armed would change and send: the leg is Live, and the Resv goes
 /// back. A Resv at another leg, and a message of another kind, do nothing.
-pub fn connect_change(
-    alloc: Global,
-    tables: &NodeTables,
-    from: NodeId,
-    msg: &Msg,
-) -> Result<Change, OutOfMemory>
+pub fn connect_change(alloc: Global, tables: &NodeTables, from: NodeId, msg: &Msg) -> Changed
     ensures { IfOk result (λ c. c ≡ connect_answer tables.now from msg.now) }
 {
-    match msg {
-        Msg::Resv {
-            lsp,
-            egress,
-            link,
-            label,
-        } => {
-            let arrival = Arrival {
-                lsp: *lsp,
-                egress: *egress,
-                from,
-                link: *link,
-            };
-            on_resv(alloc, tables, arrival, *label)
-        }
-        Msg::Path { .. } | Msg::PathTear { .. } | Msg::PathErr { .. } | Msg::Notify { .. } => {
-            Ok(Change::nothing(alloc))
-        }
+    match given_label(from, msg) {
+        None => Ok(Change::nothing(alloc)),
+        Some(given) => on_resv(alloc, tables, given),
     }
 }

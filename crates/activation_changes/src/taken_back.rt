@@ -6,11 +6,13 @@ ghost use Rattle.mesh_rules.specs.Activations.{taken_back};
 ghost use Rattle.mesh_rules.specs.Legs.{is_active_backup};
 ghost use Rattle.activation_changes.specs.Answers.{take_back_answer, takes_back, taking_back_here};
 
-use crate::paths::{PathAgain, path_on};
-use ason_base::{Leg, Msg, NodeId, OutOfMemory, PathRole, Phase};
+use crate::paths::path_on;
+use ason_base::{Leg, Msg, NodeId, PathRole, Phase};
+use leg_table::changes::Changed;
 use leg_table::one_leg::{following, is_in_use, is_over, is_work, previous, with_phase};
 use leg_table::{Change, NodeTables};
-use mesh_rules::Arrival;
+use mesh_rules::PathRequest;
+use mesh_rules::readings::path_request;
 use std::alloc::Global;
 
 fn takes_back(role: &PathRole) -> bool
@@ -30,9 +32,9 @@ fn is_active_backup(leg: &Leg) -> bool
 
 // The leg is Held again, and the Path goes on, over the steps that are left; at the egress nothing
 // is sent.
-fn take_leg_back(alloc: Global, path: &PathAgain<'_>, leg: &Leg) -> Result<Change, OutOfMemory>
+fn take_leg_back(alloc: Global, path: &PathRequest<'_>, leg: &Leg) -> Changed
     ensures { IfOk result
-        (λ c. c ≡ taken_back leg.now (drop 1 path.now.route.now) path.now.role.now) }
+        (λ c. c ≡ taken_back leg.now (drop 1 path.now.route) path.now.role) }
 {
     let mut change = Change::nothing(alloc);
     change.put(with_phase(alloc, leg, Phase::Held)?)?;
@@ -43,9 +45,9 @@ fn take_leg_back(alloc: Global, path: &PathAgain<'_>, leg: &Leg) -> Result<Chang
     Ok(change)
 }
 
-fn on_path(alloc: Global, tables: &NodeTables, path: &PathAgain<'_>) -> Result<Change, OutOfMemory>
+fn on_path(alloc: Global, tables: &NodeTables, path: &PathRequest<'_>) -> Changed
     ensures { IfOk result (λ c. c ≡ taking_back_here tables.now path.now.arrival
-        (drop 1 path.now.route.now) path.now.role.now) }
+        (drop 1 path.now.route) path.now.role) }
 {
     match tables.get(&path.arrival.lsp) {
         Some(leg)
@@ -62,38 +64,11 @@ fn on_path(alloc: Global, tables: &NodeTables, path: &PathAgain<'_>) -> Result<C
 /// Live: the leg is Held again, and the Path goes on; at the egress nothing is sent. A Path that
 /// activates, one at a leg that is neither or of a working LSP, and a message of another kind, do
 /// nothing.
-pub fn take_back_change(
-    alloc: Global,
-    tables: &NodeTables,
-    from: NodeId,
-    msg: &Msg,
-) -> Result<Change, OutOfMemory>
+pub fn take_back_change(alloc: Global, tables: &NodeTables, from: NodeId, msg: &Msg) -> Changed
     ensures { IfOk result (λ c. c ≡ take_back_answer tables.now from msg.now) }
 {
-    match msg {
-        Msg::Path {
-            lsp,
-            egress,
-            link,
-            route,
-            role,
-            ..
-        } => {
-            let arrival = Arrival {
-                lsp: *lsp,
-                egress: *egress,
-                from,
-                link: *link,
-            };
-            let path = PathAgain {
-                arrival,
-                route,
-                role,
-            };
-            on_path(alloc, tables, &path)
-        }
-        Msg::Resv { .. } | Msg::PathTear { .. } | Msg::PathErr { .. } | Msg::Notify { .. } => {
-            Ok(Change::nothing(alloc))
-        }
+    match path_request(from, msg) {
+        None => Ok(Change::nothing(alloc)),
+        Some(path) => on_path(alloc, tables, &path),
     }
 }

@@ -2,8 +2,7 @@
 use Rattle.std.proofs.Common.{◌≡◌, ◌∙◌, ℕ, Bool, true, false, cond, [], refl, ap, subst, sym}
 use Rattle.std.specs.Prelude.{◌&&◌, not, Option, Some, None, is_some}
 use Rattle.ason_base.specs.Labels.{has}
-use Rattle.ason_base.specs.declared.calls.Phase.{Phase}
-use Rattle.ason_base.specs.declared.calls.Phase.TheVariants.{Asked, Held, Armed, Live, Closing, Falling}
+use Rattle.ason_base.specs.declared.calls.Phase.TheVariants.{Live}
 use Rattle.ason_base.specs.declared.codes.ErrCode.{ErrCode}
 use Rattle.ason_base.specs.declared.ids.LinkId.{LinkId}
 use Rattle.ason_base.specs.declared.ids.Lsp.{Lsp}
@@ -22,6 +21,7 @@ use Rattle.mesh_rules.specs.Messages.{arrival, on_message}
 use Rattle.mesh_rules.specs.PathErrs.{PathFailure, err_passed, path_err_with}
 use Rattle.mesh_rules.specs.Resvs.{answered, resv_with}
 use Rattle.mesh_rules.specs.State.{NodeState, new_node}
+use Rattle.mesh_rules.proofs.Phases.{armed-unasked}
 use Rattle.mesh_nodes.proofs.Followed.{later-none}
 use Rattle.mesh_nodes.proofs.LegList.{found-lsp}
 use Rattle.leg_table.specs.States.{legs_state, local_of, state_of}
@@ -30,15 +30,6 @@ use Rattle.activation_changes.specs.Answers.{carries_leg, connected_here}
 use Rattle.resv_changes.specs.Answers.{connects_leg, err_taken, refuses_leg, resv_taken}
 use Rattle.call_rules.specs.Rules as call
 use Rattle.node_core.specs.Followed.{followed_if, removal_followed, resv_at, resv_followed}
-
--- an Armed leg isn't Asked
-armed-not_asked : (q : Phase) → is_armed q ≡ true → is_asked q ≡ false
-armed-not_asked Asked e = absurd (cc e)
-armed-not_asked Held e = refl
-armed-not_asked Armed e = refl
-armed-not_asked Live e = refl
-armed-not_asked Closing e = refl
-armed-not_asked Falling e = refl
 
 module _ (t : LegTable) (c : CallTable) where
   -- Resvs
@@ -54,7 +45,7 @@ module _ (t : LegTable) (c : CallTable) where
       resv_with (local_of t) (state_of t c) a x (Some g) ≡ resv-by a x (Some g) g
   resv-leg a x g =
       go (is_asked g.phase) (is_over (following g) a.from a.link && has g.sent x) (is_armed g.phase)
-      (is_over (following g) a.from a.link && is_label g.out_label x) (previous g) (armed-not_asked g.phase)
+      (is_over (following g) a.from a.link && is_label g.out_label x) (previous g) (armed-unasked g.phase)
     where
       go : (e y r z : Bool) (o : Option Neighbour) → (r ≡ true → e ≡ false) →
           cond (e && y) (answered (local_of t) (state_of t c) a x g o)

@@ -14,13 +14,15 @@ ghost use Rattle.node_core.specs.Rules.{CanSearch, message_here};
 use crate::routes::backup_beside;
 use crate::rules::{NodeParts, ingress_of};
 use activation_changes::{
-    activate_change, busy_change, carries, connect_change, contends, is_active, take_back_change,
+    activate_change, busy_change, carries, connect_change, contends, take_back_change,
 };
 use ason_base::{ErrCode, Label, Leg, Lsp, Msg, NodeId, OutOfMemory, PathRole, Phase};
 use call_answers::{answer_resv, refuse_lsp, sought_by_resv};
 use call_turns::{answer_busy, answer_confirmed, answer_report};
 use leg_table::Change;
+use leg_table::changes::Changed;
 use leg_table::one_leg::{connected, with_phase};
+use mesh_rules::roles::is_active;
 use notify::{pass_change, reports};
 use path_changes::{path_change, tear_change};
 use resv_changes::{connects, path_err_change, refuses, resv_change};
@@ -37,7 +39,7 @@ fn on_path(
     lsp: Lsp,
     role: &PathRole,
     msg: &Msg,
-) -> Result<Change, OutOfMemory>
+) -> Changed
     requires tables { TablesFit parts.now.tables.now parts.now.owner.now parts.now.shares.now }
     ensures { IfOk result
         (λ c. c ≡ path_followed parts.now.tables.now from lsp role.now msg.now) }
@@ -93,7 +95,7 @@ fn connect(
     leg: &Leg,
     label: Label,
     msg: &Msg,
-) -> Result<Change, OutOfMemory>
+) -> Changed
     requires tables { TablesFit parts.now.tables.now parts.now.owner.now parts.now.shares.now }
     requires rows { CanSearch parts.now.tables.now }
     ensures { IfOk result (λ c. c
@@ -123,13 +125,7 @@ fn follow_confirmed(
 }
 
 // A Resv at a leg that is Armed.
-fn confirm(
-    alloc: Global,
-    parts: &NodeParts<'_>,
-    from: NodeId,
-    leg: &Leg,
-    msg: &Msg,
-) -> Result<Change, OutOfMemory>
+fn confirm(alloc: Global, parts: &NodeParts<'_>, from: NodeId, leg: &Leg, msg: &Msg) -> Changed
     requires tables { TablesFit parts.now.tables.now parts.now.owner.now parts.now.shares.now }
     ensures { IfOk result (λ c. c
         ≡ activation_followed parts.now.tables.now parts.now.calls.now from msg.now leg.now) }
@@ -148,7 +144,7 @@ fn on_resv(
     lsp: Lsp,
     label: Label,
     msg: &Msg,
-) -> Result<Change, OutOfMemory>
+) -> Changed
     requires tables { TablesFit parts.now.tables.now parts.now.owner.now parts.now.shares.now }
     requires rows { CanSearch parts.now.tables.now }
     ensures { IfOk result (λ c. c
@@ -173,7 +169,7 @@ fn remove(
     lsp: Lsp,
     code: ErrCode,
     msg: &Msg,
-) -> Result<Change, OutOfMemory>
+) -> Changed
     ensures { IfOk result (λ c. c
         ≡ removal_followed parts.now.tables.now parts.now.calls.now from lsp code msg.now) }
 {
@@ -200,13 +196,7 @@ fn follow_busy(
 }
 
 // A PathErr without it, at this leg of its LSP.
-fn disarm_leg(
-    alloc: Global,
-    parts: &NodeParts<'_>,
-    from: NodeId,
-    leg: &Leg,
-    msg: &Msg,
-) -> Result<Change, OutOfMemory>
+fn disarm_leg(alloc: Global, parts: &NodeParts<'_>, from: NodeId, leg: &Leg, msg: &Msg) -> Changed
     requires tables { TablesFit parts.now.tables.now parts.now.owner.now parts.now.shares.now }
     ensures { IfOk result (λ c. c
         ≡ busy_at parts.now.tables.now parts.now.calls.now from msg.now (Some leg.now)) }
@@ -219,13 +209,7 @@ fn disarm_leg(
 }
 
 // A PathErr without it.
-fn disarm(
-    alloc: Global,
-    parts: &NodeParts<'_>,
-    from: NodeId,
-    lsp: Lsp,
-    msg: &Msg,
-) -> Result<Change, OutOfMemory>
+fn disarm(alloc: Global, parts: &NodeParts<'_>, from: NodeId, lsp: Lsp, msg: &Msg) -> Changed
     requires tables { TablesFit parts.now.tables.now parts.now.owner.now parts.now.shares.now }
     ensures { IfOk result (λ c. c
         ≡ busy_followed parts.now.tables.now parts.now.calls.now from lsp msg.now) }
@@ -238,12 +222,7 @@ fn disarm(
 
 // Notifies
 
-fn on_notify(
-    alloc: Global,
-    parts: &NodeParts<'_>,
-    from: NodeId,
-    msg: &Msg,
-) -> Result<Change, OutOfMemory>
+fn on_notify(alloc: Global, parts: &NodeParts<'_>, from: NodeId, msg: &Msg) -> Changed
     requires tables { TablesFit parts.now.tables.now parts.now.owner.now parts.now.shares.now }
     ensures { IfOk result (λ c. c
         ≡ notice_followed parts.now.tables.now parts.now.calls.now from msg.now) }
@@ -257,12 +236,7 @@ fn on_notify(
 }
 
 /// What a message from a neighbour does to the leg of its LSP. At the ingress its call follows.
-pub(crate) fn on_message(
-    alloc: Global,
-    parts: &NodeParts<'_>,
-    from: NodeId,
-    msg: &Msg,
-) -> Result<Change, OutOfMemory>
+pub(crate) fn on_message(alloc: Global, parts: &NodeParts<'_>, from: NodeId, msg: &Msg) -> Changed
     requires tables { TablesFit parts.now.tables.now parts.now.owner.now parts.now.shares.now }
     requires rows { CanSearch parts.now.tables.now }
     ensures { IfOk result

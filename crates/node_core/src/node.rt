@@ -17,6 +17,7 @@ use crate::rows::{call_rows, leg_rows};
 use crate::rules::{NodeParts, on_input};
 use ason_base::{Copied, LinkId, NodeId, OutOfMemory, Outs, TableRows, Topology, copied};
 use leg_carrying::carry_out;
+use leg_table::changes::Changed;
 use leg_table::{Calls, Change, NodeTables};
 use link_owner::Owner;
 use node_rules::Input;
@@ -89,7 +90,7 @@ impl Node {
     }
 
     /// What the rule of an input would change and send. It changes nothing.
-    pub fn answer(&self, alloc: Global, input: &Input) -> Result<Change, OutOfMemory>
+    pub fn answer(&self, alloc: Global, input: &Input) -> Changed
         ensures answer { IfOk result (λ c. c ≡ answer_to self.now input.now) }
         ensures near { IfOk result (λ c. AllToNeighbours self.now.place c.sent) }
         ensures written { IsWritableInput input.now → IfOk result (λ c. AllWritable c.sent) }

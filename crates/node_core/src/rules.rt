@@ -9,10 +9,11 @@ ghost use Rattle.node_core.specs.Rules.{CanSearch, item_here, order_here, row_he
 
 use crate::messages::on_message;
 use crate::routes::{backup_beside, least_route};
-use ason_base::{CallNo, Command, Copied, DeskItem, NodeId, OutOfMemory, TeRow};
+use ason_base::{CallNo, Command, Copied, DeskItem, NodeId, TeRow};
 use call_rules::IngressParts;
 use call_setups::{SetupRequest, protect, seeks_route, set_up, sought_by_protect};
 use call_turns::{release, retry, revert_change, tick_change};
+use leg_table::changes::Changed;
 use leg_table::{Calls, Change, NodeTables};
 use link_owner::Owner;
 use node_rules::Input;
@@ -46,11 +47,7 @@ pub(crate) fn ingress_of<'a>(parts: &NodeParts<'a>) -> IngressParts<'a>
 // Orders
 
 // A setup, over the least route from here where none is given.
-fn on_setup(
-    alloc: Global,
-    parts: &NodeParts<'_>,
-    request: &SetupRequest<'_>,
-) -> Result<Change, OutOfMemory>
+fn on_setup(alloc: Global, parts: &NodeParts<'_>, request: &SetupRequest<'_>) -> Changed
     requires tables { TablesFit parts.now.tables.now parts.now.owner.now parts.now.shares.now }
     requires rows { CanSearch parts.now.tables.now }
     ensures { IfOk result
@@ -71,12 +68,7 @@ fn on_setup(
     )
 }
 
-fn on_protect(
-    alloc: Global,
-    parts: &NodeParts<'_>,
-    number: CallNo,
-    from: NodeId,
-) -> Result<Change, OutOfMemory>
+fn on_protect(alloc: Global, parts: &NodeParts<'_>, number: CallNo, from: NodeId) -> Changed
     requires tables { TablesFit parts.now.tables.now parts.now.owner.now parts.now.shares.now }
     requires rows { CanSearch parts.now.tables.now }
     ensures { IfOk result
@@ -94,7 +86,7 @@ fn on_protect(
     )
 }
 
-fn on_order(alloc: Global, parts: &NodeParts<'_>, command: &Command) -> Result<Change, OutOfMemory>
+fn on_order(alloc: Global, parts: &NodeParts<'_>, command: &Command) -> Changed
     requires tables { TablesFit parts.now.tables.now parts.now.owner.now parts.now.shares.now }
     requires rows { CanSearch parts.now.tables.now }
     ensures { IfOk result
@@ -116,7 +108,7 @@ fn on_order(alloc: Global, parts: &NodeParts<'_>, command: &Command) -> Result<C
 }
 
 // What an item of the desk does.
-fn on_item(alloc: Global, parts: &NodeParts<'_>, item: &DeskItem) -> Result<Change, OutOfMemory>
+fn on_item(alloc: Global, parts: &NodeParts<'_>, item: &DeskItem) -> Changed
     requires tables { TablesFit parts.now.tables.now parts.now.owner.now parts.now.shares.now }
     requires rows { CanSearch parts.now.tables.now }
     ensures { IfOk result
@@ -130,12 +122,7 @@ fn on_item(alloc: Global, parts: &NodeParts<'_>, item: &DeskItem) -> Result<Chan
 }
 
 // What a row of a link that a neighbour knows does: it is learnt, unless the link is known.
-fn on_row(
-    alloc: Global,
-    tables: &NodeTables,
-    calls: &Calls,
-    row: &TeRow,
-) -> Result<Change, OutOfMemory>
+fn on_row(alloc: Global, tables: &NodeTables, calls: &Calls, row: &TeRow) -> Changed
     requires { CanSearch tables.now }
     ensures { IfOk result (λ c. c ≡ row_here tables.now calls.now row.now) }
 {
@@ -147,11 +134,7 @@ fn on_row(
 }
 
 /// What an input does: what the node answers to it.
-pub(crate) fn on_input(
-    alloc: Global,
-    parts: &NodeParts<'_>,
-    input: &Input,
-) -> Result<Change, OutOfMemory>
+pub(crate) fn on_input(alloc: Global, parts: &NodeParts<'_>, input: &Input) -> Changed
     requires tables { TablesFit parts.now.tables.now parts.now.owner.now parts.now.shares.now }
     requires rows { CanSearch parts.now.tables.now }
     ensures { IfOk result
