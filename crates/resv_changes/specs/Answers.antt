@@ -6,6 +6,7 @@ use Rattle.ason_base.specs.declared.messages.Msg.{Msg}
 use Rattle.ason_base.specs.declared.messages.Msg.TheVariants.{Path, Resv, PathTear, PathErr, Notify}
 use Rattle.ason_base.specs.declared.tables.Leg.{Leg}
 use Rattle.mesh_rules.specs.declared.arrivals.Arrival.{Arrival}
+use Rattle.mesh_rules.specs.declared.arrivals.GivenLabel.{GivenLabel}
 use Rattle.mesh_rules.specs.declared.neighbours.Neighbour.{Neighbour}
 use Rattle.mesh_rules.specs.Changes.{Answer, nothing}
 use Rattle.mesh_rules.specs.Legs.{find_leg, following, is_asked, is_node, previous}
@@ -46,6 +47,15 @@ err_taken u e (Some g) = if e.removed && is_node (following g) u then removed_he
 abbrev pub err_here : LegTable → NodeId → PathFailure → Answer
 err_here t u e = err_taken u e (find_leg e.lsp t.legs)
 
+-- what a PathErr says; a message of another kind says nothing of it
+abbrev pub path_failure : Msg → Option PathFailure
+path_failure (Path l e k route set up r) = None
+path_failure (Resv l e k x) = None
+path_failure (PathTear l e k) = None
+path_failure (PathErr l e at gone code) =
+    Some (record { lsp = l; msg = PathErr l e at gone code; removed = gone; code = code })
+path_failure (Notify l e at k code) = None
+
 -- Where the call follows
 
 -- the leg takes the Resv, and its LSP begins here
@@ -53,10 +63,19 @@ abbrev pub connects_leg : Arrival → ℕ → Option Leg → Bool
 connects_leg a x None = false
 connects_leg a x (Some g) = is_expected a x g && begins_here g
 
+abbrev pub resv_by : LegTable → GivenLabel → Answer
+resv_by t given = resv_here t given.arrival given.label
+
+abbrev pub connects_by : LegTable → GivenLabel → Bool
+connects_by t given = connects_leg given.arrival given.label (find_leg given.arrival.lsp t.legs)
+
 -- the PathErr takes the Asked leg away, and its LSP begins here
 abbrev pub refuses_leg : NodeId → PathFailure → Option Leg → Bool
 refuses_leg u e None = false
 refuses_leg u e (Some g) = (e.removed && is_node (following g) u) && (is_asked g.phase && begins_here g)
+
+abbrev pub refuses_by : LegTable → NodeId → PathFailure → Bool
+refuses_by t u e = refuses_leg u e (find_leg e.lsp t.legs)
 
 -- a message of another kind connects none
 abbrev pub connects : LegTable → NodeId → Msg → Bool

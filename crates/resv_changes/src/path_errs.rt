@@ -1,10 +1,10 @@
 //! A PathErr with Path_State_Removed (RFC 3473, section 4.4).
 
 ghost use Rattle.std.specs.Prelude.{◌≡◌, IfOk};
-ghost use Rattle.mesh_rules.specs.Legs.{find_leg};
-ghost use Rattle.resv_changes.specs.Answers.{err_here, err_passed_here, path_err_answer, refuses, refuses_leg, removed_here};
+ghost use Rattle.resv_changes.specs.Answers.{err_here, err_passed_here, path_err_answer, path_failure, refuses, refuses_by, removed_here};
 
-use ason_base::{Copied, ErrCode, Leg, Lsp, Msg, NodeId, OutOfMemory};
+use ason_base::{Copied, ErrCode, Leg, Lsp, Msg, NodeId};
+use leg_table::changes::Changed;
 use leg_table::one_leg::{begins_here, following, is_asked, is_closing, is_node, previous};
 use leg_table::{Change, NodeTables};
 use std::alloc::Global;
@@ -33,7 +33,27 @@ impl<'a> Model for PathFailure<'a> {
     } };
 }
 
-fn pass_err(alloc: Global, leg: &Leg, failure: &PathFailure<'_>) -> Result<Change, OutOfMemory>
+// What a PathErr says; a message of another kind says nothing of it.
+fn path_failure<'a>(msg: &'a Msg) -> Option<PathFailure<'a>>
+    ensures { result ≡ path_failure msg.now }
+{
+    match msg {
+        Msg::PathErr {
+            lsp,
+            removed,
+            code,
+            ..
+        } => Some(PathFailure {
+            lsp: *lsp,
+            msg,
+            removed: *removed,
+            code: *code,
+        }),
+        _ => None,
+    }
+}
+
+fn pass_err(alloc: Global, leg: &Leg, failure: &PathFailure<'_>) -> Changed
     ensures { IfOk result (λ c. c ≡ err_passed_here leg.now failure.now) }
 {
     match previous(leg) {
@@ -46,7 +66,7 @@ fn pass_err(alloc: Global, leg: &Leg, failure: &PathFailure<'_>) -> Result<Chang
     }
 }
 
-fn remove(alloc: Global, leg: &Leg, failure: &PathFailure<'_>) -> Result<Change, OutOfMemory>
+fn remove(alloc: Global, leg: &Leg, failure: &PathFailure<'_>) -> Changed
     ensures { IfOk result (λ c. c ≡ removed_here leg.now failure.now) }
 {
     if is_asked(leg.phase) {
@@ -64,7 +84,7 @@ fn on_path_err(
     tables: &NodeTables,
     from: NodeId,
     failure: &PathFailure<'_>,
-) -> Result<Change, OutOfMemory>
+) -> Changed
     ensures { IfOk result (λ c. c ≡ err_here tables.now from failure.now) }
 {
     match tables.get(&failure.lsp) {
@@ -76,7 +96,7 @@ fn on_path_err(
 }
 
 fn refuses_leg(tables: &NodeTables, from: NodeId, failure: &PathFailure<'_>) -> bool
-    ensures { result ≡ refuses_leg from failure.now (find_leg failure.now.lsp tables.now.legs) }
+    ensures { result ≡ refuses_by tables.now from failure.now }
 {
     match tables.get(&failure.lsp) {
         None => false,
@@ -94,52 +114,19 @@ fn refuses_leg(tables: &NodeTables, from: NodeId, failure: &PathFailure<'_>) -> 
 pub fn refuses(tables: &NodeTables, from: NodeId, msg: &Msg) -> bool
     ensures { result ≡ refuses tables.now from msg.now }
 {
-    match msg {
-        Msg::PathErr {
-            lsp,
-            removed,
-            code,
-            ..
-        } => {
-            let failure = PathFailure {
-                lsp: *lsp,
-                msg,
-                removed: *removed,
-                code: *code,
-            };
-            refuses_leg(tables, from, &failure)
-        }
-        Msg::Path { .. } | Msg::Resv { .. } | Msg::PathTear { .. } | Msg::Notify { .. } => false,
+    match path_failure(msg) {
+        None => false,
+        Some(failure) => refuses_leg(tables, from, &failure),
     }
 }
 
 /// What a PathErr would change and send: one that tells that the state was removed takes an Asked
 /// or a torn leg away. A message of another kind does nothing.
-pub fn path_err_change(
-    alloc: Global,
-    tables: &NodeTables,
-    from: NodeId,
-    msg: &Msg,
-) -> Result<Change, OutOfMemory>
+pub fn path_err_change(alloc: Global, tables: &NodeTables, from: NodeId, msg: &Msg) -> Changed
     ensures { IfOk result (λ c. c ≡ path_err_answer tables.now from msg.now) }
 {
-    match msg {
-        Msg::PathErr {
-            lsp,
-            removed,
-            code,
-            ..
-        } => {
-            let failure = PathFailure {
-                lsp: *lsp,
-                msg,
-                removed: *removed,
-                code: *code,
-            };
-            on_path_err(alloc, tables, from, &failure)
-        }
-        Msg::Path { .. } | Msg::Resv { .. } | Msg::PathTear { .. } | Msg::Notify { .. } => {
-            Ok(Change::nothing(alloc))
-        }
+    match path_failure(msg) {
+        None => Ok(Change::nothing(alloc)),
+        Some(failure) => on_path_err(alloc, tables, from, &failure),
     }
 }

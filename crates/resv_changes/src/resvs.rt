@@ -7,42 +7,29 @@ ghost use Rattle.mesh_rules.specs.Resvs.{is_expected, label_passed, torn_both_wa
 ghost use Rattle.leg_table.specs.Fits.{TablesFit};
 ghost use Rattle.leg_table.specs.LegClaims.{is_fibre_in};
 ghost use Rattle.leg_table.specs.States.{local_of};
-ghost use Rattle.resv_changes.specs.Answers.{answered_here, connects, connects_leg, left_here, resv_answer, resv_here};
+ghost use Rattle.resv_changes.specs.Answers.{answered_here, connects, connects_by, left_here, resv_answer, resv_by};
 
 use ason_base::codes::LABEL;
-use ason_base::{Label, LabelSet, Leg, LinkId, Lsp, Msg, NodeId, OutOfMemory};
+use ason_base::{Label, LabelSet, Leg, Msg, NodeId};
 use leg_labels::{label_through, usable};
-use leg_table::one_leg::{begins_here, closed, connected, following, is_asked, is_over, previous};
+use leg_table::changes::Changed;
+use leg_table::one_leg::{
+    begins_here, closed, connected, following, is_asked, is_over, path_err, previous,
+};
 use leg_table::{Change, NodeTables};
 use link_owner::Owner;
-use mesh_rules::{Arrival, Neighbour};
+use mesh_rules::readings::given_label;
+use mesh_rules::{Arrival, GivenLabel, Neighbour};
 use share_check::Shares;
 use std::alloc::Global;
 
-/// The label that a Resv gives, of which LSP, and from where it came.
-#[derive(Clone, Copy, Drop)]
-struct GivenLabel {
-    arrival: Arrival,
-    label: Label,
-}
-
-fn arrival(lsp: Lsp, egress: NodeId, from: NodeId, link: LinkId) -> Arrival
-    ensures { result ≡ record { lsp = lsp; egress = egress; from = from; link = link } }
+fn expects(leg: &Leg, given: GivenLabel) -> bool
+    ensures { result ≡ is_expected given.arrival given.label leg.now }
 {
-    Arrival {
-        lsp,
-        egress,
-        from,
-        link,
-    }
-}
-
-fn expects(arrival: Arrival, label: Label, leg: &Leg) -> bool
-    ensures { result ≡ is_expected arrival label leg.now }
-{
+    let arrival = given.arrival;
     is_asked(leg.phase)
         && is_over(following(leg), arrival.from, arrival.link)
-        && leg.sent.has(label)
+        && leg.sent.has(given.label)
 }
 
 // No label is left: the LSP is torn towards the egress, and the ingress is told.
@@ -52,31 +39,19 @@ fn tear_both_ways(
     arrival: Arrival,
     leg: &Leg,
     back: Neighbour,
-) -> Result<Change, OutOfMemory>
+) -> Changed
     ensures { IfOk result (λ c. c ≡ torn_both_ways (local_of tables.now) arrival leg.now back) }
 {
     let (lsp, egress) = (leg.lsp, leg.egress);
     let link = arrival.link;
     let tear = Msg::PathTear { lsp, egress, link };
-    let err = Msg::PathErr {
-        lsp,
-        egress,
-        at: tables.node().id,
-        removed: true,
-        code: LABEL,
-    };
+    let err = path_err(leg, tables.node().id, true, LABEL);
     let mut change = Change::puts(alloc, closed(alloc, leg)?, arrival.from, tear)?;
     change.send(back.node, err)?;
     Ok(change)
 }
 
-fn pass_label(
-    alloc: Global,
-    leg: &Leg,
-    back: Neighbour,
-    label: Label,
-    chosen: Label,
-) -> Result<Change, OutOfMemory>
+fn pass_label(alloc: Global, leg: &Leg, back: Neighbour, label: Label, chosen: Label) -> Changed
     ensures { IfOk result (λ c. c ≡ label_passed leg.now back label chosen) }
 {
     let labelled = connected(alloc, leg, Some(chosen), label)?;
@@ -107,7 +82,7 @@ fn labels_left(
 }
 
 // At the ingress the leg has its label, and nothing is sent.
-fn connect_here(alloc: Global, leg: &Leg, label: Label) -> Result<Change, OutOfMemory>
+fn connect_here(alloc: Global, leg: &Leg, label: Label) -> Changed
     ensures { IfOk result (λ c. c ≡ puts (connected leg.now None label) []) }
 {
     let mut change = Change::nothing(alloc);
@@ -122,7 +97,7 @@ fn answer(
     shares: &Shares,
     given: GivenLabel,
     leg: &Leg,
-) -> Result<Change, OutOfMemory>
+) -> Changed
     requires fits { TablesFit tables.now owner.now shares.now }
     requires stands { find_leg given.arrival.lsp tables.now.legs ≡ Some leg.now }
     ensures { IfOk result
@@ -145,24 +120,22 @@ fn on_resv(
     owner: &Owner,
     shares: &Shares,
     given: GivenLabel,
-) -> Result<Change, OutOfMemory>
+) -> Changed
     requires { TablesFit tables.now owner.now shares.now }
-    ensures { IfOk result (λ c. c ≡ resv_here tables.now given.arrival given.label) }
+    ensures { IfOk result (λ c. c ≡ resv_by tables.now given) }
 {
     match tables.get(&given.arrival.lsp) {
-        Some(leg) if expects(given.arrival, given.label, leg) => {
-            answer(alloc, tables, owner, shares, given, leg)
-        }
+        Some(leg) if expects(leg, given) => answer(alloc, tables, owner, shares, given, leg),
         _ => Ok(Change::nothing(alloc)),
     }
 }
 
-fn connects_leg(tables: &NodeTables, arrival: Arrival, label: Label) -> bool
-    ensures { result ≡ connects_leg arrival label (find_leg arrival.lsp tables.now.legs) }
+fn connects_leg(tables: &NodeTables, given: GivenLabel) -> bool
+    ensures { result ≡ connects_by tables.now given }
 {
-    match tables.get(&arrival.lsp) {
+    match tables.get(&given.arrival.lsp) {
         None => false,
-        Some(leg) => expects(arrival, label, leg) && begins_here(leg),
+        Some(leg) => expects(leg, given) && begins_here(leg),
     }
 }
 
@@ -171,14 +144,9 @@ fn connects_leg(tables: &NodeTables, arrival: Arrival, label: Label) -> bool
 pub fn connects(tables: &NodeTables, from: NodeId, msg: &Msg) -> bool
     ensures { result ≡ connects tables.now from msg.now }
 {
-    match msg {
-        Msg::Resv {
-            lsp,
-            egress,
-            link,
-            label,
-        } => connects_leg(tables, arrival(*lsp, *egress, from, *link), *label),
-        Msg::Path { .. } | Msg::PathTear { .. } | Msg::PathErr { .. } | Msg::Notify { .. } => false,
+    match given_label(from, msg) {
+        None => false,
+        Some(given) => connects_leg(tables, given),
     }
 }
 
@@ -192,25 +160,12 @@ pub fn resv_change(
     shares: &Shares,
     from: NodeId,
     msg: &Msg,
-) -> Result<Change, OutOfMemory>
+) -> Changed
     requires { TablesFit tables.now owner.now shares.now }
     ensures { IfOk result (λ c. c ≡ resv_answer tables.now from msg.now) }
 {
-    match msg {
-        Msg::Resv {
-            lsp,
-            egress,
-            link,
-            label,
-        } => {
-            let given = GivenLabel {
-                arrival: arrival(*lsp, *egress, from, *link),
-                label: *label,
-            };
-            on_resv(alloc, tables, owner, shares, given)
-        }
-        Msg::Path { .. } | Msg::PathTear { .. } | Msg::PathErr { .. } | Msg::Notify { .. } => {
-            Ok(Change::nothing(alloc))
-        }
+    match given_label(from, msg) {
+        None => Ok(Change::nothing(alloc)),
+        Some(given) => on_resv(alloc, tables, owner, shares, given),
     }
 }
