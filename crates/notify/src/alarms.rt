@@ -9,6 +9,7 @@ ghost use Rattle.notify.specs.Answers.{alarm_answer, clear_answer};
 
 use ason_base::codes::{FIBRE_DOWN, FIBRE_UP};
 use ason_base::{Copied, ErrCode, Fibre, Fibres, Leg, Msg, NodeId, OutOfMemory};
+use leg_table::changes::Changed;
 use leg_table::one_leg::{is_closing, previous};
 use leg_table::{Change, NodeTables, add_fibre};
 use std::alloc::Global;
@@ -82,12 +83,7 @@ fn tell_at(
 }
 
 // The previous node of each leg that the fibre leads to is told, in order of LSP.
-fn notices(
-    alloc: Global,
-    tables: &NodeTables,
-    fibre: Fibre,
-    code: ErrCode,
-) -> Result<Change, OutOfMemory>
+fn notices(alloc: Global, tables: &NodeTables, fibre: Fibre, code: ErrCode) -> Changed
     ensures { IfOk result
         (λ c. c ≡ sends (notices (local_of tables.now) fibre code tables.now.legs)) }
 {
@@ -105,7 +101,7 @@ fn know_down(
     fibre: Fibre,
     code: ErrCode,
     down: Fibres,
-) -> Result<Change, OutOfMemory>
+) -> Changed
     ensures { IfOk result (λ c. c ≡ knows_down (local_of tables.now) (legs_state tables.now)
         fibre code down) }
 {
@@ -117,7 +113,7 @@ fn know_down(
 /// What an alarm of a fibre would change and send: the fibre is known to be down, and the previous
 /// node of each leg that it leads to is told, in order of LSP. An alarm of a fibre that doesn't
 /// come in here, or that is known to be down, does nothing.
-pub fn alarm_change(alloc: Global, tables: &NodeTables, fibre: Fibre) -> Result<Change, OutOfMemory>
+pub fn alarm_change(alloc: Global, tables: &NodeTables, fibre: Fibre) -> Changed
     ensures { IfOk result (λ c. c ≡ alarm_answer tables.now fibre) }
 {
     if !enters(tables, fibre) || tables.is_down(fibre) {
@@ -131,7 +127,7 @@ pub fn alarm_change(alloc: Global, tables: &NodeTables, fibre: Fibre) -> Result<
 /// What a clear of a fibre would change and send: the fibre is up again, and the previous node of
 /// each leg that it leads to is told, in order of LSP. A clear of a fibre that isn't known to be
 /// down does nothing.
-pub fn clear_change(alloc: Global, tables: &NodeTables, fibre: Fibre) -> Result<Change, OutOfMemory>
+pub fn clear_change(alloc: Global, tables: &NodeTables, fibre: Fibre) -> Changed
     ensures { IfOk result (λ c. c ≡ clear_answer tables.now fibre) }
 {
     if !enters(tables, fibre) || !tables.is_down(fibre) {

@@ -5,7 +5,8 @@ ghost use Rattle.mesh_rules.specs.Legs.{find_leg};
 ghost use Rattle.notify.specs.Answers.{pass_answer, passed_back, passed_here, reports, reports_leg, takes_notify};
 
 use ason_base::codes::{FIBRE_DOWN, FIBRE_UP};
-use ason_base::{Copied, ErrCode, Leg, Lsp, Msg, NodeId, OutOfMemory};
+use ason_base::{Copied, ErrCode, Leg, Lsp, Msg, NodeId};
+use leg_table::changes::Changed;
 use leg_table::one_leg::{begins_here, following, is_closing, is_node, previous};
 use leg_table::{Change, NodeTables};
 use std::alloc::Global;
@@ -21,7 +22,7 @@ fn takes_notify(from: NodeId, code: ErrCode, leg: &Leg) -> bool
 }
 
 // The Notify goes to the previous node, unchanged; at the ingress there is none.
-fn pass_back(alloc: Global, leg: &Leg, msg: &Msg) -> Result<Change, OutOfMemory>
+fn pass_back(alloc: Global, leg: &Leg, msg: &Msg) -> Changed
     ensures { IfOk result (λ c. c ≡ passed_back leg.now msg.now) }
 {
     match previous(leg) {
@@ -37,7 +38,7 @@ fn on_notify(
     lsp: Lsp,
     code: ErrCode,
     msg: &Msg,
-) -> Result<Change, OutOfMemory>
+) -> Changed
     ensures { IfOk result
         (λ c. c ≡ passed_here from code msg.now (find_leg lsp tables.now.legs)) }
 {
@@ -70,12 +71,7 @@ pub fn reports(tables: &NodeTables, from: NodeId, msg: &Msg) -> bool
 /// What a Notify would send away from the ingress: it goes to the previous node, unchanged, where
 /// it came from the next node of a leg that isn't torn, and tells that a fibre went down or came
 /// up. Another Notify, one at the ingress, and a message of another kind, do nothing.
-pub fn pass_change(
-    alloc: Global,
-    tables: &NodeTables,
-    from: NodeId,
-    msg: &Msg,
-) -> Result<Change, OutOfMemory>
+pub fn pass_change(alloc: Global, tables: &NodeTables, from: NodeId, msg: &Msg) -> Changed
     ensures { IfOk result (λ c. c ≡ pass_answer tables.now from msg.now) }
 {
     match msg {
