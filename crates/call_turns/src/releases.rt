@@ -9,6 +9,7 @@ ghost use Rattle.call_rules.specs.Rules.{release_here};
 
 use ason_base::{CallNo, CallRec, Leg, Msg, NodeId, OutOfMemory};
 use call_rules::{id_of, leg_of};
+use leg_table::changes::Changed;
 use leg_table::one_leg::{closed, following};
 use leg_table::{Calls, Change, NodeTables};
 use std::alloc::Global;
@@ -53,7 +54,7 @@ pub fn release(
     calls: &Calls,
     number: CallNo,
     from: NodeId,
-) -> Result<Change, OutOfMemory>
+) -> Changed
     ensures { IfOk result (λ c. c ≡ release_here tables.now calls.now number from) }
 {
     if from != id_of(tables) {

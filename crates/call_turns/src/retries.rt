@@ -5,20 +5,16 @@ ghost use Rattle.leg_table.specs.LegClaims.{ClaimsFit};
 ghost use Rattle.call_rules.specs.Rules.{retry_here};
 
 use crate::turns::{has_any, turn};
-use ason_base::{CallNo, Copied, NodeId, OutOfMemory};
+use ason_base::{CallNo, Copied, NodeId};
 use call_rules::call_states::is_stuck;
 use call_rules::{IngressParts, id_of, leg_of};
 use leg_table::Change;
+use leg_table::changes::Changed;
 use std::alloc::Global;
 
 /// What the order does: a stuck call turns where its working LSP is hit and its backup isn't. It is
 /// stuck again where a label of the backup is in use here.
-pub fn retry(
-    alloc: Global,
-    parts: &IngressParts<'_>,
-    number: CallNo,
-    from: NodeId,
-) -> Result<Change, OutOfMemory>
+pub fn retry(alloc: Global, parts: &IngressParts<'_>, number: CallNo, from: NodeId) -> Changed
     requires { ClaimsFit parts.now.tables.now.legs parts.now.owner.now }
     ensures { IfOk result
         (λ c. c ≡ retry_here parts.now.tables.now parts.now.calls.now number from) }

@@ -4,9 +4,10 @@ ghost use Rattle.std.specs.Prelude.{◌≡◌, IfOk};
 ghost use Rattle.call_rules.specs.Reverts.{revert_here};
 
 use crate::turns::{go_back, has_any};
-use ason_base::{CallNo, Copied, NodeId, OutOfMemory};
+use ason_base::{CallNo, Copied, NodeId};
 use call_rules::call_states::is_turned;
 use call_rules::{id_of, leg_of};
+use leg_table::changes::Changed;
 use leg_table::{Calls, Change, NodeTables};
 use std::alloc::Global;
 
@@ -17,7 +18,7 @@ pub fn revert_change(
     calls: &Calls,
     number: CallNo,
     from: NodeId,
-) -> Result<Change, OutOfMemory>
+) -> Changed
     ensures { IfOk result (λ c. c ≡ revert_here tables.now calls.now number from) }
 {
     let mut change = Change::nothing(alloc);

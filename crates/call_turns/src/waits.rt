@@ -10,6 +10,7 @@ use crate::turns::{go_back, has_any};
 use ason_base::{CallRec, Copied, OutOfMemory};
 use call_rules::call_states::is_turned;
 use call_rules::leg_of;
+use leg_table::changes::Changed;
 use leg_table::{Calls, Change, NodeTables};
 use std::alloc::Global;
 
@@ -45,7 +46,7 @@ fn tick_call(
 
 /// What a tick does: the calls that wait count it, in order of number, and go back where that is
 /// the last one of the wait. Where the network has no wait none is looked at.
-pub fn tick_change(alloc: Global, tables: &NodeTables, calls: &Calls) -> Result<Change, OutOfMemory>
+pub fn tick_change(alloc: Global, tables: &NodeTables, calls: &Calls) -> Changed
     ensures { IfOk result (λ c. c ≡ tick_answer tables.now calls.now) }
 {
     let mut change = Change::nothing(alloc);
