@@ -9,9 +9,10 @@ ghost use Rattle.call_rules.specs.Rules.{protect_here};
 ghost use Rattle.call_rules.specs.Searches.{IsBackupFor, RowsAreKnown, sought_by_protect, unprotected_here};
 
 use crate::pairs::{PairRequest, pair};
-use ason_base::{CallNo, CallRec, Leg, NodeId, OutOfMemory, Steps};
+use ason_base::{CallNo, CallRec, Leg, NodeId, Steps};
 use call_rules::call_states::{has_no_backup, is_bare};
 use call_rules::{IngressParts, id_of, leg_of};
+use leg_table::changes::Changed;
 use leg_table::{Calls, Change, NodeTables};
 use share_check::Shares;
 use std::alloc::Global;
@@ -56,7 +57,7 @@ pub fn protect(
     number: CallNo,
     from: NodeId,
     backup: Option<&Steps>,
-) -> Result<Change, OutOfMemory>
+) -> Changed
     requires links { LocalNodeFits (local_of parts.now.tables.now) }
     requires node { AreOfOneNode parts.now.tables.now parts.now.owner.now shares.now }
     requires rows { RowsAreKnown parts.now.tables.now }

@@ -18,6 +18,7 @@ use ason_base::{
     OutOfMemory, PathRole, RiskSet, Role, Steps,
 };
 use call_rules::{IngressParts, id_of};
+use leg_table::changes::Changed;
 use leg_table::{Calls, Change, NodeTables};
 use mesh_rules::NextNumbers;
 use mesh_rules::limits::LAST_NUMBER;
@@ -113,11 +114,7 @@ fn call_record(
     })
 }
 
-fn refuse_setup(
-    alloc: Global,
-    request: &SetupRequest<'_>,
-    cause: Cause,
-) -> Result<Change, OutOfMemory>
+fn refuse_setup(alloc: Global, request: &SetupRequest<'_>, cause: Cause) -> Changed
     ensures { IfOk result (λ c. c ≡ refused_setup request.now cause) }
 {
     let mut change = Change::nothing(alloc);
@@ -134,7 +131,7 @@ fn begin(
     out: &LinkSpec,
     route: Steps,
     back: Option<Label>,
-) -> Result<Change, OutOfMemory>
+) -> Changed
     requires narrow { out.now.labels ≤ 80 }
     requires tunnel { parts.now.calls.now.tunnel ≤ 65535 }
     requires lsp { parts.now.calls.now.lsp ≤ 65535 }
@@ -188,7 +185,7 @@ fn begin_labelled(
     request: &SetupRequest<'_>,
     out: &LinkSpec,
     route: Steps,
-) -> Result<Change, OutOfMemory>
+) -> Changed
     requires node { AreOfOneNode parts.now.tables.now parts.now.owner.now shares.now }
     requires out { IsTrue (comes_back parts.now.tables.now out.now) }
     requires narrow { out.now.labels ≤ 80 }
@@ -213,7 +210,7 @@ fn admit(
     request: &SetupRequest<'_>,
     out: &LinkSpec,
     route: Steps,
-) -> Result<Change, OutOfMemory>
+) -> Changed
     requires node { AreOfOneNode parts.now.tables.now parts.now.owner.now shares.now }
     requires out { IsTrue (comes_back parts.now.tables.now out.now) }
     requires narrow { out.now.labels ≤ 80 }
@@ -255,7 +252,7 @@ fn call_over(
     shares: &Shares,
     request: &SetupRequest<'_>,
     route: &Steps,
-) -> Result<Change, OutOfMemory>
+) -> Changed
     requires links { LocalNodeFits (local_of parts.now.tables.now) }
     requires node { AreOfOneNode parts.now.tables.now parts.now.owner.now shares.now }
     ensures { IfOk result (λ c. c ≡ over_here parts.now.tables.now parts.now.calls.now
@@ -278,7 +275,7 @@ fn call_searched(
     shares: &Shares,
     request: &SetupRequest<'_>,
     route: Option<&Steps>,
-) -> Result<Change, OutOfMemory>
+) -> Changed
     requires links { LocalNodeFits (local_of parts.now.tables.now) }
     requires node { AreOfOneNode parts.now.tables.now parts.now.owner.now shares.now }
     requires rows { RowsAreKnown parts.now.tables.now }
@@ -310,7 +307,7 @@ pub fn set_up(
     shares: &Shares,
     request: &SetupRequest<'_>,
     route: Option<&Steps>,
-) -> Result<Change, OutOfMemory>
+) -> Changed
     requires links { LocalNodeFits (local_of parts.now.tables.now) }
     requires node { AreOfOneNode parts.now.tables.now parts.now.owner.now shares.now }
     requires rows { RowsAreKnown parts.now.tables.now }
