@@ -24,30 +24,31 @@ use Rattle.leg_carrying.specs.LegHolds.{AreHeld, MayGiveUp, MayGiveUpAll, TakeNo
 
 -- What is held after one change
 
+-- a label that is lost isn't held
+lost-unheld : (f : Fibre) (x : ℕ) (o : Option Leg) → cond ((takes_of f x o && true) && true) None (held_by f x o) ≡ None
+lost-unheld f x None = refl
+lost-unheld f x (Some g) = one (takes f x g)
+  where
+    one : (b : Bool) → cond ((b && true) && true) None (cond b (Some (hold_of g)) None) ≡ None
+    one true = refl
+    one false = refl
+
+and-never : (b : Bool) → (b && false) ≡ false
+and-never true = refl
+and-never false = refl
+
 -- a leg that goes holds nothing
 pub gone-held : (l : Lsp) (legs : List Leg) (f : Fibre) (x : ℕ) (m : Lsp) →
     less l (is_lost (find_leg l legs) None) (held_of legs) f x m ≡ held_of (without_leg l legs) f x m
 gone-held l legs f x m = go (same_lsp l m) refl ∙ ap (held_by f x) (sym (find-without_leg l legs m))
   where
-    none : (o : Option Leg) → cond ((takes_of f x o && true) && true) None (held_by f x o) ≡ None
-    none None = refl
-    none (Some g) = one (takes f x g)
-      where
-        one : (b : Bool) → cond ((b && true) && true) None (cond b (Some (hold_of g)) None) ≡ None
-        one true = refl
-        one false = refl
-
-    never : (b : Bool) → (b && false) ≡ false
-    never true = refl
-    never false = refl
-
     go : (b : Bool) → same_lsp l m ≡ b →
         cond (is_lost (find_leg l legs) None f x && b) None (held_of legs f x m) ≡
         held_by f x (cond b None (find_leg m legs))
     go true e =
         subst (λ k. cond (is_lost (find_leg l legs) None f x && true) None (held_of legs f x k) ≡ None)
-        (same_lsp-eq l m e) (none (find_leg l legs))
-    go false e = ap (λ b. cond b None (held_of legs f x m)) (never (is_lost (find_leg l legs) None f x))
+        (same_lsp-eq l m e) (lost-unheld f x (find_leg l legs))
+    go false e = ap (λ b. cond b None (held_of legs f x m)) (and-never (is_lost (find_leg l legs) None f x))
 
 -- one that is put holds what its LSP's leg held, where it took all that it takes
 pub put-held : (g : Leg) (legs : List Leg) (f : Fibre) (x : ℕ) (m : Lsp) → (takes f x g ≡ true → Took legs g f x) →
@@ -68,19 +69,7 @@ put-held g legs f x m took = go (same_lsp g.lsp m) refl ∙ ap (held_by f x) (sy
         none : (b : Bool) → ((b && false) && true) ≡ false
         none true = refl
         none false = refl
-    same false t = gone (find_leg g.lsp legs)
-      where
-        gone : (o : Option Leg) → cond ((takes_of f x o && true) && true) None (held_by f x o) ≡ None
-        gone None = refl
-        gone (Some k) = one (takes f x k)
-          where
-            one : (b : Bool) → cond ((b && true) && true) None (cond b (Some (hold_of k)) None) ≡ None
-            one true = refl
-            one false = refl
-
-    never : (b : Bool) → (b && false) ≡ false
-    never true = refl
-    never false = refl
+    same false t = lost-unheld f x (find_leg g.lsp legs)
 
     go : (b : Bool) → same_lsp g.lsp m ≡ b →
         cond (is_lost (find_leg g.lsp legs) (Some g) f x && b) None (held_of legs f x m) ≡
@@ -88,7 +77,7 @@ put-held g legs f x m took = go (same_lsp g.lsp m) refl ∙ ap (held_by f x) (sy
     go true e =
         subst (λ k. cond (is_lost (find_leg g.lsp legs) (Some g) f x && true) None (held_of legs f x k) ≡
         held_by f x (Some g)) (same_lsp-eq g.lsp m e) (same (takes f x g) refl)
-    go false e = ap (λ b. cond b None (held_of legs f x m)) (never (is_lost (find_leg g.lsp legs) (Some g) f x))
+    go false e = ap (λ b. cond b None (held_of legs f x m)) (and-never (is_lost (find_leg g.lsp legs) (Some g) f x))
 
 -- The new label
 
