@@ -1,5 +1,5 @@
 -- An ingress fits after what becomes of its calls.
-use Rattle.std.proofs.Common.{◌≡◌, refl, sym, subst, Result, Ok, Err}
+use Rattle.std.proofs.Common.{◌≡◌, List, refl, sym, subst, Result, Ok, Err}
 use Rattle.std.specs.Prelude.{OnOk, IfOk}
 use Rattle.std.specs.List.{AllByRecursion}
 use Rattle.ason_base.specs.declared.commands.Command.{Command}
@@ -7,6 +7,7 @@ use Rattle.ason_base.specs.declared.commands.Command.TheVariants.{Setup, Release
 use Rattle.ason_base.specs.declared.commands.DeskItem.{DeskItem}
 use Rattle.ason_base.specs.declared.commands.DeskItem.TheVariants.{Order}
 use Rattle.link_owner.specs.Owners.{OwnerState}
+use Rattle.share_check.specs.Guards.{Guard}
 use Rattle.mesh_rules.specs.Calls.{find_call}
 use Rattle.mesh_rules.specs.Changes.{Answer, changed, nothing}
 use Rattle.mesh_rules.specs.LocalNodes.{LocalNode}
@@ -15,13 +16,14 @@ use Rattle.mesh_rules.specs.State.{NodeState}
 use Rattle.mesh_nodes.specs.FitNodes.{NodeFits}
 use Rattle.mesh_nodes.specs.LocalNodes.{LocalNodeFits}
 use Rattle.mesh_nodes.proofs.Items.{items-fit}
-use Rattle.leg_table.specs.Handled.{CallsFollow, Handed, MayBeCarriedOut}
+use Rattle.leg_table.specs.Handled.{CallsFollow, Handed, IsCarriedOut, IsCarriedOutKept, MayBeCarriedOut}
+use Rattle.leg_table.specs.LegClaims.{AreOfOneNode}
 use Rattle.leg_table.specs.States.{local_of, state_of}
 use Rattle.leg_table.specs.Tables.{CallTable, LegTable}
 use Rattle.leg_carrying.proofs.CallLegs.{Fine}
 use Rattle.leg_carrying.proofs.RuleChanges.{item-may}
 use Rattle.call_control.specs.Handlers.{command_answer, setup_answer}
-use Rattle.call_control.specs.Ingress.{AllNameByRole, IngressFits, IsArmedAsBackup}
+use Rattle.call_control.specs.Ingress.{AllNameByRole, IngressFits, IsArmedAsBackup, MayAsk}
 use Rattle.call_rules.specs.Searches.{RowsAreKnown}
 use Rattle.call_control.proofs.Decides.{retry-stays}
 use Rattle.call_control.proofs.Named.{Stays, nothing-stays, protect-stays, release-stays, setup-stays}
@@ -68,6 +70,20 @@ either-fits (Ok outs) t o c after claimed calls a fits keeps done known =
     carried-fits t after c calls a fits.links keeps done.local known done.ok
 either-fits (Err e) t o c after claimed calls a fits keeps done known =
     subst (λ s. IngressFits s calls) (sym done.err) (subst (IngressFits t) (sym done.err_calls) fits)
+
+module _ {handed : Handed} {t after : LegTable} {o claimed : OwnerState} {c calls : CallTable} {a : Answer}
+    (fits : IngressFits t c) (keeps : Keeps t c a) where
+  pub carried-out-fits : {s guards : List Guard} → IsCarriedOut handed t o s c after claimed guards calls a →
+      IngressFits after calls
+  carried-out-fits done = either-fits handed t o c after claimed calls a fits keeps done.calls done.node.rows
+
+  pub carried-kept-fits : IsCarriedOutKept handed t o c after claimed calls a → IngressFits after calls
+  carried-kept-fits done = either-fits handed t o c after claimed calls a fits keeps done.calls done.fits.rows
+
+-- backups can be asked for at such an ingress
+pub may-ask : {t : LegTable} {o : OwnerState} {s : List Guard} {c : CallTable} → IngressFits t c →
+    AreOfOneNode t o s → MayAsk t o s
+may-ask fits node = record { links = fits.links; rows = fits.rows; node = node }
 
 pub on-ok : {X E : Type 0} (P Q : Type 0) (r : Result X E) → (P → Q) → OnOk r P → OnOk r Q
 on-ok P Q (Ok x) f here = f here

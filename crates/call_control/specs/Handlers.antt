@@ -17,6 +17,7 @@ use Rattle.ason_base.specs.declared.tables.CallRec.{CallRec}
 use Rattle.ason_base.specs.declared.tables.Leg.{Leg}
 use Rattle.ason_base.specs.declared.tables.Out.{Out}
 use Rattle.mesh_rules.specs.declared.arrivals.Arrival.{Arrival}
+use Rattle.mesh_rules.specs.declared.arrivals.GivenLabel.{GivenLabel}
 use Rattle.mesh_rules.specs.ActivationAnswers.{is_confirmed}
 use Rattle.mesh_rules.specs.Calls.{call_with}
 use Rattle.mesh_rules.specs.Changes.{Answer, changed, nothing}
@@ -151,6 +152,10 @@ takes_activation a x (Some g) = begins_here g && is_confirmed a x g
 abbrev pub confirmed_by : CallTable → Arrival → ℕ → Option Leg → Option CallRec
 confirmed_by c a x None = None
 confirmed_by c a x (Some g) = if takes_activation a x (Some g) then turned_by c g else None
+
+-- by the leg of the Resv's LSP
+abbrev pub confirmed_here : LegTable → CallTable → GivenLabel → Option CallRec
+confirmed_here t c given = confirmed_by c given.arrival given.label (find_leg given.arrival.lsp t.legs)
 
 -- the call that may go back by the message from this node, as it is decided of
 abbrev pub decided_by : LegTable → CallTable → NodeId → Msg → Option CallRec

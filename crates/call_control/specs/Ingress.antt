@@ -6,11 +6,14 @@ use Rattle.ason_base.specs.declared.calls.Role.TheVariants.{Work, Back}
 use Rattle.ason_base.specs.declared.ids.Lsp.{Lsp}
 use Rattle.ason_base.specs.declared.tables.CallRec.{CallRec}
 use Rattle.ason_base.specs.declared.tables.Leg.{Leg}
+use Rattle.link_owner.specs.Owners.{OwnerState}
+use Rattle.share_check.specs.Guards.{Guard}
 use Rattle.mesh_rules.specs.Legs.{find_leg, is_armed}
 use Rattle.mesh_rules.specs.LocalNodes.{LocalNode}
 use Rattle.mesh_rules.specs.State.{NodeState}
 use Rattle.mesh_nodes.specs.FitNodes.{NodeFits}
 use Rattle.mesh_nodes.specs.LocalNodes.{LocalNodeFits}
+use Rattle.leg_table.specs.LegClaims.{AreOfOneNode}
 use Rattle.leg_table.specs.States.{local_of, state_of}
 use Rattle.leg_table.specs.Tables.{CallTable, LegTable}
 use Rattle.call_rules.specs.Searches.{RowsAreKnown}
@@ -52,3 +55,9 @@ pub record IngressFits (t : LegTable) (c : CallTable) : Type 0 where
   pub names : AllNameByRole (local_of t) (state_of t c)
   pub armed : AllByRecursion (IsArmedAsBackup t.node.id.0) t.legs
   pub rows : RowsAreKnown t
+
+-- its links fit, the rows are those that it knows, and it has this owner and these shares: backups can be asked for
+pub record MayAsk (t : LegTable) (o : OwnerState) (shares : List Guard) : Type 0 where
+  pub links : LocalNodeFits (local_of t)
+  pub rows : RowsAreKnown t
+  pub node : AreOfOneNode t o shares

@@ -5,29 +5,29 @@ ghost use Rattle.std.specs.Prelude.{◌≡◌, Some};
 ghost use Rattle.std.specs.List.{list_any};
 ghost use Rattle.std.specs.Option.{option_copied};
 ghost use Rattle.ason_base.specs.Lsps.{is_other_fibre};
-ghost use Rattle.mesh_rules.specs.Legs.{find_leg};
 ghost use Rattle.mesh_rules.specs.Reports.{fibres_after, with_report};
 ghost use Rattle.mesh_rules.specs.Turns.{has_any};
 ghost use Rattle.call_control.specs.GoingBack.{going_back, is_going_back, once_told, once_turned};
-ghost use Rattle.call_control.specs.Handlers.{confirmed_by, goes_back, takes_activation, takes_notify};
+ghost use Rattle.call_control.specs.Handlers.{confirmed_here, goes_back, takes_activation, takes_notify};
 
-use ason_base::{CallNo, CallRec, ErrCode, Fibre, Fibres, Label, Leg, Lsp, Msg, NodeId};
+use ason_base::{CallNo, CallRec, ErrCode, Fibre, Fibres, Leg, Lsp, Msg, NodeId};
 use call_rules::call_states::{is_turned, is_turning};
 use call_turns::{fibre_of, has_any, reported};
 use leg_table::one_leg::{begins_here, following, is_armed, is_closing, is_node, is_over};
 use leg_table::{Calls, NodeTables};
-use mesh_rules::Arrival;
+use mesh_rules::GivenLabel;
+use mesh_rules::readings::given_label;
 
 // A Resv
 
 // Whether the leg is activated by the Resv, and its LSP begins here.
-fn takes_activation(arrival: Arrival, label: Label, leg: &Leg) -> bool
-    ensures { result ≡ takes_activation arrival label (Some leg.now) }
+fn takes_activation(given: GivenLabel, leg: &Leg) -> bool
+    ensures { result ≡ takes_activation given.arrival given.label (Some leg.now) }
 {
     begins_here(leg)
         && is_armed(leg.phase)
-        && is_over(following(leg), arrival.from, arrival.link)
-        && leg.out_label == Some(label)
+        && is_over(following(leg), given.arrival.from, given.arrival.link)
+        && leg.out_label == Some(given.label)
 }
 
 // The number of a call that was turning, if it goes back once it is turned.
@@ -43,19 +43,11 @@ fn back_once_turned(call: Option<&CallRec>) -> Option<CallNo>
     }
 }
 
-fn back_by_resv(
-    tables: &NodeTables,
-    calls: &Calls,
-    arrival: Arrival,
-    label: Label,
-) -> Option<CallNo>
-    ensures { result ≡ going_back
-        (confirmed_by calls.now arrival label (find_leg arrival.lsp tables.now.legs)) }
+fn back_by_resv(tables: &NodeTables, calls: &Calls, given: GivenLabel) -> Option<CallNo>
+    ensures { result ≡ going_back (confirmed_here tables.now calls.now given) }
 {
-    match tables.get(&arrival.lsp) {
-        Some(leg) if takes_activation(arrival, label, leg) => {
-            back_once_turned(calls.with_lsp(leg.lsp))
-        }
+    match tables.get(&given.arrival.lsp) {
+        Some(leg) if takes_activation(given, leg) => back_once_turned(calls.with_lsp(leg.lsp)),
         _ => None,
     }
 }
@@ -116,20 +108,7 @@ pub fn goes_back(tables: &NodeTables, calls: &Calls, from: NodeId, msg: &Msg) ->
     ensures { result ≡ goes_back tables.now calls.now from msg.now }
 {
     match msg {
-        Msg::Resv {
-            lsp,
-            egress,
-            link,
-            label,
-        } => {
-            let arrival = Arrival {
-                lsp: *lsp,
-                egress: *egress,
-                from,
-                link: *link,
-            };
-            back_by_resv(tables, calls, arrival, *label)
-        }
+        Msg::Resv { .. } => back_by_resv(tables, calls, given_label(from, msg)?),
         Msg::Notify {
             lsp,
             at,

@@ -5,14 +5,13 @@ ghost use Rattle.std.specs.Prelude.{◌≡◌, IfOk, OnOk};
 ghost use Rattle.std.specs.Option.{option_copied};
 ghost use Rattle.mesh_rules.specs.Changes.{followed_by};
 ghost use Rattle.mesh_rules.specs.Legs.{find_leg};
-ghost use Rattle.mesh_nodes.specs.LocalNodes.{LocalNodeFits};
 ghost use Rattle.leg_table.specs.Handled.{IsCarriedOut};
 ghost use Rattle.leg_table.specs.LegClaims.{AreOfOneNode};
-ghost use Rattle.leg_table.specs.States.{local_of, state_of};
+ghost use Rattle.leg_table.specs.States.{state_of};
 ghost use Rattle.leg_table.specs.Tables.{LegTable};
 ghost use Rattle.call_control.specs.Handlers.{AreSentFor, IsKeptAfter, IsRouteOf, WereBefore, answer_here, command_answer, is_activated, resv_here, setup_answer, sought_at, sought_by_answer, sought_by_command};
-ghost use Rattle.call_control.specs.Ingress.{IngressFits};
-ghost use Rattle.call_rules.specs.Searches.{IsBackupFor, RowsAreKnown};
+ghost use Rattle.call_control.specs.Ingress.{IngressFits, MayAsk};
+ghost use Rattle.call_rules.specs.Searches.{IsBackupFor};
 
 use crate::gone_legs::refuse_gone;
 use ason_base::{Command, Leg, Lsp, Msg, NodeId, OutOfMemory, Outs, Steps};
@@ -21,6 +20,7 @@ use call_rules::IngressParts;
 use call_setups::{SetupRequest, protect, set_up};
 use call_turns::{answer_busy, answer_confirmed, answer_report, release, retry};
 use leg_carrying::carry_out;
+use leg_table::changes::Changed;
 use leg_table::one_leg::{is_in_use, is_work};
 use leg_table::{Calls, Change, NodeTables};
 use link_owner::Owner;
@@ -35,10 +35,8 @@ fn setup_change(
     shares: &Shares,
     command: &Command,
     route: Option<&Steps>,
-) -> Result<Change, OutOfMemory>
-    requires links { LocalNodeFits (local_of parts.now.tables.now) }
-    requires node { AreOfOneNode parts.now.tables.now parts.now.owner.now shares.now }
-    requires rows { RowsAreKnown parts.now.tables.now }
+) -> Changed
+    requires may { MayAsk parts.now.tables.now parts.now.owner.now shares.now }
     requires route { IsRouteOf parts.now.tables.now parts.now.calls.now command.now
         (option_copied route) }
     ensures { IfOk result
@@ -87,10 +85,8 @@ fn command_change(
     shares: &Shares,
     command: &Command,
     backup: Option<&Steps>,
-) -> Result<Change, OutOfMemory>
-    requires links { LocalNodeFits (local_of parts.now.tables.now) }
-    requires rows { RowsAreKnown parts.now.tables.now }
-    requires node { AreOfOneNode parts.now.tables.now parts.now.owner.now shares.now }
+) -> Changed
+    requires may { MayAsk parts.now.tables.now parts.now.owner.now shares.now }
     requires backup { IsBackupFor parts.now.tables.now
         (sought_by_command parts.now.tables.now parts.now.calls.now command.now)
         (option_copied backup) }
@@ -159,9 +155,7 @@ fn follow_resv(
     lsp: Lsp,
     backup: Option<&Steps>,
 ) -> Result<(), OutOfMemory>
-    requires links { LocalNodeFits (local_of parts.now.tables.now) }
-    requires rows { RowsAreKnown parts.now.tables.now }
-    requires node { AreOfOneNode parts.now.tables.now parts.now.owner.now shares.now }
+    requires may { MayAsk parts.now.tables.now parts.now.owner.now shares.now }
     requires backup { IsBackupFor parts.now.tables.now
         (sought_at parts.now.calls.now (find_leg lsp parts.now.tables.now.legs))
         (option_copied backup) }
@@ -184,9 +178,7 @@ fn follow(
     msg: &Msg,
     backup: Option<&Steps>,
 ) -> Result<(), OutOfMemory>
-    requires links { LocalNodeFits (local_of parts.now.tables.now) }
-    requires rows { RowsAreKnown parts.now.tables.now }
-    requires node { AreOfOneNode parts.now.tables.now parts.now.owner.now shares.now }
+    requires may { MayAsk parts.now.tables.now parts.now.owner.now shares.now }
     requires backup { IsBackupFor parts.now.tables.now
         (sought_by_answer parts.now.tables.now parts.now.calls.now msg.now)
         (option_copied backup) }
@@ -216,10 +208,8 @@ fn answer_change(
     shares: &Shares,
     msg: &Msg,
     backup: Option<&Steps>,
-) -> Result<Change, OutOfMemory>
-    requires links { LocalNodeFits (local_of parts.now.tables.now) }
-    requires rows { RowsAreKnown parts.now.tables.now }
-    requires node { AreOfOneNode parts.now.tables.now parts.now.owner.now shares.now }
+) -> Changed
+    requires may { MayAsk parts.now.tables.now parts.now.owner.now shares.now }
     requires backup { IsBackupFor parts.now.tables.now
         (sought_by_answer parts.now.tables.now parts.now.calls.now msg.now)
         (option_copied backup) }

@@ -3,17 +3,12 @@ use Rattle.call_control.proofs.Followed.{follows, kept-after, sent-after}
 use Rattle.call_control.proofs.FitIngresses.{carried-fits, if-ok, keeps-may, on-ok}
 use Rattle.call_control.proofs.handlers.answer.Goals as goal
 
-pub answer_change-requires-clause-links : goal.answer_change-requires-clause-links
-answer_change-requires-clause-links c =
+pub answer_change-requires-clause-may : goal.answer_change-requires-clause-may
+answer_change-requires-clause-may c =
     let t = c.args.tables.now in
     let calls = c.args.calls.now in
-    (follows c.requires.before.0 t calls c.args.from c.args.msg.now c.requires.before.1).links
-
-pub answer_change-requires-clause-rows : goal.answer_change-requires-clause-rows
-answer_change-requires-clause-rows c =
-    let t = c.args.tables.now in
-    let calls = c.args.calls.now in
-    (follows c.requires.before.0 t calls c.args.from c.args.msg.now c.requires.before.1).known
+    let after = follows c.requires.before.0 t calls c.args.from c.args.msg.now c.requires.before.1 in
+    record { links = after.links; rows = after.known; node = c.requires.node }
 
 pub carry_out-requires-clause-may : goal.carry_out-requires-clause-may
 carry_out-requires-clause-may c =

@@ -1,4 +1,4 @@
-use Rattle.call_control.proofs.FitIngresses.{command-keeps, either-fits, keeps-may}
+use Rattle.call_control.proofs.FitIngresses.{carried-out-fits, command-keeps, keeps-may, may-ask}
 use Rattle.call_control.proofs.handlers.command.Goals as goal
 
 pub carry_out-requires-clause-may : goal.carry_out-requires-clause-may
@@ -13,5 +13,8 @@ returns-clause-carried c = rw c.in_ok-change.ensures at c.carry_out.ensures
 pub returns-clause-fits : goal.returns-clause-fits
 returns-clause-fits c =
     let done = rw c.in_ok-change.ensures at c.carry_out.ensures in
-    either-fits c.carry_out.result _ _ _ _ _ _ _ c.requires.fits
-    (command-keeps c.args.tables.now c.args.calls.now c.args.command.now c.requires.fits) done.calls done.node.rows
+    carried-out-fits c.requires.fits (command-keeps c.args.tables.now c.args.calls.now c.args.command.now
+    c.requires.fits) done
+
+pub command_change-requires-clause-may : goal.command_change-requires-clause-may
+command_change-requires-clause-may c = may-ask c.requires.fits c.requires.node

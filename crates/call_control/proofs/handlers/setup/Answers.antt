@@ -1,4 +1,4 @@
-use Rattle.call_control.proofs.FitIngresses.{either-fits, keeps-may, setup-keeps}
+use Rattle.call_control.proofs.FitIngresses.{carried-out-fits, keeps-may, may-ask, setup-keeps}
 use Rattle.call_control.proofs.handlers.setup.Goals as goal
 
 pub carry_out-requires-clause-may : goal.carry_out-requires-clause-may
@@ -13,5 +13,8 @@ returns-clause-carried c = rw c.in_ok-change.ensures at c.carry_out.ensures
 pub returns-clause-fits : goal.returns-clause-fits
 returns-clause-fits c =
     let done = rw c.in_ok-change.ensures at c.carry_out.ensures in
-    either-fits c.carry_out.result _ _ _ _ _ _ _ c.requires.fits
-    (setup-keeps c.args.tables.now c.args.calls.now c.args.command.now c.requires.fits) done.calls done.node.rows
+    carried-out-fits c.requires.fits (setup-keeps c.args.tables.now c.args.calls.now c.args.command.now
+    c.requires.fits) done
+
+pub setup_change-requires-clause-may : goal.setup_change-requires-clause-may
+setup_change-requires-clause-may c = may-ask c.requires.fits c.requires.node
