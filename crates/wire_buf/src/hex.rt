@@ -20,6 +20,18 @@ pub fn hex_digit(c: u8) -> Option<u8>
     }
 }
 
+/// Adds the byte of two digits, and goes on behind them. Where one is no digit, the function ends with none.
+#[macro_export]
+macro_rules! push_digits {
+    ($bytes:ident, $high:ident, $low:ident, $rest:ident, $others:ident) => {{
+        let (Some($high), Some($low)) = (hex_digit(*$high), hex_digit(*$low)) else {
+            return Ok(None);
+        };
+        $bytes.push(16 * $high + $low)?;
+        $rest = $others;
+    }};
+}
+
 /// The bytes that the text writes, two digits each: none exactly where it is of another form.
 pub fn read_hex(alloc: Global, text: &[u8]) -> Result<Option<Vec<u8>>, OutOfMemory>
     ensures { IfOk result (λ bytes. option_map (λ v. v.items) bytes ≡ hex_pairs text.now) }
@@ -29,13 +41,7 @@ pub fn read_hex(alloc: Global, text: &[u8]) -> Result<Option<Vec<u8>>, OutOfMemo
     'bytes: loop {
         match rest {
             [] => return Ok(Some(bytes)),
-            [high, low, others @ ..] => {
-                let (Some(high), Some(low)) = (hex_digit(*high), hex_digit(*low)) else {
-                    return Ok(None);
-                };
-                bytes.push(16 * high + low)?;
-                rest = others;
-            }
+            [high, low, others @ ..] => push_digits!(bytes, high, low, rest, others),
             [_] => return Ok(None),
         }
     }
