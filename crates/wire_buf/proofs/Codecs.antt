@@ -1,5 +1,5 @@
 -- What a reader and a writer show at each of their ends.
-use Rattle.std.proofs.Common.{◌≡◌, Some, None, Result, Ok, Err, ap, sym, ◌∙◌, ◌<◌, ◌+◌, ◌++◌, ℕ, List, length, IsErr, OnOk}
+use Rattle.std.proofs.Common.{◌≡◌, Some, None, Result, Ok, Err, ap, sym, ◌∙◌, ◌<◌, ◌+◌, ◌++◌, ℕ, List, length, IsErr, IsErrOf, OnOk}
 use Rattle.std.proofs.Common.{vec_len, vec_capacity}
 use Rattle.std.specs.Global.{Vec}
 use Rattle.ason_base.specs.declared.messages.DecodeError.{DecodeError}
@@ -17,6 +17,10 @@ module _ {X : Type 0} {Means : X → Type 0} where
 
   pub decodes_none : ((x : X) → Means x → ⊥) → Decodes Means (Err NotMessage)
   decodes_none none = record { found = tt; only = λ x means. tt; not_message = λ e. none }
+
+  pub decodes_err : (e : DecodeError) → (IsErrOf {T = X} (Err e) NotMessage → (x : X) → Means x → ⊥) →
+      Decodes Means (Err e)
+  decodes_err e none = record { found = tt; only = λ x means. tt; not_message = none }
 
   -- Where bytes are read, they have one meaning.
   pub one_meaning : (r : Result X DecodeError) → Decodes Means r → OnOk r (HasOneMeaning Means)

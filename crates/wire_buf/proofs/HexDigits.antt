@@ -28,19 +28,25 @@ behind_byte front high low None = refl
 behind_byte front high low (Some bytes) =
     ap (λ (l : List ℕ). Some l) (append_assoc front ((16 * high + low) ∷ []) bytes)
 
--- Two digits more are read as a byte more.
+-- Two digits more are read as a byte more, by whatever reads two digits in front as a byte.
 pub pair_read :
-    (front new text rest : List ℕ) (high low : ℕ) → 2 ≤ length rest
+    (reads : List ℕ → Option (List ℕ))
+    → ((c d high low : ℕ) (cs : List ℕ) → Some high ≡ digit_value c → Some low ≡ digit_value d
+    → reads (c ∷ d ∷ cs) ≡ byte_of (Some high) (Some low) (reads cs))
+    → (front new text rest : List ℕ) (high low : ℕ) → 2 ≤ length rest
     → Some high ≡ digit_value (get_or rest 0 0) → Some low ≡ digit_value (get_or rest 1 0)
-    → new ≡ front ++ (16 * high + low) ∷ [] → behind front (hex_pairs rest) ≡ hex_pairs text
-    → behind new (hex_pairs (take (length rest - 2) (drop 2 rest))) ≡ hex_pairs text
-pair_read front new text [] high low long h l e so_far = absurd (omega arith)
-pair_read front new text (c ∷ []) high low long h l e so_far = absurd (omega arith)
-pair_read front new text (c ∷ d ∷ cs) high low long h l e so_far =
+    → new ≡ front ++ (16 * high + low) ∷ [] → behind front (reads rest) ≡ reads text
+    → behind new (reads (take (length rest - 2) (drop 2 rest))) ≡ reads text
+pair_read reads byte front new text [] high low long h l e so_far = absurd (omega arith)
+pair_read reads byte front new text (c ∷ []) high low long h l e so_far = absurd (omega arith)
+pair_read reads byte front new text (c ∷ d ∷ cs) high low long h l e so_far =
     let others : take (length (c ∷ d ∷ cs) - 2) cs ≡ cs = take_all (length (c ∷ d ∷ cs) - 2) cs (omega arith) in
-    let here : hex_pairs (c ∷ d ∷ cs) ≡ byte_of (Some high) (Some low) (hex_pairs cs) = rw (sym h, sym l) refl in
-    ap (λ (l : List ℕ). behind new (hex_pairs l)) others ∙ ap (λ (l : List ℕ). behind l (hex_pairs cs)) e
-    ∙ behind_byte front high low (hex_pairs cs) ∙ ap (behind front) (sym here) ∙ so_far
+    ap (λ (l : List ℕ). behind new (reads l)) others ∙ ap (λ (l : List ℕ). behind l (reads cs)) e
+    ∙ behind_byte front high low (reads cs) ∙ ap (behind front) (sym (byte c d high low cs h l)) ∙ so_far
+
+pub byte_read : (c d high low : ℕ) (cs : List ℕ) → Some high ≡ digit_value c → Some low ≡ digit_value d →
+    hex_pairs (c ∷ d ∷ cs) ≡ byte_of (Some high) (Some low) (hex_pairs cs)
+byte_read c d high low cs h l = rw (sym h, sym l) refl
 
 pub hex_text-length : (bytes : List ℕ) → length (hex_text bytes) ≡ 2 * length bytes
 hex_text-length [] = refl

@@ -64,48 +64,61 @@ wraps zero high none =
 wraps (suc n) high none =
     omega (arith, ones-positive (suc n + 65535 * high) (omega arith), ones-positive (suc n) (omega arith))
 
+-- what holds of all lists that begin with four bytes holds of each that is long enough
+by_four : (P : List ℕ → Type 0) → ((a b c d : ℕ) (rest : List ℕ) → P (a ∷ b ∷ c ∷ d ∷ rest)) → (left : List ℕ) →
+    4 ≤ length left → P left
+by_four P each [] h = absurd (omega arith)
+by_four P each (a ∷ []) h = absurd (omega arith)
+by_four P each (a ∷ b ∷ []) h = absurd (omega arith)
+by_four P each (a ∷ b ∷ c ∷ []) h = absurd (omega arith)
+by_four P each (a ∷ b ∷ c ∷ d ∷ rest) h = each a b c d rest
+
 pair_wraps : (n : ℕ) (left : List ℕ) → 4 ≤ length left →
     ones_of (n + big_number 4 left + sum (words (drop 4 left))) ≡ ones_of (n + sum (words left))
-pair_wraps n [] h = absurd (omega arith)
-pair_wraps n (a ∷ []) h = absurd (omega arith)
-pair_wraps n (a ∷ b ∷ []) h = absurd (omega arith)
-pair_wraps n (a ∷ b ∷ c ∷ []) h = absurd (omega arith)
-pair_wraps n (a ∷ b ∷ c ∷ d ∷ left) h =
-    let high : ℕ = a * 256 + b in
-    let low : ℕ = c * 256 + d in
-    let read : big_number 4 (a ∷ b ∷ c ∷ d ∷ left) ≡ high * 65536 + low = omega arith in
-    let front : sum (words (a ∷ b ∷ c ∷ d ∷ left)) ≡ high + (low + sum (words left)) =
-    sum_by-cons (λ x. x) high (low ∷ words left)
-    ∙ ap (λ (m : ℕ). high + m) (sum_by-cons (λ x. x) low (words left)) in
-    let whole : ℕ = n + sum (words (a ∷ b ∷ c ∷ d ∷ left)) in
-    ap ones_of (omega (arith, read, front)) ∙ wraps whole high (λ none. omega (arith, front, none))
+pair_wraps n =
+    by_four (λ left. ones_of (n + big_number 4 left + sum (words (drop 4 left))) ≡ ones_of (n + sum (words left))) each
+  where
+    each : (a b c d : ℕ) (left : List ℕ) →
+        ones_of (n + big_number 4 (a ∷ b ∷ c ∷ d ∷ left) + sum (words left))
+        ≡ ones_of (n + sum (words (a ∷ b ∷ c ∷ d ∷ left)))
+    each a b c d left =
+        let high : ℕ = a * 256 + b in
+        let low : ℕ = c * 256 + d in
+        let read : big_number 4 (a ∷ b ∷ c ∷ d ∷ left) ≡ high * 65536 + low = omega arith in
+        let front : sum (words (a ∷ b ∷ c ∷ d ∷ left)) ≡ high + (low + sum (words left)) =
+        sum_by-cons (λ x. x) high (low ∷ words left)
+        ∙ ap (λ (m : ℕ). high + m) (sum_by-cons (λ x. x) low (words left)) in
+        let whole : ℕ = n + sum (words (a ∷ b ∷ c ∷ d ∷ left)) in
+        ap ones_of (omega (arith, read, front)) ∙ wraps whole high (λ none. omega (arith, front, none))
 
 eight_bytes : (a b c d : ℕ) (rest : List ℕ) → 4 ≤ length rest →
     big_number 8 (a ∷ b ∷ c ∷ d ∷ rest) ≡ big_number 4 (a ∷ b ∷ c ∷ d ∷ rest) * 4294967296 + big_number 4 rest
-eight_bytes a b c d [] h = absurd (omega arith)
-eight_bytes a b c d (e ∷ []) h = absurd (omega arith)
-eight_bytes a b c d (e ∷ f ∷ []) h = absurd (omega arith)
-eight_bytes a b c d (e ∷ f ∷ g ∷ []) h = absurd (omega arith)
-eight_bytes a b c d (e ∷ f ∷ g ∷ k ∷ rest) h = omega arith
+eight_bytes a b c d =
+    by_four (λ rest. big_number 8 (a ∷ b ∷ c ∷ d ∷ rest)
+    ≡ big_number 4 (a ∷ b ∷ c ∷ d ∷ rest) * 4294967296 + big_number 4 rest) (λ e f g k rest. omega arith)
 
 -- and a number of eight bytes for its four words
 four_wraps : (n : ℕ) (left : List ℕ) → 8 ≤ length left →
     ones_of (n + big_number 8 left + sum (words (drop 8 left))) ≡ ones_of (n + sum (words left))
-four_wraps n [] h = absurd (omega arith)
-four_wraps n (a ∷ []) h = absurd (omega arith)
-four_wraps n (a ∷ b ∷ []) h = absurd (omega arith)
-four_wraps n (a ∷ b ∷ c ∷ []) h = absurd (omega arith)
-four_wraps n (a ∷ b ∷ c ∷ d ∷ rest) h =
-    let long : 4 ≤ length rest = omega arith in
-    let first : ℕ = big_number 4 (a ∷ b ∷ c ∷ d ∷ rest) in
-    let last : ℕ = big_number 4 rest in
-    let others : ℕ = sum (words (drop 4 rest)) in
-    let read : big_number 8 (a ∷ b ∷ c ∷ d ∷ rest) ≡ first * 4294967296 + last = eight_bytes a b c d rest long in
-    let shape : n + (first * 4294967296 + last) + others ≡ n + first + last + others + 65535 * (65537 * first) =
-    omega arith in
-    ap (λ (m : ℕ). ones_of (n + m + others)) read ∙ ap ones_of shape
-    ∙ wraps (n + first + last + others) (65537 * first) (λ none. omega (arith, none))
-    ∙ pair_wraps (n + first) rest long ∙ pair_wraps n (a ∷ b ∷ c ∷ d ∷ rest) (omega arith)
+four_wraps n left long =
+    by_four (λ bytes. 8 ≤ length bytes →
+    ones_of (n + big_number 8 bytes + sum (words (drop 8 bytes))) ≡ ones_of (n + sum (words bytes)))
+    each left (omega (arith, long)) long
+  where
+    each : (a b c d : ℕ) (rest : List ℕ) → 8 ≤ length (a ∷ b ∷ c ∷ d ∷ rest) →
+        ones_of (n + big_number 8 (a ∷ b ∷ c ∷ d ∷ rest) + sum (words (drop 4 rest)))
+        ≡ ones_of (n + sum (words (a ∷ b ∷ c ∷ d ∷ rest)))
+    each a b c d rest h =
+        let long : 4 ≤ length rest = omega arith in
+        let first : ℕ = big_number 4 (a ∷ b ∷ c ∷ d ∷ rest) in
+        let last : ℕ = big_number 4 rest in
+        let others : ℕ = sum (words (drop 4 rest)) in
+        let read : big_number 8 (a ∷ b ∷ c ∷ d ∷ rest) ≡ first * 4294967296 + last = eight_bytes a b c d rest long in
+        let shape : n + (first * 4294967296 + last) + others ≡ n + first + last + others + 65535 * (65537 * first) =
+        omega arith in
+        ap (λ (m : ℕ). ones_of (n + m + others)) read ∙ ap ones_of shape
+        ∙ wraps (n + first + last + others) (65537 * first) (λ none. omega (arith, none))
+        ∙ pair_wraps (n + first) rest long ∙ pair_wraps n (a ∷ b ∷ c ∷ d ∷ rest) (omega arith)
 
 pub adds_pair : (bytes left after : List ℕ) (so_far pair new : ℕ) → 4 ≤ length left → pair ≡ big_number 4 left →
     pair < 4294967296 → after ≡ drop 4 left → new ≡ so_far + pair → SumsTo bytes left so_far → SumsTo bytes after new
