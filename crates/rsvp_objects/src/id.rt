@@ -17,7 +17,8 @@ const MESSAGE_ID_ACK: u8 = 24;
 /// The flag of a MESSAGE_ID that asks for an acknowledgement.
 const ACK_DESIRED: u8 = 1;
 
-fn id_of(body: &[u8]) -> Option<MsgId>
+/// The number of a MESSAGE_ID's body, or of a MESSAGE_ID_ACK's. None exactly where the body is none.
+pub fn read_id(body: &[u8]) -> Option<MsgId>
     ensures { Reads (IsMsgId body.now) result }
 {
     if body.len() != 8 {
@@ -41,26 +42,12 @@ fn write_as(out: &mut Vec<u8>, class: u8, flags: u8, x: &MsgId) -> Result<(), Ou
     Ok(())
 }
 
-/// The number of a MESSAGE_ID's body. None exactly where the body is none.
-pub fn read_id(body: &[u8]) -> Option<MsgId>
-    ensures { Reads (IsMsgId body.now) result }
-{
-    id_of(body)
-}
-
 /// Appends the MESSAGE_ID object, which asks for an acknowledgement.
 pub fn write_id(out: &mut Vec<u8>, x: &MsgId) -> Result<(), OutOfMemory>
     requires { x.now.epoch < 2 ^ 24 }
     ensures { Appends out.old out.new (object 23 1 (msg_id_bytes 1 x.now)) result }
 {
     write_as(out, MESSAGE_ID, ACK_DESIRED, x)
-}
-
-/// The number of a MESSAGE_ID_ACK's body. None exactly where the body is none.
-pub fn read_ack(body: &[u8]) -> Option<MsgId>
-    ensures { Reads (IsMsgId body.now) result }
-{
-    id_of(body)
 }
 
 /// Appends the MESSAGE_ID_ACK object.

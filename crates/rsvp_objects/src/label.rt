@@ -13,7 +13,9 @@ const LABEL: u8 = 16;
 
 const UPSTREAM_LABEL: u8 = 35;
 
-fn label_of(body: &[u8]) -> Option<Label>
+/// The label of a LABEL's body, or of an UPSTREAM_LABEL's. None exactly where the body is none, as where the label isn't
+/// 1 to 80.
+pub fn read_label(body: &[u8]) -> Option<Label>
     ensures { Reads (IsLabel body.now) result }
 {
     if body.len() != 4 {
@@ -35,25 +37,11 @@ fn write_as(out: &mut Vec<u8>, class: u8, x: &Label) -> Result<(), OutOfMemory>
     Ok(())
 }
 
-/// The label of a LABEL's body. None exactly where the body is none, as where the label isn't 1 to 80.
-pub fn read_label(body: &[u8]) -> Option<Label>
-    ensures { Reads (IsLabel body.now) result }
-{
-    label_of(body)
-}
-
 /// Appends the LABEL object.
 pub fn write_label(out: &mut Vec<u8>, x: &Label) -> Result<(), OutOfMemory>
     ensures { Appends out.old out.new (object 16 2 (label_bytes x.now)) result }
 {
     write_as(out, LABEL, x)
-}
-
-/// The label of an UPSTREAM_LABEL's body. None exactly where the body is none, as where the label isn't 1 to 80.
-pub fn read_upstream(body: &[u8]) -> Option<Label>
-    ensures { Reads (IsLabel body.now) result }
-{
-    label_of(body)
 }
 
 /// Appends the UPSTREAM_LABEL object.

@@ -14,8 +14,8 @@ mod tlv;
 
 pub use error::{ErrorSpec, read_error, read_error_ipv4, write_error, write_error_ipv4};
 pub use hop::{HopObject, read_hop, write_hop};
-pub use id::{read_ack, read_id, write_ack, write_id};
-pub use label::{read_label, read_upstream, write_label, write_upstream};
+pub use id::{read_id, read_id as read_ack, write_ack, write_id};
+pub use label::{read_label, read_label as read_upstream, write_label, write_upstream};
 pub use label_set::{LabelSetObject, read_label_set, write_label_set};
 pub use request::{LabelRequest, read_request, write_request};
 pub use route::{read_route, write_route};
