@@ -30,6 +30,18 @@ use Rattle.route_least.proofs.Ordered.{few_places}
 use Rattle.route_least.proofs.PlaceLists.{node_within, nothing}
 use Rattle.route_least.proofs.WalkLaws.{sound_network, ways}
 
+-- What was read of a network
+
+pub least_read : (closed : List Bool) (banned : List NodeId) (start : ℕ) (costs : List (Option ℕ))
+    (read places : List Place) → read ≡ places → AreLeast (Goes read closed banned) start costs →
+    AreLeast (Goes places closed banned) start costs
+least_read closed banned start costs read places same = subst (λ ps. AreLeast (Goes ps closed banned) start costs) same
+
+pub listed_read : (potential : List (NodeId × ℕ)) (read order : List NodePlace) (seen costs : List (Option ℕ)) →
+    read ≡ order → seen ≡ costs → AreListed read seen potential → AreListed order costs potential
+listed_read potential read order seen costs same known listed =
+    subst (λ o. AreListed o costs potential) same (subst (λ t. AreListed read t potential) known listed)
+
 -- Prepared networks
 
 -- at most 64 places

@@ -1,5 +1,5 @@
 -- Routes that follow, from place to place, the arc of the least link among those that are tight and lead to the end.
-use Rattle.std.specs.Prelude.{◌≡◌, ◌⊎◌, ℕ, ◌+◌, ◌<◌, ◌≤◌, List, [], ◌∷◌, Bool, true, false, Option, Some}
+use Rattle.std.specs.Prelude.{◌≡◌, ◌⊎◌, ℕ, ◌+◌, ◌<◌, ◌≤◌, List, [], ◌∷◌, Bool, true, false, Option, Some, MatchOption}
 use Rattle.std.specs.List.{AllPairs, Contains}
 use Rattle.ason_base.specs.declared.ids.NodeId.{NodeId}
 use Rattle.ason_base.specs.declared.steps.Step.{Step}
@@ -33,6 +33,11 @@ pub record IsBest (MayGo : ℕ → Arc → Type 0) (costs : List (Option ℕ)) (
     (arc : Arc) : Type 0 where
   pub leads : LeadsOn MayGo costs marks place arc
   pub best : (other : Arc) → LeadsOn MayGo costs marks place other → arc.link.0 ≤ other.link.0
+
+-- the best of those arcs, or none where none leads on
+abbrev pub IsBestArc : (ℕ → Arc → Type 0) → List (Option ℕ) → List Bool → ℕ → Option Arc → Type 0
+IsBestArc MayGo costs marks place found =
+    MatchOption found ((arc : Arc) → LeadsOn MayGo costs marks place arc → ⊥) (IsBest MayGo costs marks place)
 
 pub record Follows (MayGo : ℕ → Arc → Type 0) (costs : List (Option ℕ)) (marks : List Bool) (places : List Place)
     (place : ℕ) (step : Step) (arc : Arc) : Type 0 where

@@ -4,8 +4,7 @@ ghost use Rattle.std.specs.Prelude.{◌≡◌, ◌<◌, ◌≤◌, ◌↔◌, �
 ghost use Rattle.route_least.specs.Costs.{cost_at, is_marked, AreSmall};
 ghost use Rattle.route_least.specs.Marking.{Crosses};
 ghost use Rattle.route_least.specs.Network.{AreSound};
-ghost use Rattle.route_least.specs.Trace.{AreMarked, IsBest, IsLeading, IsTrace, LeadsOn};
-ghost use Rattle.route_least.specs.declared.places.Arc.{Arc};
+ghost use Rattle.route_least.specs.Trace.{AreMarked, IsBestArc, IsLeading, IsTrace};
 
 use crate::places::{Arc, Place};
 use ason_base::ids::OutOfMemory;
@@ -61,9 +60,7 @@ fn best_arc(
     requires marks { length marks.now ≡ length places.now }
     requires small { AreSmall costs.now }
     requires place { place < length places.now }
-    ensures { MatchOption result
-        ((arc : Arc) → ¬ LeadsOn (Crosses places.now closed.now) costs.now marks.now place arc)
-        (λ arc. IsBest (Crosses places.now closed.now) costs.now marks.now place arc) }
+    ensures { IsBestArc (Crosses places.now closed.now) costs.now marks.now place result }
 {
     let Some(cost) = costs[place] else {
         return None;

@@ -27,29 +27,17 @@ loop-preserved c =
 
 pub returns-clause-least : goal.returns-clause-least
 returns-clause-least c =
-    let goes = Goes c.args.places.now c.args.closed.now c.args.banned.now in
-    let table =
-    round_table goes c.args.start (length c.args.places.now) c.loop.costs.len c.loop.lowered.len
-    c.loop.costs.items c.deref_mut.result.now c.pass.new.costs c.loop.lowered.items c.deref_mut-in-loop.result.now
-    c.pass.new.lowered c.loop.invariant
-    c.deref_mut.ensures.value c.deref_mut-in-loop.ensures.value c.deref_mut.ensures.len
-    c.deref_mut-in-loop.ensures.len c.pass.auto.costs c.pass.auto.lowered
-    c.pass.ensures.step c.pass.ensures.settled
-    in
+    let table = round_table _ c.args.start _ _ _ _ _ c.pass.new.costs _ _ c.pass.new.lowered c.loop.invariant
+    c.deref_mut.ensures.value c.deref_mut-in-loop.ensures.value c.deref_mut.ensures.len c.deref_mut-in-loop.ensures.len
+    c.pass.auto.costs c.pass.auto.lowered c.pass.ensures.step c.pass.ensures.settled in
     let marks = written_back c.loop.lowered.len c.pass.new.lowered c.loop.lowered.items
     (c.pass.auto.lowered ∙ c.deref_mut-in-loop.ensures.len) in
-    settled_least goes c.args.start (length c.args.places.now) _ _ table
+    settled_least _ c.args.start (length c.args.places.now) _ _ table
     (λ p. subst (λ on. is_marked on p ≡ false) (sym marks) (c.pass.ensures.none c.loop-test.false p))
 
 pub returns-clause-small : goal.returns-clause-small
 returns-clause-small c =
-    let goes = Goes c.args.places.now c.args.closed.now c.args.banned.now in
-    let table =
-    round_table goes c.args.start (length c.args.places.now) c.loop.costs.len c.loop.lowered.len
-    c.loop.costs.items c.deref_mut.result.now c.pass.new.costs c.loop.lowered.items c.deref_mut-in-loop.result.now
-    c.pass.new.lowered c.loop.invariant
-    c.deref_mut.ensures.value c.deref_mut-in-loop.ensures.value c.deref_mut.ensures.len
-    c.deref_mut-in-loop.ensures.len c.pass.auto.costs c.pass.auto.lowered
-    c.pass.ensures.step c.pass.ensures.settled
-    in
+    let table = round_table _ c.args.start _ _ _ _ _ c.pass.new.costs _ _ c.pass.new.lowered c.loop.invariant
+    c.deref_mut.ensures.value c.deref_mut-in-loop.ensures.value c.deref_mut.ensures.len c.deref_mut-in-loop.ensures.len
+    c.pass.auto.costs c.pass.auto.lowered c.pass.ensures.step c.pass.ensures.settled in
     small _ table.bounded (subst (λ n. n ≤ 64) (sym table.len) c.requires.sound.few)

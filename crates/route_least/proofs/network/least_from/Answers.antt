@@ -1,11 +1,10 @@
 use Rattle.std.proofs.Common.{◌≡◌, Some, sym, subst}
-use Rattle.route_least.specs.Costs.{cost_at, AreLeast}
+use Rattle.route_least.specs.Costs.{cost_at}
 use Rattle.route_least.specs.Marking.{Crosses}
-use Rattle.route_least.specs.Network.{AreOnce, Goes, HasNode}
-use Rattle.route_least.specs.Potentials.{AreListed}
+use Rattle.route_least.specs.Network.{AreOnce, HasNode}
 use Rattle.route_least.specs.Searches.{IsReached}
 use Rattle.route_least.specs.Trace.{IsTraced}
-use Rattle.route_least.proofs.RouteLaws.{reached}
+use Rattle.route_least.proofs.RouteLaws.{least_read, listed_read, reached}
 use Rattle.route_least.proofs.network.least_from.Goals as goal
 
 pub cost_to-requires-clause-once : goal.cost_to-requires-clause-once
@@ -13,17 +12,9 @@ cost_to-requires-clause-once c = subst AreOnce (sym c.deref-4.ensures.value) c.r
 
 pub returns-in-None-clause-err : goal.returns-in-None-clause-err
 returns-in-None-clause-err c =
-    let network = c.args.network.now in
     let costs = c.in_ok-costs.costs.items in
-    let least : AreLeast (Goes network.places.items c.args.closed.now c.args.banned.now) c.args.start costs =
-    subst (λ ps. AreLeast (Goes ps c.args.closed.now c.args.banned.now) c.args.start costs) c.deref.ensures.value
-    c.in_ok-costs.ensures.least
-    in
-    let listed : AreListed network.order.items costs c.in_ok-potential.potential =
-    subst (λ o. AreListed o costs c.in_ok-potential.potential) c.deref-2.ensures.value
-    (subst (λ t. AreListed c.deref-2.result.now t c.in_ok-potential.potential) c.deref-3.ensures.value
-    c.in_ok-potential.ensures)
-    in
+    let least = least_read _ _ _ _ _ _ c.deref.ensures.value c.in_ok-costs.ensures.least in
+    let listed = listed_read _ _ _ _ _ c.deref-2.ensures.value c.deref-3.ensures.value c.in_ok-potential.ensures in
     record {
       costs = costs;
       are = record { least = least; listed = listed };
@@ -36,10 +27,7 @@ pub least_route-requires-clause-leads : goal.least_route-requires-clause-leads
 least_route-requires-clause-leads c =
     let places = c.args.network.now.places.items in
     let costs = c.in_ok-costs.costs.items in
-    let least : AreLeast (Goes places c.args.closed.now c.args.banned.now) c.args.start costs =
-    subst (λ ps. AreLeast (Goes ps c.args.closed.now c.args.banned.now) c.args.start costs) c.deref.ensures.value
-    c.in_ok-costs.ensures.least
-    in
+    let least = least_read _ _ _ _ _ _ c.deref.ensures.value c.in_ok-costs.ensures.least in
     let has : cost_at costs c.in-Some.end ≡ Some c.in-Some.cost =
     subst (λ t. cost_at t c.in-Some.end ≡ Some c.in-Some.cost) c.deref-5.ensures.value c.in-Some.ensures.1 in
     subst (λ ps. IsReached ps c.args.closed.now c.deref-in-Some-2.result.now c.args.start c.in-Some.end)
@@ -49,19 +37,11 @@ least_route-requires-clause-leads c =
 
 pub returns-clause-ok : goal.returns-clause-ok
 returns-clause-ok c =
-    let network = c.args.network.now in
-    let places = network.places.items in
+    let places = c.args.network.now.places.items in
     let costs = c.in_ok-costs.costs.items in
     let route = c.in_ok-route-in-Some.route in
-    let least : AreLeast (Goes places c.args.closed.now c.args.banned.now) c.args.start costs =
-    subst (λ ps. AreLeast (Goes ps c.args.closed.now c.args.banned.now) c.args.start costs) c.deref.ensures.value
-    c.in_ok-costs.ensures.least
-    in
-    let listed : AreListed network.order.items costs c.in_ok-potential.potential =
-    subst (λ o. AreListed o costs c.in_ok-potential.potential) c.deref-2.ensures.value
-    (subst (λ t. AreListed c.deref-2.result.now t c.in_ok-potential.potential) c.deref-3.ensures.value
-    c.in_ok-potential.ensures)
-    in
+    let least = least_read _ _ _ _ _ _ c.deref.ensures.value c.in_ok-costs.ensures.least in
+    let listed = listed_read _ _ _ _ _ c.deref-2.ensures.value c.deref-3.ensures.value c.in_ok-potential.ensures in
     record {
       costs = costs;
       are = record { least = least; listed = listed };

@@ -19,21 +19,19 @@ least_from-requires-clause-start c =
 
 pub returns-in-None-clause-found : goal.returns-in-None-clause-found
 returns-in-None-clause-found c = λ rows is.
-    let network = c.args.self.now in
-    let absent : (p : ℕ) → ¬ HasNode network.places.items p c.args.from =
+    let absent : (p : ℕ) → ¬ HasNode c.args.self.now.places.items p c.args.from =
     subst (λ ps. (p : ℕ) → ¬ HasNode ps p c.args.from) c.deref.ensures.value c.in-None.ensures in
     ok_map c.alone.result (IsFoundAlone c.args.from c.args.to)
     (IsLeastFound rows c.args.closed.now c.args.banned.now c.args.from c.args.to)
-    (found_alone rows network c.args.closed.now c.args.banned.now is c.args.from c.args.to absent) c.alone.ensures.ok
+    (found_alone rows c.args.self.now _ _ is c.args.from c.args.to absent) c.alone.ensures.ok
 
 pub returns-in-None-clause-none : goal.returns-in-None-clause-none
 returns-in-None-clause-none c = λ rows is.
-    let network = c.args.self.now in
-    let absent : (p : ℕ) → ¬ HasNode network.places.items p c.args.from =
+    let absent : (p : ℕ) → ¬ HasNode c.args.self.now.places.items p c.args.from =
     subst (λ ps. (p : ℕ) → ¬ HasNode ps p c.args.from) c.deref.ensures.value c.in-None.ensures in
     err_map c.alone.result (IsMissedAlone c.args.from c.args.to)
     (IsRefusal rows (IsClosed rows c.args.closed.now) (Contains c.args.banned.now) c.args.from c.args.to)
-    (missed_alone rows network c.args.closed.now c.args.banned.now is c.args.from c.args.to absent) c.alone.ensures.err
+    (missed_alone rows c.args.self.now _ _ is c.args.from c.args.to absent) c.alone.ensures.err
 
 pub returns-in-Some-clause-found : goal.returns-in-Some-clause-found
 returns-in-Some-clause-found c = λ rows is.
