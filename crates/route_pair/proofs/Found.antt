@@ -48,6 +48,16 @@ module _ (rows : List TeRow) (from to : NodeId) (closed : List Bool) (banned : L
       (Contains banned) NoNode none_closed (none_in banned no_nodes) from to potential refusal
   primary_err OutOfMemory refusal = tt
 
+-- the rows and the nodes that a backup is kept off, as the bans were read
+pub kept_off : {rows : List TeRow} {primary : List Step} {from to : NodeId} {bans : Bans} {closed : List Bool}
+    {nodes : List NodeId} → AreBans rows primary from to bans → closed ≡ bans.closed.items → nodes ≡ bans.nodes →
+    ((l : LinkId) → IsClosed rows closed l ↔ SharesRisk rows primary l)
+    × ((n : NodeId) → Contains nodes n ↔ IsInner from to primary n)
+kept_off {rows} {primary} {from} {to} are marks banned = (
+  subst (λ ms. (l : LinkId) → IsClosed rows ms l ↔ SharesRisk rows primary l) (sym marks) are.links,
+  subst (λ ns. (n : NodeId) → Contains ns n ↔ IsInner from to primary n) (sym banned) are.nodes,
+)
+
 module _ (rows : List TeRow) (primary : List Step) (from to : NodeId) (closed : List Bool) (nodes : List NodeId)
     (links : (l : LinkId) → IsClosed rows closed l ↔ SharesRisk rows primary l)
     (inner : (n : NodeId) → Contains nodes n ↔ IsInner from to primary n) where

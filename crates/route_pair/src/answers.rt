@@ -1,8 +1,6 @@
 //! Pairs of routes, and why there is none.
 
-ghost use Rattle.std.specs.Prelude.{◌≡◌};
-
-use ason_base::ids::{LinkId, OutOfMemory};
+use ason_base::ids::LinkId;
 use route_least::{Found, Potentials};
 
 /// A primary route and its backup.
@@ -38,14 +36,4 @@ pub enum BackupFault {
     /// No route is risk-disjoint from it and shares no inner node with it.
     NoBackup,
     OutOfMemory,
-}
-
-impl From<OutOfMemory> for BackupFault {
-    ghost use Rattle.route_pair.specs.declared.answers.BackupFault.{BackupFault};
-
-    ghost from_gives = { λ _ fault. fault ≡ BackupFault.OutOfMemory };
-
-    fn from(_: OutOfMemory) -> BackupFault {
-        BackupFault::OutOfMemory
-    }
 }

@@ -51,12 +51,12 @@ pub fn pair_in(
         (λ pair. IsBackupFound rows.now pair.primary.route from to pair.backup) }
     ensures fault { IfErr result (λ fault. IsPairFault rows.now from to fault) }
 {
-    let primary = match primary_of(alloc, network, rows, from, to) {
+    let primary = match primary_of(alloc, network, rows, (from, to)) {
         Ok(primary) => primary,
         Err(RouteFault::NoRoute(potential)) => return Err(PairFault::NoPrimary(potential)),
         Err(RouteFault::OutOfMemory) => return Err(PairFault::OutOfMemory),
     };
-    match beside(alloc, network, rows, &primary.route, from, to) {
+    match beside(alloc, network, rows, &primary.route, (from, to)) {
         Ok(backup) => Ok(Pair { primary, backup }),
         Err(RouteFault::NoRoute(_)) => Err(PairFault::NoBackup(primary)),
         Err(RouteFault::OutOfMemory) => Err(PairFault::OutOfMemory),
@@ -68,15 +68,14 @@ fn primary_of(
     alloc: Global,
     network: &RouteNetwork,
     rows: &[TeRow],
-    from: NodeId,
-    to: NodeId,
+    ends: (NodeId, NodeId),
 ) -> Result<Found, RouteFault>
     requires { IsNetworkOf rows.now network.now }
-    ensures found { IfOk result (λ found. IsPrimary rows.now from to found) }
-    ensures fault { IfErr result (λ fault. IsFault rows.now from to fault) }
+    ensures found { IfOk result (λ found. IsPrimary rows.now ends.0 ends.1 found) }
+    ensures fault { IfErr result (λ fault. IsFault rows.now ends.0 ends.1 fault) }
 {
     let closed = no_rows(alloc, rows.len())?;
-    network.least(alloc, from, to, &closed, &[])
+    network.least(alloc, ends.0, ends.1, &closed, &[])
 }
 
 fn no_rows(alloc: Global, count: usize) -> Result<Vec<bool>, OutOfMemory>
@@ -92,15 +91,14 @@ fn beside(
     network: &RouteNetwork,
     rows: &[TeRow],
     primary: &Steps,
-    from: NodeId,
-    to: NodeId,
+    ends: (NodeId, NodeId),
 ) -> Result<Found, RouteFault>
     requires { IsNetworkOf rows.now network.now }
-    ensures found { IfOk result (λ found. IsBackupFound rows.now primary.now from to found) }
-    ensures none { IfErr result (λ fault. IsUnsharedFault rows.now primary.now from to fault) }
+    ensures found { IfOk result (λ found. IsBackupFound rows.now primary.now ends.0 ends.1 found) }
+    ensures none { IfErr result (λ fault. IsUnsharedFault rows.now primary.now ends.0 ends.1 fault) }
 {
-    let bans = bans_of(alloc, rows, primary, from, to)?;
-    network.least(alloc, from, to, &bans.closed, bans.nodes.items())
+    let bans = bans_of(alloc, rows, primary, ends.0, ends.1)?;
+    network.least(alloc, ends.0, ends.1, &bans.closed, bans.nodes.items())
 }
 
 /// The least route that is risk-disjoint from the primary route and shares no inner node with it.
@@ -119,8 +117,10 @@ pub fn backup_for(
     ensures known { OnOk result (unknown_link rows.now primary.now ≡ None) }
     ensures fault { IfErr result (λ fault. IsBackupFault rows.now primary.now from to fault) }
 {
-    let network = RouteNetwork::new(alloc, rows)?;
-    backup_in(alloc, &network, rows, primary, from, to)
+    match RouteNetwork::new(alloc, rows) {
+        Ok(network) => backup_in(alloc, &network, rows, primary, from, to),
+        Err(OutOfMemory) => Err(BackupFault::OutOfMemory),
+    }
 }
 
 /// The same in a network that was prepared from the rows.
@@ -142,7 +142,7 @@ pub fn backup_in(
         Err(RiskFault::Unknown(link)) => return Err(BackupFault::Unknown(link)),
         Err(RiskFault::OutOfMemory) => return Err(BackupFault::OutOfMemory),
     }
-    match beside(alloc, network, rows, primary, from, to) {
+    match beside(alloc, network, rows, primary, (from, to)) {
         Ok(found) => Ok(found),
         Err(RouteFault::NoRoute(_)) => Err(BackupFault::NoBackup),
         Err(RouteFault::OutOfMemory) => Err(BackupFault::OutOfMemory),

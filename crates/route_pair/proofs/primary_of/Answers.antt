@@ -10,15 +10,15 @@ use Rattle.route_pair.proofs.primary_of.Goals as goal
 pub returns-clause-found : goal.returns-clause-found
 returns-clause-found c =
     let rows = c.args.rows.now in
-    ok_map c.least.result (IsLeastFound rows c.deref.result.now [] c.args.from c.args.to)
-    (IsPrimary rows c.args.from c.args.to)
-    (primary_ok rows c.args.from c.args.to c.deref.result.now [] (length rows)
+    ok_map c.least.result (IsLeastFound rows c.deref.result.now [] c.args.ends.0 c.args.ends.1)
+    (IsPrimary rows c.args.ends.0 c.args.ends.1)
+    (primary_ok rows c.args.ends.0 c.args.ends.1 c.deref.result.now [] (length rows)
     (c.deref.ensures.value ∙ c.in_ok-closed.ensures) refl) (c.least.ensures.found rows c.requires)
 
 pub returns-clause-fault : goal.returns-clause-fault
 returns-clause-fault c =
     let rows = c.args.rows.now in
-    err_map c.least.result (IsRefusal rows (IsClosed rows c.deref.result.now) (Contains []) c.args.from c.args.to)
-    (IsFault rows c.args.from c.args.to)
-    (primary_err rows c.args.from c.args.to c.deref.result.now [] (length rows)
+    err_map c.least.result (IsRefusal rows (IsClosed rows c.deref.result.now) (Contains []) c.args.ends.0 c.args.ends.1)
+    (IsFault rows c.args.ends.0 c.args.ends.1)
+    (primary_err rows c.args.ends.0 c.args.ends.1 c.deref.result.now [] (length rows)
     (c.deref.ensures.value ∙ c.in_ok-closed.ensures) refl) (c.least.ensures.none rows c.requires)
