@@ -55,9 +55,6 @@ route-room : (steps : List Step) → length (all_bytes (route_objects steps)) �
 route-room [] = omega arith
 route-room (s ∷ ss) = omega (arith, length-cons (made 20 1 (route_bytes (s ∷ ss))) [], route_bytes-length (s ∷ ss))
 
-route-few : (steps : List Step) → length steps ≤ 64 → length (all_bytes (route_objects steps)) ≤ 772
-route-few steps few = omega (arith, route-room steps)
-
 request-few : (set : List ℕ) (role : PathRole) → length (all_bytes (request_objects set role)) ≤ 352
 request-few set role =
     omega (
@@ -107,15 +104,8 @@ msg-few : (sender : NodeId) (m : Msg) → IsWritableMsg m → length (all_bytes 
 msg-few sender (Path lsp egress link route set upstream role) w =
     omega (
       arith,
-      length-apart (path_head sender lsp egress link) (route_objects route ++
-          (request_objects set role ++ (role_objects lsp role ++ path_end lsp upstream))),
-      length-apart (route_objects route) (request_objects set role ++ (role_objects lsp role ++ path_end lsp upstream)),
-      length-apart (request_objects set role) (role_objects lsp role ++ path_end lsp upstream),
-      length-apart (role_objects lsp role) (path_end lsp upstream),
-      route-few route w.1,
-      request-few set role,
-      role-few lsp role w.2,
-      end-few lsp upstream,
+      path-room sender lsp egress link route set upstream role 784 (role-few lsp role w.2),
+      w.1,
     )
 msg-few sender (Resv lsp egress link label) w = omega arith
 msg-few sender (PathTear lsp egress link) w = omega arith

@@ -92,26 +92,27 @@ pub(crate) fn write_lsp_session(
     write_session(out, &session)
 }
 
+fn sender_of(lsp: &Lsp) -> SenderRef
+    ensures { result ≡ record { sender = lsp.now.ingress; lsp = lsp.now.lsp } }
+{
+    SenderRef {
+        sender: lsp.ingress,
+        lsp: lsp.lsp,
+    }
+}
+
 /// Appends the SENDER_TEMPLATE of an LSP.
 pub(crate) fn write_lsp_sender(out: &mut Vec<u8>, lsp: &Lsp) -> Result<(), OutOfMemory>
     ensures { OnOk result (out.new.items ≡ out.old.items ++ bytes_of (sender_object 11 lsp.now)) }
 {
-    let sender = SenderRef {
-        sender: lsp.ingress,
-        lsp: lsp.lsp,
-    };
-    write_sender(out, &sender)
+    write_sender(out, &sender_of(lsp))
 }
 
 /// Appends the FILTER_SPEC of an LSP.
 pub(crate) fn write_lsp_filter(out: &mut Vec<u8>, lsp: &Lsp) -> Result<(), OutOfMemory>
     ensures { OnOk result (out.new.items ≡ out.old.items ++ bytes_of (sender_object 10 lsp.now)) }
 {
-    let sender = SenderRef {
-        sender: lsp.ingress,
-        lsp: lsp.lsp,
-    };
-    write_filter(out, &sender)
+    write_filter(out, &sender_of(lsp))
 }
 
 /// Appends the RSVP_HOP of a sender and the link that it sends over.

@@ -37,21 +37,7 @@ fn all_acks(alloc: Global, objects: &[RawObject]) -> Result<Ids, DecodeError>
     ensures { Decodes (HasEach 24 1 IsMsgId (all_seen objects.now)) result }
 {
     let mut acks = Ids::new(alloc);
-    'objects: for object in objects {
-        if object.class != MESSAGE_ID_ACK {
-            continue;
-        }
-        if object.ctype != NUMBER {
-            return Err(DecodeError::NotMessage);
-        }
-        let Some(id) = read_ack(object.body) else {
-            return Err(DecodeError::NotMessage);
-        };
-        match acks.push(id) {
-            Ok(()) => {}
-            Err(_) => return Err(DecodeError::OutOfMemory),
-        }
-    }
+    push_each!(acks, objects, MESSAGE_ID_ACK, NUMBER, read_ack);
     Ok(acks)
 }
 

@@ -29,21 +29,7 @@ fn label_sets(alloc: Global, objects: &[RawObject]) -> Result<Vec<LabelSetObject
         → ¬ HasEach 36 1 IsLabelSet (all_seen objects.now) sets }
 {
     let mut sets = Vec::new(alloc);
-    'objects: for object in objects {
-        if object.class != LABEL_SET {
-            continue;
-        }
-        if object.ctype != GENERALIZED {
-            return Err(DecodeError::NotMessage);
-        }
-        let Some(set) = read_label_set(object.body) else {
-            return Err(DecodeError::NotMessage);
-        };
-        match sets.push(set) {
-            Ok(()) => {}
-            Err(_) => return Err(DecodeError::OutOfMemory),
-        }
-    }
+    push_each!(sets, objects, LABEL_SET, GENERALIZED, read_label_set);
     Ok(sets)
 }
 

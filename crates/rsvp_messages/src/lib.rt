@@ -1,6 +1,34 @@
 //! Whole messages of RSVP-TE, read and written (RFC 2205, RFC 3209, RFC 3473, RFC 4872).
 #![tactic(auto)]
 
+// Adds the item at the end of the list. Where memory runs out, the function ends so.
+macro_rules! push_decoded {
+    ($items:ident, $item:expr) => {
+        match $items.push($item) {
+            Ok(()) => {}
+            Err(_) => return Err(DecodeError::OutOfMemory),
+        }
+    };
+}
+
+// Adds what each object of the class spells. Where one spells nothing, the function ends with NotMessage.
+macro_rules! push_each {
+    ($items:ident, $objects:ident, $class:ident, $ctype:ident, $read:ident) => {
+        'objects: for object in $objects {
+            if object.class != $class {
+                continue;
+            }
+            if object.ctype != $ctype {
+                return Err(DecodeError::NotMessage);
+            }
+            let Some(item) = $read(object.body) else {
+                return Err(DecodeError::NotMessage);
+            };
+            push_decoded!($items, item);
+        }
+    };
+}
+
 mod classes;
 mod errors;
 mod fields;

@@ -37,21 +37,8 @@ pub struct ObjectLine {
     pub fate: Fate,
 }
 
-/// The classes that each message reads.
-const WORK_PATH: [u8; 10] = [
-    SESSION,
-    RSVP_HOP,
-    SENDER_TEMPLATE,
-    LABEL_REQUEST,
-    EXPLICIT_ROUTE,
-    MESSAGE_ID,
-    MESSAGE_ID_ACK,
-    UPSTREAM_LABEL,
-    LABEL_SET,
-    PROTECTION,
-];
-
-const BACK_PATH: [u8; 12] = [
+/// The classes that each message reads. A Path of a working LSP reads the first ten of its own.
+const PATH: [u8; 12] = [
     SESSION,
     RSVP_HOP,
     SENDER_TEMPLATE,
@@ -103,13 +90,13 @@ fn is_read(body: &Option<Msg>, class: u8) -> bool
                 role: PathRole::Work { .. },
                 ..
             },
-        ) => is_among(&WORK_PATH, class),
+        ) => is_among(&PATH[..10], class),
         Some(
             Msg::Path {
                 role: PathRole::Back { .. },
                 ..
             },
-        ) => is_among(&BACK_PATH, class),
+        ) => is_among(&PATH, class),
         Some(Msg::Resv { .. }) => is_among(&RESV, class),
         Some(Msg::PathTear { .. }) => is_among(&PATH_TEAR, class),
         Some(Msg::PathErr { .. } | Msg::Notify { .. }) => is_among(&ERROR, class),

@@ -69,10 +69,7 @@ pub(crate) fn read_objects<'a>(
         let Some(object) = next_object(&mut cursor) else {
             return Err(DecodeError::NotMessage);
         };
-        match objects.push(object) {
-            Ok(()) => {}
-            Err(_) => return Err(DecodeError::OutOfMemory),
-        }
+        push_decoded!(objects, object);
     }
     Ok(objects)
 }

@@ -8,7 +8,7 @@ ghost use Rattle.rsvp_messages.specs.Seen.{all_seen};
 ghost use Rattle.rsvp_messages.specs.Written.{all_bytes, msg_objects};
 
 use crate::classes::SENDER_TEMPLATE;
-use crate::fields::{link, read_subject, write_link, write_lsp_sender, write_lsp_session};
+use crate::fields::{Subject, link, read_subject, write_link, write_lsp_sender, write_lsp_session};
 use crate::raw::RawObject;
 use ason_base::{LinkId, Lsp, Msg, NodeId, OutOfMemory};
 
@@ -16,13 +16,9 @@ use ason_base::{LinkId, Lsp, Msg, NodeId, OutOfMemory};
 pub(crate) fn read_tear(objects: &[RawObject]) -> Option<Msg>
     ensures { Reads (SpellsTyped 5 (all_seen objects.now)) result }
 {
-    let subject = read_subject(objects, SENDER_TEMPLATE)?;
+    let Subject { lsp, egress } = read_subject(objects, SENDER_TEMPLATE)?;
     let link = link(objects)?;
-    Some(Msg::PathTear {
-        lsp: subject.lsp,
-        egress: subject.egress,
-        link,
-    })
+    Some(Msg::PathTear { lsp, egress, link })
 }
 
 /// Appends the objects of a PathTear.

@@ -12,10 +12,10 @@ returns-in_err-optional c = record {
       c.in_err-optional.ensures.only id has);
 }
 
-pub returns-in_err-read_upstream-in-Some : goal.returns-in_err-read_upstream-in-Some
-returns-in_err-read_upstream-in-Some c = record {
+pub returns-in_err-read_label-in-Some : goal.returns-in_err-read_label-in-Some
+returns-in_err-read_label-in-Some c = record {
   found = search rules;
   only = λ id has. absurd (optional_is 35 2 IsLabel (all_seen c.args.objects.now) c.in-Some.body.now (λ x. ⊥)
       (optional_at 35 2 (all_seen c.args.objects.now) _ _ c.in_ok-optional.ensures.found c.in-Some.is)
-      (λ x m. none-some _ (c.in_err-read_upstream-in-Some.ensures.only x m)) id has);
+      (λ x m. none-some _ (c.in_err-read_label-in-Some.ensures.only x m)) id has);
 }
