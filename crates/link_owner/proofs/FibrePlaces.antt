@@ -1,6 +1,6 @@
 -- Where a fibre stands among those that come in.
 use Rattle.std.proofs.Common.{◌≡◌, ◌+◌, ◌<◌, ℕ, suc, Bool, true, false, cond, not, nat_lt, List, [], ◌∷◌, length, get_or, set, refl, sym, ap, subst, ◌∙◌, arith}
-use Rattle.std.specs.Prelude.{◌||◌, Some, None, position}
+use Rattle.std.specs.Prelude.{◌||◌, Option, Some, None, position}
 use Rattle.std.specs.List.{list_any, position_or_len}
 use Rattle.ason_base.specs.declared.ids.Fibre.{Fibre}
 use Rattle.link_owner.specs.declared.claims.Claim.{Claim}
@@ -84,6 +84,11 @@ pub is-read : (f : Fibre) (o : OwnerState) (r : FibreClaims) {items : List Fibre
     {i : ℕ} → comes_in o.claims f ≡ true → position (is_fibre f) o.claims ≡ Some i → r ≡ get_or items i r →
     record { claims = items; marks = marks } ≡ o → IsRead f o items marks i r
 is-read f o r there first read view = record { there = there; first = first; read = read; view = view }
+
+-- where the first that passes stands, as it was found in what was read
+pub first-read : {X : Type 0} (p : X → Bool) {found : Option ℕ} {shown inner now : List X} → found ≡ position p shown →
+    shown ≡ inner → inner ≡ now → position p now ≡ found
+first-read p found read view = sym (found ∙ ap (position p) read ∙ ap (position p) view)
 
 module _ {f : Fibre} {o : OwnerState} {items : List FibreClaims} {marks : List FibreMarks} {i : ℕ} {r : FibreClaims}
     (h : IsRead f o items marks i r) where

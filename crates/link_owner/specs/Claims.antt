@@ -32,6 +32,9 @@ is_backup Backup = true
 
 -- One claim
 
+abbrev pub claim_so : ClaimKind → ℕ → Lsp → Claim
+claim_so kind x l = record { label = x; lsp = l; kind = kind }
+
 abbrev pub working_claim : ℕ → Lsp → Claim
 working_claim x l = record { label = x; lsp = l; kind = Working }
 
@@ -57,6 +60,11 @@ is_of_lsp x l c = c.label == x && same_lsp c.lsp l
 abbrev pub is_sought : Sought → ℕ → Claim → Bool
 is_sought Any x c = has x c
 is_sought AnyWorking x c = works_on x c
+
+-- what bars a leg that is to have a label so: any claim a working leg, and a working leg's a backup
+abbrev pub barring : ClaimKind → Sought
+barring Working = Any
+barring Backup = AnyWorking
 
 -- All claims of a fibre
 

@@ -2,7 +2,7 @@
 
 ghost use Rattle.std.specs.Prelude.{◌≡◌, ◌&&◌, IfNone, IfSome};
 ghost use Rattle.std.specs.List.{list_any};
-ghost use Rattle.link_owner.specs.Claims.{IsLeast, NoClaim, has_so, is_backup, is_lesser, is_of_lsp, is_sought, is_working};
+ghost use Rattle.link_owner.specs.Claims.{IsLeast, NoClaim, barring, has_so, is_backup, is_lesser, is_of_lsp, is_sought, is_working};
 
 use ason_base::{Label, Lsp};
 
@@ -36,6 +36,16 @@ pub enum ClaimFault {
 pub enum Sought {
     Any,
     AnyWorking,
+}
+
+/// Which claims bar a leg that is to have their label so.
+pub(crate) fn barring(kind: ClaimKind) -> Sought
+    ensures { result ≡ barring kind }
+{
+    match kind {
+        ClaimKind::Working => Sought::Any,
+        ClaimKind::Backup => Sought::AnyWorking,
+    }
 }
 
 fn is_working(kind: ClaimKind) -> bool

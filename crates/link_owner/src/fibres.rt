@@ -1,9 +1,9 @@
 //! The claims of the labels of one fibre.
 
 ghost use Rattle.std.specs.Prelude.{◌≡◌, ◌≤◌, ◌++◌, ◌∷◌, [], IfErr, IfNone, IfOk, IfSome, OnErr, OnOk};
-ghost use Rattle.link_owner.specs.Claims.{IsLeast, NoClaim, RefusedFor, backup_claim, freed, has, is_sought, shareable, unclaimed, working_claim, works_on};
+ghost use Rattle.link_owner.specs.Claims.{IsLeast, NoClaim, RefusedFor, barring, claim_so, freed, is_sought, shareable, unclaimed};
 
-use crate::claims::{Claim, ClaimFault, ClaimKind, Sought, is_of_lsp, least_lsp};
+use crate::claims::{Claim, ClaimFault, ClaimKind, Sought, barring, is_of_lsp, least_lsp};
 use crate::free_labels::FreeLabels;
 use ason_base::{Copied, Fibre, Label, LabelSet, Lsp, OutOfMemory};
 use std::alloc::Global;
@@ -60,55 +60,27 @@ impl FibreOwner {
         least_lsp(&self.claims, label, sought)
     }
 
-    /// Gives the label to a working leg, where no leg has it.
-    pub(crate) fn claim(&mut self, label: Label, lsp: Lsp) -> Result<(), ClaimFault>
+    /// Gives the label to a leg that is to have it so, where no claim bars that.
+    pub(crate) fn claim(
+        &mut self,
+        label: Label,
+        lsp: Lsp,
+        kind: ClaimKind,
+    ) -> Result<(), ClaimFault>
         ensures ok { OnOk result
             (self.new ≡ record self.old {
               claims = self.old.claims ++
-                  working_claim label lsp ∷ [];
+                  claim_so kind label lsp ∷ [];
             }) }
         ensures err { OnErr result (self.new ≡ self.old) }
-        ensures fitting { IfOk result (λ _. NoClaim (has label) self.old.claims) }
-        ensures fault { IfErr result (RefusedFor (has label) self.old.claims) }
+        ensures fitting { IfOk result (λ _. NoClaim (is_sought (barring kind) label) self.old.claims) }
+        ensures fault { IfErr result (RefusedFor (is_sought (barring kind) label) self.old.claims) }
     {
-        if let Some(holder) = self.least_of(label, Sought::Any) {
+        if let Some(holder) = self.least_of(label, barring(kind)) {
             return Err(ClaimFault::Held(holder));
         }
-        add(
-            &mut self.claims,
-            Claim {
-                label,
-                lsp,
-                kind: ClaimKind::Working,
-            },
-        )?;
-        self.free.claim(label);
-        Ok(())
-    }
-
-    /// Gives the label to a backup leg, where no working leg has it.
-    pub(crate) fn hold(&mut self, label: Label, lsp: Lsp) -> Result<(), ClaimFault>
-        ensures ok { OnOk result
-            (self.new ≡ record self.old {
-              claims = self.old.claims ++
-                  backup_claim label lsp ∷ [];
-            }) }
-        ensures err { OnErr result (self.new ≡ self.old) }
-        ensures fitting { IfOk result (λ _. NoClaim (works_on label) self.old.claims) }
-        ensures fault { IfErr result (RefusedFor (works_on label) self.old.claims) }
-    {
-        if let Some(holder) = self.least_of(label, Sought::AnyWorking) {
-            return Err(ClaimFault::Held(holder));
-        }
-        add(
-            &mut self.claims,
-            Claim {
-                label,
-                lsp,
-                kind: ClaimKind::Backup,
-            },
-        )?;
-        self.free.hold(label);
+        add(&mut self.claims, Claim { label, lsp, kind })?;
+        self.free.take(label, kind);
         Ok(())
     }
 

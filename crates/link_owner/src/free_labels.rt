@@ -2,10 +2,10 @@
 
 ghost use Rattle.std.specs.Prelude.{◌≡◌, ◌≤◌, ◌++◌, ◌∷◌, [], List, true};
 ghost use Rattle.ason_base.specs.declared.ids.Lsp.{Lsp};
-ghost use Rattle.link_owner.specs.Claims.{AreFree, NoClaim, backup_claim, freed, is_sought, shareable, unclaimed, with_free, working_claim};
+ghost use Rattle.link_owner.specs.Claims.{AreFree, NoClaim, backup_claim, claim_so, freed, is_sought, shareable, unclaimed, with_free, working_claim};
 ghost use Rattle.link_owner.specs.declared.claims.Claim.{Claim};
 
-use crate::claims::{Claim, Sought, has_backup, has_working};
+use crate::claims::{Claim, ClaimKind, Sought, has_backup, has_working};
 use ason_base::{Label, LabelSet};
 
 /// The labels from 1 to 80 that no leg has as a working leg, and those that none has as a backup.
@@ -47,16 +47,27 @@ impl FreeLabels {
             }
     }
 
-    /// A working leg has got the label.
-    pub(crate) fn claim(&mut self, label: Label)
+    /// A leg has got the label so.
+    pub(crate) fn take(&mut self, label: Label, kind: ClaimKind)
+        ensures { (claims : List Claim) (lsp : Lsp) → AreFree claims self.old →
+            AreFree (claims ++ claim_so kind label lsp ∷ []) self.new }
+    {
+        match kind {
+            ClaimKind::Working => self.claim(label),
+            ClaimKind::Backup => self.hold(label),
+        }
+    }
+
+    // A working leg has got the label.
+    fn claim(&mut self, label: Label)
         ensures { (claims : List Claim) (lsp : Lsp) → AreFree claims self.old →
             AreFree (claims ++ working_claim label lsp ∷ []) self.new }
     {
         self.of_working = self.of_working.without(label);
     }
 
-    /// A backup has got the label.
-    pub(crate) fn hold(&mut self, label: Label)
+    // A backup has got the label.
+    fn hold(&mut self, label: Label)
         ensures { (claims : List Claim) (lsp : Lsp) → AreFree claims self.old →
             AreFree (claims ++ backup_claim label lsp ∷ []) self.new }
     {

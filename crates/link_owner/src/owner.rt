@@ -7,7 +7,7 @@ ghost use Rattle.link_owner.specs.Claims.{NoClaim, RefusedFor, backup_claim, has
 ghost use Rattle.link_owner.specs.Marks.{AreDark, dark_fibres, has_fibre, is_marked_fibre, is_open_to, lit, none_lit};
 ghost use Rattle.link_owner.specs.Owners.{DarkensJust, HasFibresInto, HasFibresOf, LightsJust, claim_added, claims_of, comes_in, fibre_unclaimed, has_label, is_fibre, label_freed, labels_of, none_claimed, unowned};
 
-use crate::claims::{Claim, ClaimFault};
+use crate::claims::{Claim, ClaimFault, ClaimKind};
 use crate::fibres::FibreOwner;
 use crate::marks::{Busy, MarkedFibre, marks_place};
 use ason_base::routes::touches;
@@ -84,7 +84,7 @@ impl Owner {
         ensures fault { IfErr result (RefusedFor (has l) (claims_of f self.old.claims)) }
     {
         let place = self.place(f);
-        self.fibres[place].claim(l, lsp)
+        self.fibres[place].claim(l, lsp, ClaimKind::Working)
     }
 
     /// Gives the label to a backup leg. `Held` exactly where a working leg has it. After an error nothing has changed.
@@ -100,7 +100,7 @@ impl Owner {
         ensures fault { IfErr result (RefusedFor (works_on l) (claims_of f self.old.claims)) }
     {
         let place = self.place(f);
-        self.fibres[place].hold(l, lsp)
+        self.fibres[place].claim(l, lsp, ClaimKind::Backup)
     }
 
     /// Takes the LSP's claim off, if it has one.

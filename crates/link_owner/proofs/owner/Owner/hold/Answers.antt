@@ -10,21 +10,22 @@ returns-clause-ok c =
     let read =
     is-read c.args.f c.args.self.now c.index_mut.result.now c.requires.comes_in c.place-place.ensures.first
     c.index_mut.ensures.value c.self.view_is in
-    on_ok_weaker c.hold.result
-    (λ e. put-back read c.hold.new.self (λ claims. claims ++ backup_claim c.args.l c.args.lsp ∷ []) e) c.hold.ensures.ok
+    on_ok_weaker c.claim.result
+    (λ e. put-back read c.claim.new.self (λ claims. claims ++ backup_claim c.args.l c.args.lsp ∷ []) e)
+    c.claim.ensures.ok
 
 pub returns-clause-shareable : goal.returns-clause-shareable
 returns-clause-shareable c =
     let read =
     is-read c.args.f c.args.self.now c.index_mut.result.now c.requires.comes_in c.place-place.ensures.first
     c.index_mut.ensures.value c.self.view_is in
-    subst (λ claims. IfOk c.hold.result (λ _. NoClaim (works_on c.args.l) claims))
-    (read-claims read) c.hold.ensures.fitting
+    subst (λ claims. IfOk c.claim.result (λ _. NoClaim (works_on c.args.l) claims))
+    (read-claims read) c.claim.ensures.fitting
 
 pub returns-clause-fault : goal.returns-clause-fault
 returns-clause-fault c =
     let read =
     is-read c.args.f c.args.self.now c.index_mut.result.now c.requires.comes_in c.place-place.ensures.first
     c.index_mut.ensures.value c.self.view_is in
-    subst (λ claims. IfErr c.hold.result (RefusedFor (works_on c.args.l) claims))
-    (read-claims read) c.hold.ensures.fault
+    subst (λ claims. IfErr c.claim.result (RefusedFor (works_on c.args.l) claims))
+    (read-claims read) c.claim.ensures.fault

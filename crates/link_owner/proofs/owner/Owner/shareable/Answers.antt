@@ -3,10 +3,5 @@ use Rattle.link_owner.proofs.owner.Owner.shareable.Goals as goal
 
 pub returns : goal.returns
 returns c =
-    let read =
-    is-read c.args.f c.args.self.now c.index.result.now c.requires c.place-place.ensures.first
-    c.index.ensures c.self.view_is in
-    rw (
-      ← read-labels read,
-      ← read-claims read,
-    ) c.shareable.ensures
+    let read = is-read _ _ _ c.requires c.place-place.ensures.first c.index.ensures c.self.view_is in
+    rw (← read-labels read, ← read-claims read) c.shareable.ensures
