@@ -1,5 +1,5 @@
 -- One pass over sub-TLVs finds the values of all types that a row reads.
-use Rattle.std.proofs.Common.{◌≡◌, ◌≤◌, inl, inr, ℕ, Option, Some, None, List, [], ◌∷◌, length, drop, ap, sym, subst, arith}
+use Rattle.std.proofs.Common.{◌≡◌, ◌≤◌, inl, inr, ℕ, Option, Some, None, List, [], ◌∷◌, length, drop, ap, sym, subst, ◌∙◌, arith}
 use Rattle.std.proofs.Common.{Bor, IfNone, IfSome}
 use Rattle.std.specs.Option.{option_copied, option_to_list}
 use Rattle.ason_base.specs.declared.ids.NodeId.{NodeId}
@@ -7,7 +7,9 @@ use Rattle.ason_base.specs.declared.network.TeRow.{TeRow}
 use Rattle.wire_buf.specs.Tlvs.{AreTlvs, BeginsTlv, TypeValue, tlv_size, values_of}
 use Rattle.wire_buf.proofs.Tlvs.{Scanned, scan_finds, scan_other, scan_twice, scan_value}
 use Rattle.te_tlv.specs.declared.found.Found.{Found}
-use Rattle.te_tlv.specs.Found.{AreFound, HasAnother, HasKept, IsAnother, IsKept, OfFound, StandOnce}
+use Rattle.te_tlv.specs.declared.found.Needed.{Needed}
+use Rattle.te_tlv.specs.declared.found.Needed.TheVariants.{LinkType, LinkId, Metric, Identifiers}
+use Rattle.te_tlv.specs.Found.{AreFound, HasAnother, HasKept, IsAnother, IsKept, OfFound, StandOnce, found_of, type_of}
 use Rattle.te_tlv.specs.Rows.{IsOnly, IsRow, SrlgsOf}
 
 -- what a pass has found so far of each type
@@ -75,6 +77,13 @@ found_all bytes left f none so_far all are = record {
 }
 
 -- What was found of one type
+
+pub needed_is : (needed : Needed) (f : Found) (o : Option (Bor (List ℕ))) → option_copied o ≡ found_of f needed →
+    (subs : List TypeValue) → AreFound f subs → values_of (type_of needed) subs ≡ option_to_list (option_copied o)
+needed_is LinkType f o is subs are = are.link_type ∙ ap option_to_list (sym is)
+needed_is LinkId f o is subs are = are.link_id ∙ ap option_to_list (sym is)
+needed_is Metric f o is subs are = are.metric ∙ ap option_to_list (sym is)
+needed_is Identifiers f o is subs are = are.identifiers ∙ ap option_to_list (sym is)
 
 pub only_one : (kind : ℕ) (f : Found) (o : Option (Bor (List ℕ))) →
     ((subs : List TypeValue) → AreFound f subs → values_of kind subs ≡ option_to_list (option_copied o)) →

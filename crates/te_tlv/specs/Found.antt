@@ -3,8 +3,24 @@ use Rattle.std.specs.Prelude.{◌≡◌, ◌≢◌, ◌≤◌, ◌⊎◌, ℕ, O
 use Rattle.std.specs.Option.{option_copied, option_to_list}
 use Rattle.wire_buf.specs.Tlvs.{TypeValue, values_of}
 use Rattle.te_tlv.specs.declared.found.Found.{Found}
+use Rattle.te_tlv.specs.declared.found.Needed.{Needed}
+use Rattle.te_tlv.specs.declared.found.Needed.TheVariants.{LinkType, LinkId, Metric, Identifiers}
 use Rattle.te_tlv.specs.declared.reading.TheConstants.{IDENTIFIERS, LINK_ID, LINK_TYPE, METRIC}
 use Rattle.te_tlv.specs.declared.srlgs.TheConstants.{SRLG}
+
+-- the type of a sub-TLV that each row has
+abbrev pub type_of : Needed → ℕ
+type_of LinkType = LINK_TYPE
+type_of LinkId = LINK_ID
+type_of Metric = METRIC
+type_of Identifiers = IDENTIFIERS
+
+-- what was found of it
+abbrev pub found_of : Found → Needed → Option (List ℕ)
+found_of f LinkType = option_copied f.link_type
+found_of f LinkId = option_copied f.link_id
+found_of f Metric = option_copied f.metric
+found_of f Identifiers = option_copied f.identifiers
 
 -- the values of these types are those that were found
 pub record AreFound (f : Found) (subs : List TypeValue) : Type 0 where

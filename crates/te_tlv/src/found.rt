@@ -3,15 +3,23 @@
 ghost use Rattle.std.specs.Prelude.{◌≡◌, List, ℕ, IfNone, IfSome, IsTrue, false};
 ghost use Rattle.std.specs.Option.{option_copied};
 ghost use Rattle.wire_buf.specs.Tlvs.{TypeValue};
-ghost use Rattle.te_tlv.specs.Found.{AreFound, HasAnother, HasKept, IsAnother, IsKept, OfFound, StandOnce};
+ghost use Rattle.te_tlv.specs.Found.{AreFound, HasAnother, HasKept, IsAnother, IsKept, OfFound, StandOnce, found_of, type_of};
 ghost use Rattle.te_tlv.specs.Rows.{IsOnly};
 ghost use Rattle.te_tlv.specs.SubTlvs.{AreSubTlvs, OfSubTlvs};
-ghost use Rattle.te_tlv.specs.declared.reading.TheConstants.{IDENTIFIERS, LINK_ID, LINK_TYPE, METRIC};
 
 use crate::reading::{IDENTIFIERS, LINK_ID, LINK_TYPE, METRIC};
 use crate::srlgs::SRLG;
 use crate::sub_tlvs::UNCOUNTED;
 use wire_buf::{Cursor, next_tlv};
+
+/// A sub-TLV that each row has.
+#[derive(Clone, Copy)]
+pub(crate) enum Needed {
+    LinkType,
+    LinkId,
+    Metric,
+    Identifiers,
+}
 
 /// The value of each sub-TLV that a row reads, where there is one.
 #[derive(Clone, Copy, Drop)]
@@ -52,44 +60,26 @@ impl<'a> Found<'a> {
             && keep(&mut self.srlgs, SRLG, kind, value)
     }
 
-    /// The link type.
-    pub(crate) fn link_type(&self) -> Option<&'a [u8]>
-        ensures value { IfSome result
-            (λ value. OfFound self.now (λ subs. IsOnly LINK_TYPE subs value.now)) }
-        ensures none { IfNone result
-            (OfFound self.now (λ subs. (value : List ℕ) → ¬ IsOnly LINK_TYPE subs value)) }
+    // What was found of the sub-TLV.
+    fn read(&self, needed: Needed) -> Option<&'a [u8]>
+        ensures { option_copied result ≡ found_of self.now needed }
     {
-        self.link_type
+        match needed {
+            Needed::LinkType => self.link_type,
+            Needed::LinkId => self.link_id,
+            Needed::Metric => self.metric,
+            Needed::Identifiers => self.identifiers,
+        }
     }
 
-    /// The link ID.
-    pub(crate) fn link_id(&self) -> Option<&'a [u8]>
+    /// The value of the sub-TLV.
+    pub(crate) fn value(&self, needed: Needed) -> Option<&'a [u8]>
         ensures value { IfSome result
-            (λ value. OfFound self.now (λ subs. IsOnly LINK_ID subs value.now)) }
+            (λ value. OfFound self.now (λ subs. IsOnly (type_of needed) subs value.now)) }
         ensures none { IfNone result
-            (OfFound self.now (λ subs. (value : List ℕ) → ¬ IsOnly LINK_ID subs value)) }
+            (OfFound self.now (λ subs. (value : List ℕ) → ¬ IsOnly (type_of needed) subs value)) }
     {
-        self.link_id
-    }
-
-    /// The traffic engineering metric.
-    pub(crate) fn metric(&self) -> Option<&'a [u8]>
-        ensures value { IfSome result
-            (λ value. OfFound self.now (λ subs. IsOnly METRIC subs value.now)) }
-        ensures none { IfNone result
-            (OfFound self.now (λ subs. (value : List ℕ) → ¬ IsOnly METRIC subs value)) }
-    {
-        self.metric
-    }
-
-    /// The link's local and remote identifiers.
-    pub(crate) fn identifiers(&self) -> Option<&'a [u8]>
-        ensures value { IfSome result
-            (λ value. OfFound self.now (λ subs. IsOnly IDENTIFIERS subs value.now)) }
-        ensures none { IfNone result
-            (OfFound self.now (λ subs. (value : List ℕ) → ¬ IsOnly IDENTIFIERS subs value)) }
-    {
-        self.identifiers
+        self.read(needed)
     }
 }
 

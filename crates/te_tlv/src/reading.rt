@@ -7,7 +7,7 @@ ghost use Rattle.wire_buf.specs.Codecs.{Decodes};
 ghost use Rattle.te_tlv.specs.Rows.{HasFields, HasLink, HasMetric, HasPeer, IsPointToPoint, SpellsRow};
 ghost use Rattle.te_tlv.specs.Found.{OfFound};
 
-use crate::found::{Found, scan};
+use crate::found::{Found, Needed, scan};
 use crate::srlgs::srlgs_of;
 use crate::sub_tlvs::link_body;
 use ason_base::{DecodeError, LinkId, NodeId, TeRow};
@@ -41,7 +41,7 @@ fn is_point_to_point(found: &Found) -> bool
     ensures yes { IsTrue result → OfFound found.now (λ subs. IsPointToPoint subs) }
     ensures no { result ≡ false → OfFound found.now (λ subs. ¬ IsPointToPoint subs) }
 {
-    match found.link_type() {
+    match found.value(Needed::LinkType) {
         Some(value) => value.len() == 1 && value[0] == POINT_TO_POINT,
         None => false,
     }
@@ -52,7 +52,7 @@ fn peer(origin: NodeId, found: &Found) -> Option<u32>
     ensures found { IfSome result (λ n. OfFound found.now (λ subs. HasPeer origin subs n)) }
     ensures none { IfNone result (OfFound found.now (λ subs. (n : ℕ) → ¬ HasPeer origin subs n)) }
 {
-    let peer = number(found.link_id()?)?;
+    let peer = number(found.value(Needed::LinkId)?)?;
     if peer == origin.0 { None } else { Some(peer) }
 }
 
@@ -60,7 +60,7 @@ fn metric(found: &Found) -> Option<u32>
     ensures found { IfSome result (λ n. OfFound found.now (λ subs. HasMetric subs n)) }
     ensures none { IfNone result (OfFound found.now (λ subs. (n : ℕ) → ¬ HasMetric subs n)) }
 {
-    let metric = number(found.metric()?)?;
+    let metric = number(found.value(Needed::Metric)?)?;
     if metric < 1 || metric > 65_535 {
         None
     } else {
@@ -73,7 +73,7 @@ fn link(found: &Found) -> Option<u32>
     ensures found { IfSome result (λ n. OfFound found.now (λ subs. HasLink subs n)) }
     ensures none { IfNone result (OfFound found.now (λ subs. (n : ℕ) → ¬ HasLink subs n)) }
 {
-    let value = found.identifiers()?;
+    let value = found.value(Needed::Identifiers)?;
     if value.len() != 8 {
         return None;
     }

@@ -3,9 +3,9 @@ use Rattle.te_tlv.specs.Rows.{HasMetric}
 use Rattle.te_tlv.proofs.SubTlvsFound.{none_of}
 use Rattle.te_tlv.proofs.reading.metric.Goals as goal
 
-pub returns-in_err-metric-clause-none : goal.returns-in_err-metric-clause-none
-returns-in_err-metric-clause-none c =
-    none_of _ c.args.found.now HasMetric (λ subs are n has. c.in_err-metric.ensures.none subs are has.0 has.1)
+pub returns-in_err-value-clause-none : goal.returns-in_err-value-clause-none
+returns-in_err-value-clause-none c =
+    none_of _ c.args.found.now HasMetric (λ subs are n has. c.in_err-value.ensures.none subs are has.0 has.1)
 
 pub returns-else-metric-gt65535-clause-found : goal.returns-else-metric-gt65535-clause-found
 returns-else-metric-gt65535-clause-found c = search (rules)
