@@ -1,5 +1,5 @@
 -- What lasts from one end of a hop, the sender, to the other, the receiver.
-use Rattle.std.proofs.Common.{◌≡◌, ℕ, ◌+◌, ◌≤◌, ◌⊎◌, true, Some, List, [], ◌∷◌, length, take}
+use Rattle.std.proofs.Common.{◌≡◌, ℕ, ◌+◌, ◌≤◌, ◌⊎◌, true, Some, List, [], ◌∷◌, length, take, ◌∙◌}
 use Rattle.std.specs.List.{AllByRecursion, slice_get, list_any}
 use Rattle.ason_base.specs.declared.messages.Msg.{Msg}
 use Rattle.ason_base.specs.declared.messages.MsgId.{MsgId}
@@ -38,3 +38,22 @@ pub record Flow (x y : HopEnd) : Type 0 where
   pub waiting : AllByRecursion (Waits x.given) x.hop.unacked
   pub kept : (k : ℕ) (m : Msg) → slice_get x.given k ≡ Some m → y.hop.handed_up ≤ k → Has (k + 1) m x.hop.unacked
   pub acks : AllByRecursion (AcksUpTo y.hop.handed_up) y.frames
+
+-- an end that has handed up as much as before, whatever else it is now
+pub flow-beside : (x y : HopEnd) (sent : ℕ) (unacked : List Unacked) (given up : List Msg) (frames : List Packet) →
+    up ≡ y.up → Flow x y → AllByRecursion (AcksUpTo y.hop.handed_up) frames →
+    Flow x (record {
+      hop = record { sent = sent; handed_up = y.hop.handed_up; unacked = unacked };
+      given = given;
+      up = up;
+      frames = frames;
+    })
+flow-beside x y sent unacked given up frames same f acks = record {
+  count = f.count;
+  prefix = same ∙ f.prefix;
+  within = f.within;
+  own = f.own;
+  waiting = f.waiting;
+  kept = f.kept;
+  acks = acks;
+}

@@ -5,7 +5,7 @@ use Rattle.std.specs.List.{slice_get, Any}
 use Rattle.ason_base.specs.declared.messages.Msg.{Msg}
 use Rattle.ason_base.specs.declared.messages.Packet.{Packet}
 use Rattle.hop_reliable.specs.declared.unacked.Unacked.{Unacked}
-use Rattle.hop_reliable.specs.Schedules.{HopEnd, HopPair, idle, start, Happening, West, East, Sends, Ticks, Takes, takes, happens, after, IsInOrder, IsKept, IsSettled, HandedUpInOrder, NothingIsLost, SettledIsDelivered}
+use Rattle.hop_reliable.specs.Schedules.{HopEnd, HopPair, idle, start, Happening, West, East, Sends, Ticks, Takes, takes, happens, after, BothWays, IsInOrder, IsKept, IsSettled, HandedUpInOrder, NothingIsLost, SettledIsDelivered}
 use Rattle.hop_reliable.proofs.Members.{each-get, get_there, length-take_within}
 use Rattle.hop_reliable.proofs.Flow.{IsOwn, AcksUpTo, Has, Flow}
 use Rattle.hop_reliable.proofs.Sending.{flow-sends_from, flow-sends_to, flow-ticks_from, flow-ticks_to}
@@ -104,27 +104,17 @@ flow-settled x y f none =
     let all : y.hop.handed_up ≡ length x.given = omega arith in
     f.prefix ∙ ap (λ n. take n x.given) all ∙ take-length x.given
 
+-- what holds of each flow holds both ways under every schedule
+both-ways : (P : HopEnd → HopEnd → Type 0) → ((x y : HopEnd) → Flow x y → P x y) → (es : List Happening) →
+    BothWays P (after start es)
+both-ways P each es =
+    let f : Flows (after start es) = flows-run es in (each _ _ f.eastward, each _ _ f.westward)
+
 pub handed_up_in_order : HandedUpInOrder
-handed_up_in_order es = let f : Flows (after start es) =
-    flows-run es in (
-      flow-in_order (after start es).west
-          (after start es).east f.eastward,
-      flow-in_order (after start es).east
-          (after start es).west f.westward,
-    )
+handed_up_in_order es = both-ways IsInOrder flow-in_order es
 
 pub nothing_is_lost : NothingIsLost
-nothing_is_lost es = let f : Flows (after start es) =
-    flows-run es in (
-      flow-kept (after start es).west (after start es).east f.eastward,
-      flow-kept (after start es).east (after start es).west f.westward,
-    )
+nothing_is_lost es = both-ways IsKept flow-kept es
 
 pub settled_is_delivered : SettledIsDelivered
-settled_is_delivered es = let f : Flows (after start es) =
-    flows-run es in (
-      flow-settled (after start es).west
-          (after start es).east f.eastward,
-      flow-settled (after start es).east
-          (after start es).west f.westward,
-    )
+settled_is_delivered es = both-ways IsSettled flow-settled es

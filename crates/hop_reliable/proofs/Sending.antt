@@ -1,5 +1,5 @@
 -- Sending and ticking keep what lasts between the two ends.
-use Rattle.std.proofs.Common.{◌≡◌, ℕ, ◌+◌, ◌≤◌, inl, inr, true, false, cond, Some, List, [], ◌∷◌, ◌++◌, length, map, ap, sym, ◌∙◌, arith, length-append}
+use Rattle.std.proofs.Common.{◌≡◌, ℕ, ◌+◌, ◌≤◌, inl, inr, true, false, cond, Some, List, [], ◌∷◌, ◌++◌, length, map, refl, ap, sym, ◌∙◌, arith, length-append}
 use Rattle.std.proofs.lemmas.List.{take-append-le}
 use Rattle.std.specs.List.{AllByRecursion, filter}
 use Rattle.ason_base.specs.declared.messages.Msg.{Msg}
@@ -9,7 +9,7 @@ use Rattle.hop_reliable.specs.Ages.{is_due}
 use Rattle.hop_reliable.specs.Hop.{numbered, older, again, resent}
 use Rattle.hop_reliable.specs.Schedules.{HopEnd, sends, ticks}
 use Rattle.hop_reliable.proofs.Members.{each-append, each-more, get-append_left, get-append_last, get-append_cases}
-use Rattle.hop_reliable.proofs.Flow.{IsNumbered, IsOwn, AcksUpTo, Waits, Has, Flow}
+use Rattle.hop_reliable.proofs.Flow.{IsNumbered, IsOwn, AcksUpTo, Waits, Has, Flow, flow-beside}
 
 -- With one more message.
 
@@ -85,16 +85,10 @@ flow-sends_from x y new f =
     }
 
 pub flow-sends_to : (x y : HopEnd) (new : Msg) → Flow x y → Flow x (sends new y)
-flow-sends_to x y new f = record {
-  count = f.count;
-  prefix = f.prefix;
-  within = f.within;
-  own = f.own;
-  waiting = f.waiting;
-  kept = f.kept;
-  acks = each-append (AcksUpTo y.hop.handed_up) y.frames (numbered (y.hop.sent + 1) new ∷ []) f.acks
-      (acks-numbered y.hop.handed_up (y.hop.sent + 1) new, tt);
-}
+flow-sends_to x y new f =
+    flow-beside x y _ _ _ _ _ refl f
+    (each-append (AcksUpTo y.hop.handed_up) y.frames (numbered (y.hop.sent + 1) new ∷ []) f.acks
+    (acks-numbered y.hop.handed_up (y.hop.sent + 1) new, tt))
 
 -- A tick.
 
@@ -142,13 +136,6 @@ flow-ticks_from x y f = record {
 }
 
 pub flow-ticks_to : (x y : HopEnd) → Flow x y → Flow x (ticks y)
-flow-ticks_to x y f = record {
-  count = f.count;
-  prefix = f.prefix;
-  within = f.within;
-  own = f.own;
-  waiting = f.waiting;
-  kept = f.kept;
-  acks = each-append (AcksUpTo y.hop.handed_up) y.frames (resent y.hop) f.acks
-      (acks-again y.hop.handed_up (map older y.hop.unacked));
-}
+flow-ticks_to x y f =
+    flow-beside x y _ _ _ _ _ refl f (each-append (AcksUpTo y.hop.handed_up) y.frames (resent y.hop) f.acks
+    (acks-again y.hop.handed_up (map older y.hop.unacked)))

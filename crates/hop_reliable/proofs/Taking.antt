@@ -11,7 +11,7 @@ use Rattle.hop_reliable.specs.declared.unacked.Unacked.{Unacked}
 use Rattle.hop_reliable.specs.Hop.{is_ack_of, is_acked, still_unacked, heard_number, heard_as, handed_up_after, handed_up_of, ack_of, answers_to}
 use Rattle.hop_reliable.specs.Schedules.{HopEnd, takes}
 use Rattle.hop_reliable.proofs.Members.{each-append, each-more, get_within, take_next}
-use Rattle.hop_reliable.proofs.Flow.{IsNumbered, IsOwn, AcksUpTo, Waits, Has, Flow}
+use Rattle.hop_reliable.proofs.Flow.{IsNumbered, IsOwn, AcksUpTo, Waits, Has, Flow, flow-beside}
 
 -- The end that takes a frame, as the sender: it takes off what the frame acknowledges.
 
@@ -94,15 +94,8 @@ unchanged : (x y : HopEnd) (p : Packet) → Flow x y → Flow x (record {
   up = y.up ++ [];
   frames = y.frames ++ [];
 })
-unchanged x y p f = record {
-  count = f.count;
-  prefix = append-nil y.up ∙ f.prefix;
-  within = f.within;
-  own = f.own;
-  waiting = f.waiting;
-  kept = f.kept;
-  acks = rw append-nil f.acks;
-}
+unchanged x y p f =
+    flow-beside x y _ _ _ _ (y.frames ++ []) (append-nil y.up) f (rw append-nil f.acks)
 
 flow-taken : (x y : HopEnd) (v : Heard) (p : Packet) → Judged x.given y.hop.handed_up v p → Flow x y →
     Flow x (taken_as v p y)
@@ -121,15 +114,9 @@ flow-taken x y Next p j f =
           (acks-more y.hop.handed_up (y.hop.handed_up + 1) (omega arith)) y.frames f.acks)
           (j.3, tt);
     }
-flow-taken x y Repeat p j f = record {
-  count = f.count;
-  prefix = append-nil y.up ∙ f.prefix;
-  within = f.within;
-  own = f.own;
-  waiting = f.waiting;
-  kept = f.kept;
-  acks = each-append (AcksUpTo y.hop.handed_up) y.frames (ack_of p ∷ []) f.acks (j, tt);
-}
+flow-taken x y Repeat p j f =
+    flow-beside x y _ _ _ _ _ (append-nil y.up) f
+    (each-append (AcksUpTo y.hop.handed_up) y.frames (ack_of p ∷ []) f.acks (j, tt))
 flow-taken x y Acked p j f = unchanged x y p f
 flow-taken x y Unnumbered p j f = unchanged x y p f
 flow-taken x y Ahead p j f = unchanged x y p f
