@@ -11,6 +11,7 @@ use Rattle.plan_reader.specs.declared.forms.SetupForm.{SetupForm}
 use Rattle.plan_reader.specs.declared.lines.Line.{Line}
 use Rattle.plan_reader.specs.declared.lines.Line.TheVariants.{Post, Settle, Show, Wait}
 use Rattle.plan_reader.specs.declared.limits.TheConstants.{MOST_ROUNDS, MOST_WAITED}
+use Rattle.plan_reader.specs.Entries.{and_then}
 use Rattle.plan_reader.specs.PlanCalls.{CallList}
 use Rattle.plan_reader.specs.PlanCommands.{command_of}
 use Rattle.plan_reader.specs.PlanForms.{command_form, disturb_form, is_noise, is_settle, is_show, is_wait, setup_form}
@@ -37,21 +38,15 @@ posts t calls before ws line (Ok c) can h =
     subst (CanStand t calls before ws) same ((here.0, here.1), here.2)
 posts t calls before ws line (Err k) can h = absurd (cc (h))
 
-settle_stands :
-    (t : Network) (calls : CallList) (before : List CallNo) (ws : List (List ℕ)) (line : Line)
-    → AreFitting t calls before → settle_of ws ≡ Ok line → CanStand t calls before ws line
-settle_stands t calls before ws line fit h =
-    let read = both_read (positive_at 1 MOST_ROUNDS ws) (λ r. Ok (Settle r)) line h in
-    let same : Settle read.0 ≡ line = cc (read.2) in
-    subst (CanStand t calls before ws) same (tt, fit)
-
-wait_stands :
-    (t : Network) (calls : CallList) (before : List CallNo) (ws : List (List ℕ)) (line : Line)
-    → AreFitting t calls before → wait_of ws ≡ Ok line → CanStand t calls before ws line
-wait_stands t calls before ws line fit h =
-    let read = both_read (positive_at 1 MOST_WAITED ws) (λ r. Ok (Wait r)) line h in
-    let same : Wait read.0 ≡ line = cc (read.2) in
-    subst (CanStand t calls before ws) same (tt, fit)
+-- a line that is made of its number stands where it does with each
+number_stands :
+    (t : Network) (calls : CallList) (before : List CallNo) (ws : List (List ℕ)) (line : Line) (most : ℕ)
+    (make : ℕ → Line) → ((n : ℕ) → CanStand t calls before ws (make n))
+    → and_then (positive_at 1 most ws) (λ n. Ok (make n)) ≡ Ok line → CanStand t calls before ws line
+number_stands t calls before ws line most make can h =
+    let read = both_read (positive_at 1 most ws) (λ n. Ok (make n)) line h in
+    let same : make read.0 ≡ line = cc (read.2) in
+    subst (CanStand t calls before ws) same (can read.0)
 
 plain_stands :
     (t : Network) (calls : CallList) (before : List CallNo) (ws : List (List ℕ)) (line : Line)
@@ -62,8 +57,8 @@ plain_stands t calls before ws line fit h = go (is_settle ws) (is_wait ws) (is_s
         (s w o : Bool)
         → cond s (settle_of ws) (cond w (wait_of ws) (cond o (Ok Show) (Err kinds.Words))) ≡ Ok line
         → CanStand t calls before ws line
-    go true w o k = settle_stands t calls before ws line fit k
-    go false true o k = wait_stands t calls before ws line fit k
+    go true w o k = number_stands t calls before ws line MOST_ROUNDS Settle (λ n. (tt, fit)) k
+    go false true o k = number_stands t calls before ws line MOST_WAITED Wait (λ n. (tt, fit)) k
     go false false true k = let same : Show ≡ line = cc (k) in subst (CanStand t calls before ws) same (tt, fit)
     go false false false k = absurd (cc (k))
 

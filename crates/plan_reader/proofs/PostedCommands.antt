@@ -1,6 +1,6 @@
 -- Commands without fault that are no setups can be posted.
 use Rattle.std.proofs.Common.{◌≡◌, ℕ, zero, suc, Bool, true, false, cond, not, List, [], ◌∷◌, Ok, Err, refl, subst}
-use Rattle.std.specs.Prelude.{Option, Some, None, option_map, slice_get}
+use Rattle.std.specs.Prelude.{Option, Some, None, Result, option_map, slice_get}
 use Rattle.std.specs.List.{list_all}
 use Rattle.std.proofs.lemmas.Bool.{and_parts}
 use Rattle.ason_base.specs.Network.{Network, is_node_id}
@@ -14,6 +14,7 @@ use Rattle.plan_reader.specs.Names.{is_name, place_of}
 use Rattle.plan_reader.specs.declared.forms.CommandForm.{CommandForm}
 use Rattle.plan_reader.specs.declared.forms.CommandForm.TheVariants as forms
 use Rattle.plan_reader.specs.declared.limits.TheConstants.{MOST_NUMBER}
+use Rattle.plan_reader.specs.Entries.{and_then}
 use Rattle.plan_reader.specs.PlanCalls.{CallList, call_at}
 use Rattle.plan_reader.specs.PlanCommands.{call_of, command_of, group_numbered, group_of, group_with, known_call}
 use Rattle.plan_reader.specs.PlanTexts.{number_up_to, word_at}
@@ -62,33 +63,34 @@ group_is_known t ws g h = go (number_up_to MOST_NUMBER (word_at ws 2)) h
     go None k = absurd (cc (k))
     go (Some n) k = known (group_numbered ws n) (is_group t (group_numbered ws n)) refl k
 
+-- what is made of what was read can be posted where it can be of whatever is read so
+made_posts :
+    {X E : Type 0} (t : Network) (calls : CallList) (before : List CallNo) (ws : List (List ℕ)) (c : Command)
+    (read : Result X E) (make : X → Command) → and_then read (λ x. Ok (make x)) ≡ Ok c
+    → ((x : X) → read ≡ Ok x → CanPost t calls before ws (make x)) → CanPost t calls before ws c
+made_posts t calls before ws c read make h can =
+    let got = both_read read (λ x. Ok (make x)) c h in
+    let same : make got.0 ≡ c = cc (got.2) in
+    subst (CanPost t calls before ws) same (can got.0 got.1)
+
 -- a command without fault can be posted
 pub command_posts :
     (t : Network) (calls : CallList) (before : List CallNo) (ws : List (List ℕ)) (f : CommandForm) (c : Command)
     → is_searchable t ≡ true → AreFitting t calls before → command_of t calls ws f ≡ Ok c
     → CanPost t calls before ws c
 command_posts t calls before ws forms.Release c searchable fit h =
-    let call = both_read (call_of calls ws) _ c h in
-    let same : Release call.0.0 call.0.1 ≡ c = cc (call.2) in
-    subst (CanPost t calls before ws) same (call_is_known t calls before ws call.0 fit call.1, refl, fit)
+    made_posts t calls before ws c (call_of calls ws) (λ call. Release call.0 call.1) h
+    (λ call is. (call_is_known t calls before ws call fit is, refl, fit))
 command_posts t calls before ws forms.Protect c searchable fit h =
-    let call = both_read (call_of calls ws) _ c h in
-    let same : Protect call.0.0 call.0.1 ≡ c = cc (call.2) in
-    subst (CanPost t calls before ws) same
-    (and_true _ _ (call_is_known t calls before ws call.0 fit call.1) searchable, refl, fit)
+    made_posts t calls before ws c (call_of calls ws) (λ call. Protect call.0 call.1) h
+    (λ call is. (and_true _ _ (call_is_known t calls before ws call fit is) searchable, refl, fit))
 command_posts t calls before ws forms.Retry c searchable fit h =
-    let call = both_read (call_of calls ws) _ c h in
-    let same : Retry call.0.0 call.0.1 ≡ c = cc (call.2) in
-    subst (CanPost t calls before ws) same (call_is_known t calls before ws call.0 fit call.1, refl, fit)
+    made_posts t calls before ws c (call_of calls ws) (λ call. Retry call.0 call.1) h
+    (λ call is. (call_is_known t calls before ws call fit is, refl, fit))
 command_posts t calls before ws forms.Revert c searchable fit h =
-    let call = both_read (call_of calls ws) _ c h in
-    let same : Revert call.0.0 call.0.1 ≡ c = cc (call.2) in
-    subst (CanPost t calls before ws) same (call_is_known t calls before ws call.0 fit call.1, refl, fit)
+    made_posts t calls before ws c (call_of calls ws) (λ call. Revert call.0 call.1) h
+    (λ call is. (call_is_known t calls before ws call fit is, refl, fit))
 command_posts t calls before ws forms.Fail c searchable fit h =
-    let group = both_read (group_of t ws) _ c h in
-    let same : Fail group.0 ≡ c = cc (group.2) in
-    subst (CanPost t calls before ws) same (group_is_known t ws group.0 group.1, refl, fit)
+    made_posts t calls before ws c (group_of t ws) Fail h (λ group is. (group_is_known t ws group is, refl, fit))
 command_posts t calls before ws forms.Repair c searchable fit h =
-    let group = both_read (group_of t ws) _ c h in
-    let same : Repair group.0 ≡ c = cc (group.2) in
-    subst (CanPost t calls before ws) same (group_is_known t ws group.0 group.1, refl, fit)
+    made_posts t calls before ws c (group_of t ws) Repair h (λ group is. (group_is_known t ws group is, refl, fit))

@@ -27,9 +27,7 @@ fn read_call(
     ensures call { IfOk result (λ c. call_of calls.now (texts words.now) ≡ Ok c) }
     ensures fault { FailsBy result (call_of calls.now (texts words.now)) }
 {
-    if !is_name(word(words, 1)) {
-        return Err(EntryError::Fault(PlanKind::Name));
-    }
+    refuse_if!(!is_name(word(words, 1)), Name);
     let name = Name::new(alloc, word(words, 1))?;
     let Some((place, from)) = calls.find(&name) else {
         return Err(EntryError::Fault(PlanKind::Call));
@@ -58,13 +56,19 @@ fn read_group(t: &Topology, words: &[&[u8]]) -> Result<Group, EntryError>
         return Err(EntryError::Fault(PlanKind::Range));
     };
     let group = group_numbered(words, number);
-    if !has_group(t, group) {
-        return Err(EntryError::Fault(PlanKind::Group));
-    }
+    refuse_if!(!has_group(t, group), Group);
     Ok(group)
 }
 
 // Commands
+
+// A command of the call that a line names.
+macro_rules! of_call {
+    ($command:ident, $alloc:ident, $calls:ident, $words:ident) => {{
+        let (call, from) = read_call($alloc, $calls, $words)?;
+        Ok(Command::$command { call, from })
+    }};
+}
 
 /// A command of this form, or its first fault. It sets up no call.
 pub fn read_command(
@@ -79,22 +83,10 @@ pub fn read_command(
     ensures fault { FailsBy result (command_of t.now calls.now (texts words.now) form) }
 {
     match form {
-        CommandForm::Release => {
-            let (call, from) = read_call(alloc, calls, words)?;
-            Ok(Command::Release { call, from })
-        }
-        CommandForm::Protect => {
-            let (call, from) = read_call(alloc, calls, words)?;
-            Ok(Command::Protect { call, from })
-        }
-        CommandForm::Retry => {
-            let (call, from) = read_call(alloc, calls, words)?;
-            Ok(Command::Retry { call, from })
-        }
-        CommandForm::Revert => {
-            let (call, from) = read_call(alloc, calls, words)?;
-            Ok(Command::Revert { call, from })
-        }
+        CommandForm::Release => of_call!(Release, alloc, calls, words),
+        CommandForm::Protect => of_call!(Protect, alloc, calls, words),
+        CommandForm::Retry => of_call!(Retry, alloc, calls, words),
+        CommandForm::Revert => of_call!(Revert, alloc, calls, words),
         CommandForm::Fail => {
             let group = read_group(t, words)?;
             Ok(Command::Fail { group })

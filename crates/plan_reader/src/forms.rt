@@ -2,7 +2,7 @@
 
 ghost use Rattle.std.specs.Prelude.{◌≡◌, ◌≤◌};
 ghost use Rattle.plan_reader.specs.PlanTexts.{texts};
-ghost use Rattle.plan_reader.specs.PlanForms.{are_numbers_word, begins, command_form, directions_from, disturb_form, form, is_disturb, is_fail, is_group_line, is_noise, is_number_word, is_protect, is_release, is_repair, is_retry, is_revert, is_route_word, is_settle, is_show, is_wait, is_word, routes_from, setup_form};
+ghost use Rattle.plan_reader.specs.PlanForms.{are_numbers_word, begins, command_form, directions_from, disturb_form, form, is_disturb, is_fail, is_group_line, is_noise, is_number_word, is_repair, is_route_word, is_settle, is_show, is_wait, is_word, routes_from, setup_form};
 
 use crate::words::{are_numbers, word};
 use ason_base::{DisturbKind, is_numeral};
@@ -112,34 +112,6 @@ pub fn setup_form(two_way: bool, words: &[&[u8]]) -> Option<SetupForm>
 
 // Other commands
 
-// `release NAME`
-fn is_release(words: &[&[u8]]) -> bool
-    ensures { result ≡ is_release (texts words.now) }
-{
-    begins(words, "release", 2)
-}
-
-// `protect NAME`
-fn is_protect(words: &[&[u8]]) -> bool
-    ensures { result ≡ is_protect (texts words.now) }
-{
-    begins(words, "protect", 2)
-}
-
-// `retry NAME`
-fn is_retry(words: &[&[u8]]) -> bool
-    ensures { result ≡ is_retry (texts words.now) }
-{
-    begins(words, "retry", 2)
-}
-
-// `revert NAME`
-fn is_revert(words: &[&[u8]]) -> bool
-    ensures { result ≡ is_revert (texts words.now) }
-{
-    begins(words, "revert", 2)
-}
-
 // `srlg N` or `link N` behind this word.
 fn is_group_line(words: &[&[u8]], text: &str) -> bool
     ensures { result ≡ is_group_line (texts words.now) text.now }
@@ -163,7 +135,8 @@ fn is_repair(words: &[&[u8]]) -> bool
     is_group_line(words, "repair")
 }
 
-/// Which command other than a setup a line is.
+/// Which command other than a setup a line is: `release NAME`, `protect NAME`, `retry NAME`, `revert NAME`, or one of a
+/// group.
 #[derive(Clone, Copy)]
 pub enum CommandForm {
     Release,
@@ -178,13 +151,13 @@ pub enum CommandForm {
 pub fn command_form(words: &[&[u8]]) -> Option<CommandForm>
     ensures { result ≡ command_form (texts words.now) }
 {
-    if is_release(words) {
+    if begins(words, "release", 2) {
         Some(CommandForm::Release)
-    } else if is_protect(words) {
+    } else if begins(words, "protect", 2) {
         Some(CommandForm::Protect)
-    } else if is_retry(words) {
+    } else if begins(words, "retry", 2) {
         Some(CommandForm::Retry)
-    } else if is_revert(words) {
+    } else if begins(words, "revert", 2) {
         Some(CommandForm::Revert)
     } else if is_fail(words) {
         Some(CommandForm::Fail)

@@ -31,9 +31,7 @@ fn read_channel(
     let (Some(from), Some(to)) = (node_at(t, names, words, 1), node_at(t, names, words, 2)) else {
         return Err(EntryError::Fault(PlanKind::Node));
     };
-    if !t.is_channel(from, to) {
-        return Err(EntryError::Fault(PlanKind::Channel));
-    }
+    refuse_if!(!t.is_channel(from, to), Channel);
     Ok((from, to))
 }
 

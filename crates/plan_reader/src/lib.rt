@@ -1,6 +1,15 @@
 //! Plans: the network, the script of lines to be run over it, and the first fault of what is no plan.
 #![tactic(auto)]
 
+// Ends the function with this fault where the condition holds.
+macro_rules! refuse_if {
+    ($wrong:expr, $kind:ident) => {
+        if $wrong {
+            return Err(EntryError::Fault(PlanKind::$kind));
+        }
+    };
+}
+
 mod calls;
 mod commands;
 pub mod constants;

@@ -160,15 +160,11 @@ fn placed(
     ensures fault { FailsBy result
         (link_of_numbers known.now last (view value.now) (Some numbers.now)) }
 {
-    if last >= numbers.id {
-        return Err(EntryError::Fault(PlanKind::Order));
-    }
+    refuse_if!(last >= numbers.id, Order);
     let Some(ends) = ends(value, known) else {
         return Err(EntryError::Fault(PlanKind::Ends));
     };
-    if !is_distinct(numbers.srlgs.items()) {
-        return Err(EntryError::Fault(PlanKind::Twice));
-    }
+    refuse_if!(!is_distinct(numbers.srlgs.items()), Twice);
     Ok(ends)
 }
 
@@ -177,18 +173,10 @@ fn read_link(alloc: Global, known: &Nodes, last: u32, value: &Value) -> Result<L
     ensures link { IfOk result (λ l. link_of known.now last (view value.now) ≡ Ok l) }
     ensures fault { FailsBy result (link_of known.now last (view value.now)) }
 {
-    if has_strange(Shape::OfLink, value) {
-        return Err(EntryError::Fault(PlanKind::Key));
-    }
-    if lacks_key(value) {
-        return Err(EntryError::Fault(PlanKind::Missing));
-    }
-    if !has_kinds(value) {
-        return Err(EntryError::Fault(PlanKind::Kind));
-    }
-    if !has_counts(value) {
-        return Err(EntryError::Fault(PlanKind::Count));
-    }
+    refuse_if!(has_strange(Shape::OfLink, value), Key);
+    refuse_if!(lacks_key(value), Missing);
+    refuse_if!(!has_kinds(value), Kind);
+    refuse_if!(!has_counts(value), Count);
     let Some(numbers) = numbers(alloc, value)? else {
         return Err(EntryError::Fault(PlanKind::Range));
     };

@@ -144,28 +144,16 @@ fn read_node(alloc: Global, nodes: &mut Nodes, value: &Value) -> Result<(), Entr
     ensures ok { OnOk result (with_node nodes.old (view value.now) ≡ Ok nodes.new) }
     ensures fault { FailsBy result (with_node nodes.old (view value.now)) }
 {
-    if has_strange(Shape::OfNode, value) {
-        return Err(EntryError::Fault(PlanKind::Key));
-    }
-    if lacks_key(value) {
-        return Err(EntryError::Fault(PlanKind::Missing));
-    }
-    if !has_kinds(value) {
-        return Err(EntryError::Fault(PlanKind::Kind));
-    }
+    refuse_if!(has_strange(Shape::OfNode, value), Key);
+    refuse_if!(lacks_key(value), Missing);
+    refuse_if!(!has_kinds(value), Kind);
     let name = name_of(value);
-    if !is_name(name) {
-        return Err(EntryError::Fault(PlanKind::Name));
-    }
+    refuse_if!(!is_name(name), Name);
     let Some(id) = id(value) else {
         return Err(EntryError::Fault(PlanKind::Range));
     };
-    if nodes.last() >= id {
-        return Err(EntryError::Fault(PlanKind::Order));
-    }
-    if has_name(&nodes.names, name) {
-        return Err(EntryError::Fault(PlanKind::Twice));
-    }
+    refuse_if!(nodes.last() >= id, Order);
+    refuse_if!(has_name(&nodes.names, name), Twice);
     let name = Name::new(alloc, name)?;
     let id = NodeId(id);
     let convert = converts(value);

@@ -6,7 +6,7 @@ ghost use Rattle.plan_reader.specs.Entries.{FailsAs, FailsBy, FailsWith};
 ghost use Rattle.plan_reader.specs.PlanCalls.{CallList};
 ghost use Rattle.plan_reader.specs.PlanTables.{views};
 ghost use Rattle.plan_reader.specs.PlanTexts.{texts, words_of};
-ghost use Rattle.plan_reader.specs.PlanScript.{AddsLine, AddsWords, IsRead, calls_with_line, unposted_line, line_as, line_of, no_script, other_as, other_line, plain_line, settle_of, wait_of};
+ghost use Rattle.plan_reader.specs.PlanScript.{AddsLine, IsRead, calls_with_line, line_as, line_of, no_script, other_as, other_line, plain_line, settle_of, wait_of};
 ghost use Rattle.plan_reader.specs.Plans.{IsScriptOf};
 ghost use Rattle.plan_reader.specs.declared.faults.PlanError.{PlanError};
 ghost use Rattle.plan_reader.specs.declared.faults.PlanFault.{PlanFault};
@@ -65,24 +65,6 @@ fn read_plain_line(words: &[&[u8]]) -> Result<Line, EntryError>
     Err(EntryError::Fault(PlanKind::Words))
 }
 
-// What a line that posts nothing says, or its first fault.
-fn read_unposted_line(
-    alloc: Global,
-    t: &Topology,
-    names: &Names,
-    words: &[&[u8]],
-) -> Result<Line, EntryError>
-    ensures line { IfOk result (λ l. unposted_line t.now names.now (texts words.now) ≡ Ok l) }
-    ensures calls { (k : CallList) → IfOk result (λ l. calls_with_line k (texts words.now) l ≡ k) }
-    ensures fault { FailsBy result (unposted_line t.now names.now (texts words.now)) }
-{
-    match disturb_form(words) {
-        Some(kind) => read_disturb(t, names, words, kind),
-        None if is_noise(words) => read_noise(alloc, t, names, words),
-        None => read_plain_line(words),
-    }
-}
-
 // What a line that is no setup says, or its first fault.
 fn read_other_line(
     alloc: Global,
@@ -97,11 +79,15 @@ fn read_other_line(
     ensures fault { FailsBy result (other_line t.now names.now calls.now (texts words.now)) }
 {
     match command_form(words) {
-        None => read_unposted_line(alloc, t, names, words),
         Some(form) => {
             let command = read_command(alloc, t, calls, words, form)?;
             Ok(Line::Post(command))
         }
+        None => match disturb_form(words) {
+            Some(kind) => read_disturb(t, names, words, kind),
+            None if is_noise(words) => read_noise(alloc, t, names, words),
+            None => read_plain_line(words),
+        },
     }
 }
 
@@ -147,26 +133,6 @@ fn check_line(alloc: Global, line: &Line) -> Result<(), EntryError>
     }
 }
 
-// A line of these words behind those before it, or its first fault.
-fn read_words(
-    alloc: Global,
-    t: &Topology,
-    names: &Names,
-    read: &mut Script,
-    words: &[&[u8]],
-    two_way: bool,
-) -> Result<(), EntryError>
-    ensures ok { OnOk result
-        (AddsWords two_way t.now names.now read.old (texts words.now) (Ok read.new)) }
-    ensures fault { FailsWith result
-        (λ k. AddsWords two_way t.now names.now read.old (texts words.now) (Err k)) }
-{
-    let line = read_line(alloc, t, names, &mut read.calls, words, two_way)?;
-    check_line(alloc, &line)?;
-    read.lines.push(line)?;
-    Ok(())
-}
-
 // A line behind those before it, or its first fault.
 fn read_text(
     alloc: Global,
@@ -182,7 +148,10 @@ fn read_text(
         (λ k. AddsLine two_way t.now names.now read.old (view value.now) (Err k)) }
 {
     let words = words_of(alloc, text_of(value))?;
-    read_words(alloc, t, names, read, &words, two_way)
+    let line = read_line(alloc, t, names, &mut read.calls, &words, two_way)?;
+    check_line(alloc, &line)?;
+    read.lines.push(line)?;
+    Ok(())
 }
 
 /// Reads the lines, or gives the first fault. A setup may be two-way, or not.

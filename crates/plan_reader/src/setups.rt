@@ -158,12 +158,14 @@ fn routes_over(
 {
     let via = steps_given(alloc, t, from, ids.via.as_ref())?;
     let backup = steps_given(alloc, t, from, ids.backup.as_ref())?;
-    if !leads(t, from, to, via.as_ref()) || !leads(t, from, to, backup.as_ref()) {
-        return Err(EntryError::Fault(PlanKind::Route));
-    }
-    if !is_backed(t, from, to, via.as_ref(), backup.as_ref()) {
-        return Err(EntryError::Fault(PlanKind::Backup));
-    }
+    refuse_if!(
+        !leads(t, from, to, via.as_ref()) || !leads(t, from, to, backup.as_ref()),
+        Route
+    );
+    refuse_if!(
+        !is_backed(t, from, to, via.as_ref(), backup.as_ref()),
+        Backup
+    );
     Ok(Routes { via, backup })
 }
 
@@ -197,15 +199,9 @@ fn new_routes(
     ensures few { OnOk result (length calls.now.names < MOST_CALLS) }
     ensures fault { FailsBy result (new_routes t.now calls.now name.now ids.now ends.from ends.to) }
 {
-    if ends.from == ends.to {
-        return Err(EntryError::Fault(PlanKind::Same));
-    }
-    if calls.has(name) {
-        return Err(EntryError::Fault(PlanKind::Call));
-    }
-    if calls.count() >= MOST_CALLS {
-        return Err(EntryError::Fault(PlanKind::Count));
-    }
+    refuse_if!(ends.from == ends.to, Same);
+    refuse_if!(calls.has(name), Call);
+    refuse_if!(calls.count() >= MOST_CALLS, Count);
     routes_over(alloc, t, ends.from, ends.to, ids)
 }
 
@@ -267,9 +263,7 @@ fn setup_with(
     ensures fault { FailsBy result (setup_with t.now names.now calls.old (texts words.now)
         asked.now.form asked.now.ids) }
 {
-    if !is_name(word(words, 1)) {
-        return Err(EntryError::Fault(PlanKind::Name));
-    }
+    refuse_if!(!is_name(word(words, 1)), Name);
     let (Some(from), Some(to)) = (node_at(t, names, words, 2), node_at(t, names, words, 3)) else {
         return Err(EntryError::Fault(PlanKind::Node));
     };
