@@ -101,7 +101,8 @@ abbrev pub CanFollow : (p : Plan) (parts : List Part) (f : FleetState) (text : L
 CanFollow p parts f text x lines = ArePostable p.topology (world_at p.topology (stage_of x)).posted lines
 
 -- at the start
-pub can_begin : (p : Plan) (f : FleetState) (text : List ℕ) (is : text ≡ []) (stands : StandsFor p.topology [] f new_record)
+pub can_begin : (p : Plan) (f : FleetState) (text : List ℕ) (is : text ≡ [])
+    (stands : StandsFor p.topology [] f new_record)
     (lines : List Line) → ArePostable p.topology [] lines → CanFollow p [] f text (loaded_none p f text is stands) lines
 unfolding loaded_none
 can_begin p f text is stands lines can = can

@@ -35,7 +35,8 @@ use Rattle.ason_main.proofs.OneLine.{rose_later}
 pub may_keep : (p : Plan) (f : FleetState) (o : Option FleetState) → o ≡ Some f → StandsYet p.topology f → MayKeep p o
 may_keep p f o is yet = subst (MayKeep p) (sym is) yet
 
-pub has_kept : (p : Plan) (f : FleetState) (o : Option FleetState) (s : Stage) → o ≡ Some f → IsKept p f s → HasKept p o s
+pub has_kept : (p : Plan) (f : FleetState) (o : Option FleetState) (s : Stage) → o ≡ Some f → IsKept p f s →
+    HasKept p o s
 has_kept p f o s is kept = subst (λ q. HasKept p q s) (sym is) kept
 
 -- a fleet that made a stage stands for it

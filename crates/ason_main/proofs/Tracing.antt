@@ -99,7 +99,8 @@ stopped_at_entry p bs m rows old new s =
         ≡ (front ++ lines_of p s.before) ++ (line ++ (entries_text p others ++ end_text p rows))
     whole =
         ap (λ l. (front ++ l) ++ end_text p rows) told
-        ∙ (ap (λ l. l ++ end_text p rows) (sym (append_assoc front (lines_of p s.before) (line ++ entries_text p others)))
+        ∙ (ap (λ l. l ++ end_text p rows) (sym (append_assoc front (lines_of p s.before)
+        (line ++ entries_text p others)))
         ∙ (append_assoc (front ++ lines_of p s.before) (line ++ entries_text p others) (end_text p rows)
         ∙ ap (λ l. (front ++ lines_of p s.before) ++ l) (append_assoc line (entries_text p others) (end_text p rows))))
 

@@ -94,7 +94,8 @@ pub record TellsMore (p : Plan) (phase : LoadPhase) (f : FleetState) (before aft
   pub behind : after ≡ before ++ line
 
 -- these parts were done from the start on, up to a stage that is stopped so, and this was told
-pub record AreLoaded (p : Plan) (parts : List Part) (f : FleetState) (stop : Option NodeId) (text : List ℕ) : Type 0 where
+pub record AreLoaded (p : Plan) (parts : List Part) (f : FleetState) (stop : Option NodeId) (text : List ℕ)
+    : Type 0 where
   pub more : List Stage
   pub printed : PartsPrint p parts new_stage more text
   pub led : AreLed p.topology f stop new_stage more

@@ -49,7 +49,8 @@ pub record TellsWholeTrace (p : Plan) (bs : List ℕ) (f : FleetState) (text : L
   pub tells : (lines : List Disturb) (r : Record) → StandsFor p.topology lines f r → IsWholeTraceOf p bs r text
 
 -- why the trace wasn't written as a whole
-abbrev pub StopsTrace : Plan → List ℕ → FleetState → Option (List ℕ) → Option (List ℕ) → ℕ → ℕ → TraceWriteFault → Type 0
+abbrev pub StopsTrace : Plan → List ℕ → FleetState → Option (List ℕ) → Option (List ℕ) → ℕ → ℕ →
+    TraceWriteFault → Type 0
 StopsTrace p bs f old new faults now TraceWriteFault.Failed =
     Rose faults now × HasWrittenPart old new (TellsTrace p bs f)
 StopsTrace p bs f old new faults now TraceWriteFault.OutOfMemory =

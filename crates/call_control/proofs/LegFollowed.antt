@@ -142,7 +142,8 @@ module _ (before : LegTable) (c : CallTable) (u : NodeId) (fits : IngressFits be
                 (messages-fit p s u m fits.links fits.kept).kept;
             stays = subst (Stays p (state_of after c)) (sym part) stays;
             fine = subst (Fine p after.legs) (sym part)
-                (rest-fine p before.legs h [] a (stays-less before.legs h (stands taken)) (subst (Fine p before.legs) became.whole
+                (rest-fine p before.legs h [] a (stays-less before.legs h (stands taken))
+                (subst (Fine p before.legs) became.whole
                 (message-may p s u m fits.links fits.kept.legs.each)));
           };
         }

@@ -63,7 +63,8 @@ module _ (before : LegTable) (c : CallTable) (u : NodeId) (fits : IngressFits be
         let after : LegTable = record before { legs = with_leg h before.legs } in
         leg-follows before c u fits l e m t g h _ became taken refl
         (ap (resv_here after c) (h-here before c u fits l e m t g h _ became)
-        ∙ ap (λ b. cond b (turned_here after c h) (answered_here after c h)) (reserved-inactive g.role) ∙ same h became taken)
+        ∙ ap (λ b. cond b (turned_here after c h) (answered_here after c h)) (reserved-inactive g.role) ∙ same h
+        became taken)
         (subst (Stays p (state_of after c)) (same h became taken)
         (answered-stays p (state_of after c) (names-after before c u fits l e m t g h _ became)
         (armed-after before c u fits l e m t g h _ became) h

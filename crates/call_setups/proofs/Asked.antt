@@ -75,7 +75,8 @@ pub backup-begun : (t : LegTable) (c : CallTable) (back : Option ℕ) (old : Ans
     {asked called used : Answer} {new : NewLsp} {lsp : Lsp} {copied paired : CallRec} {next : NextNumbers} →
     RowsAreKnown t → b.primary ≡ route_from (local_of t) r.work →
     back ≡ first_back (local_of t) (state_of t c) (is_two_way r.work) (guarding (local_of t) r.work) b.out →
-    ri ≡ r → bi ≡ b → new ≡ backup_over c ri.work bi.out bi.rest bi.primary back → asked ≡ followed_by old (asked_here t new) →
+    ri ≡ r → bi ≡ b → new ≡ backup_over c ri.work bi.out bi.rest bi.primary back → asked ≡ followed_by old
+    (asked_here t new) →
     lsp ≡ new.lsp → copied ≡ ri.call → paired ≡ pairing copied lsp →
     called ≡ followed_by asked (changes_calls (call.Put paired ∷ [])) →
     next ≡ record { tunnel = c.tunnel; lsp = c.lsp + 1 } → used ≡ record called { numbers = Some next } →

@@ -50,7 +50,8 @@ fits-ticked n m f g fits node ticks =
     subst (λ (h : FloodState). FloodFits m.place m.state h) (sym ticks)
     (subst (λ (k : NodeView). FloodFits k.place k.state (flood.ticked f)) (sym node) (record {
       me = fits.me;
-      rows = fits.rows ∙ sym (ap (λ rows. known_rows n.place (record n.state { learnt = learnt_after rows n.state.learnt }))
+      rows = fits.rows ∙ sym (ap (λ rows. known_rows n.place (record n.state
+          { learnt = learnt_after rows n.state.learnt }))
           (tick-learns_nothing n.place n.state));
       neighbours = ids-mapped older_neighbour (λ n. refl) f.neighbours ∙ fits.neighbours;
       due = due-mapped older_neighbour (λ n h. older-go n.due h) f.neighbours fits.due;

@@ -117,7 +117,8 @@ pub all_lines : (f : FleetState) → total (f.posts ∷ map log_of_station f.sta
 all_lines f =
     let logs = log_lines f.stations in omega (arith, logs)
   where
-    log_lines : (xs : List StationState) → total (map log_of_station xs) ≡ sum_by (λ (s : StationState). length s.log) xs
+    log_lines : (xs : List StationState) → total (map log_of_station xs) ≡ sum_by
+        (λ (s : StationState). length s.log) xs
     log_lines [] = refl
     log_lines (x ∷ xs) =
         ap (λ k. length x.log + k) (log_lines xs) ∙ sym (sum_by-cons (λ (s : StationState). length s.log) x xs)

@@ -59,7 +59,8 @@ set_one f g [] place u apart at same = absurd (cc (at))
 set_one f g (v ∷ us) zero u apart at same =
     let here : v ≡ u = cc (at) in
     ap (λ (w : NodeId). g w ∷ map f us) (sym here)
-    ∙ ap (λ ls. g v ∷ ls) (same-map f g us (each-more (λ (w : NodeId). nat_eq w.0 v.0 ≡ false) (λ (w : NodeId). f w ≡ g w)
+    ∙ ap (λ ls. g v ∷ ls) (same-map f g us (each-more (λ (w : NodeId). nat_eq w.0 v.0 ≡ false)
+    (λ (w : NodeId). f w ≡ g w)
     (λ w other. same w (subst (λ (k : NodeId). nat_eq w.0 k.0 ≡ false) here other)) us apart.0))
 set_one f g (v ∷ us) (suc place) u apart at same =
     ap (λ l. l ∷ slice_set (map f us) place (g u))

@@ -43,7 +43,8 @@ is_ordered k desks n c does put = record {
 }
 
 -- An order that is put on a desk is a step.
-pub order-seen : {T E : Type 0} {parts value : Kept} (r : Result T E) (desks : List Waiting) (n : NodeId) (c : Command) →
+pub order-seen : {T E : Type 0} {parts value : Kept} (r : Result T E) (desks : List Waiting) (n : NodeId)
+    (c : Command) →
     parts ≡ value →
     step parts.seats.network (mesh_of parts) (Post c) ≡ with_item (mesh_of parts) n.0 (Order c) →
     OnOk r (desks ≡ parts.desks ++ record { node = n; item = Order c } ∷ []) →

@@ -36,7 +36,8 @@ has_line_alone w t names before d a b x y =
     x.2 ∙ (ap (put_behind before (words_of (text_of d))) same ∙ sym y.2)
 
 over_alone :
-    (w : Bool) (d : Data) (known : NodeList) (links : List LinkSpec) (r s : Result Plan PlanFault) → IsPlanOver w d known links r
+    (w : Bool) (d : Data) (known : NodeList) (links : List LinkSpec) (r s : Result Plan PlanFault) → IsPlanOver w d
+    known links r
     → IsPlanOver w d known links s → r ≡ s
 over_alone w d known links r s x y =
     let t = network_of (ticks_of d) known links in

@@ -106,7 +106,8 @@ LeadsOn {S} entry Reads All i so_far values =
 -- one value more
 pub one_said :
     {S : Type 0} (entry : ℕ → PlanEntry) (Reads : S → Data → Result S PlanKind → Type 0)
-    (All : Result S PlanFault → Type 0) (i : ℕ) (before after : S) (values : List Value) (v : Value) → i < length values → v ≡ get_or values i v
+    (All : Result S PlanFault → Type 0) (i : ℕ) (before after : S) (values : List Value) (v : Value) → i < length
+    values → v ≡ get_or values i v
     → Reads before (view v) (Ok after) → LeadsOn entry Reads All i before values
     → LeadsOn entry Reads All (i + 1) after values
 one_said entry Reads All i before after values v below here ok so_far =
@@ -116,7 +117,8 @@ one_said entry Reads All i before after values v below here ok so_far =
 -- a value with a fault
 pub one_at_fault :
     {S : Type 0} (entry : ℕ → PlanEntry) (Reads : S → Data → Result S PlanKind → Type 0)
-    (All : Result S PlanFault → Type 0) (i : ℕ) (before : S) (values : List Value) (v : Value) (e : EntryError) → i < length values → v ≡ get_or values i v
+    (All : Result S PlanFault → Type 0) (i : ℕ) (before : S) (values : List Value) (v : Value) (e : EntryError) → i
+    < length values → v ≡ get_or values i v
     → ((k : PlanKind) → e ≡ Fault k → Reads before (view v) (Err k)) → LeadsOn entry Reads All i before values
     → (f : PlanFault) → error_at (entry (i + 1)) e ≡ errors.Fault f → All (Err f)
 one_at_fault entry Reads All i before values v (Fault k) below here says so_far =

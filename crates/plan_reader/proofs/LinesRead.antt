@@ -27,7 +27,8 @@ words_read w t names before after ws line e is calls lines = (
 
 -- a fault of the line
 pub line_faulty :
-    {A : Type 0} (w : Bool) (t : Network) (names : List (List ℕ)) (before : Script) (ws : List (List ℕ)) (x : Result A EntryError)
+    {A : Type 0} (w : Bool) (t : Network) (names : List (List ℕ)) (before : Script) (ws : List (List ℕ))
+    (x : Result A EntryError)
     → FailsBy x (line_of w t names before.calls ws) → FailsWith x (λ k. AddsWords w t names before ws (Err k))
 line_faulty w t names before ws (Ok a) h = h
 line_faulty w t names before ws (Err e) h =

@@ -96,7 +96,8 @@ other_stands t names calls before ws line searchable asked fit h = go (command_f
 
 -- a line without fault can be posted behind those before it
 pub line_stands :
-    (w : Bool) (t : Network) (names : List (List ℕ)) (calls : CallList) (before : List CallNo) (ws : List (List ℕ)) (line : Line)
+    (w : Bool) (t : Network) (names : List (List ℕ)) (calls : CallList) (before : List CallNo) (ws : List (List ℕ))
+    (line : Line)
     → is_searchable t ≡ true → WasAsked line → AreFitting t calls before → line_of w t names calls ws ≡ Ok line
     → CanStand t calls before ws line
 line_stands w t names calls before ws line searchable asked fit h = go (setup_form w ws) refl h

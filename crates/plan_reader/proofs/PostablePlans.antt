@@ -45,7 +45,8 @@ postable_more t before (l ∷ lines) line are is =
     (are.0, postable_more t (calls_after_line before l) lines line are.1 is)
 
 line_kept :
-    (w : Bool) (t : Network) (names : List (List ℕ)) (before after : Script) (ws : List (List ℕ)) → is_searchable t ≡ true
+    (w : Bool) (t : Network) (names : List (List ℕ)) (before after : Script) (ws : List (List ℕ)) →
+    is_searchable t ≡ true
     → AddsWords w t names before ws (Ok after) → ScriptFits t before → ScriptFits t after
 line_kept w t names before after ws searchable h fit = go (line_of w t names before.calls ws) refl h.0 h.1 h.2
   where
@@ -83,7 +84,8 @@ script_fits :
     → IsScriptOf w t names ds (Ok script) → ScriptFits t script
 script_fits w t names ds script searchable h =
     kept_as (ScriptFits t) _ (AddsLine w t names)
-    (λ before after d. line_kept w t names before after (words_of (text_of d)) searchable) 1 no_script ds script h nothing
+    (λ before after d. line_kept w t names before after (words_of (text_of d)) searchable) 1 no_script ds script
+    h nothing
   where
     nothing : ScriptFits t no_script
     nothing = record { postable = tt; fits = record { below = refl; known = refl; counted = refl; found = none_found } }

@@ -61,7 +61,8 @@ setup_posts t names calls before ws f c searchable fit backs h =
     between ids read.1 (not_false _ named.0) (node_at t names ws 2) (node_at t names ws 3) refl refl named.1
   where
     between :
-        (ids : RouteIds) → route_ids ws f ≡ Ok ids → is_name (word_at ws 1) ≡ true → (from to : Option NodeId) → node_at t names ws 2 ≡ from
+        (ids : RouteIds) → route_ids ws f ≡ Ok ids → is_name (word_at ws 1) ≡ true → (from to : Option NodeId) →
+        node_at t names ws 2 ≡ from
         → node_at t names ws 3 ≡ to → setup_between t calls ws f ids from to ≡ Ok c
         → CanPost t calls before ws c
     between ids i is None to e g k = absurd (cc (k))

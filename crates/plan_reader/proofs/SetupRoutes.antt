@@ -50,7 +50,8 @@ pub form_backs_protected : (w : Bool) (ws : List (List ℕ)) (f : SetupForm) →
     BacksProtected f.protected f.backup
 form_backs_protected w ws f h = go (is_word ws 0 (codes "setup")) (is_word ws 4 (codes "unprotected")) h
   where
-    go : (a b : Bool) → cond (not a) None (cond b (directions_from w ws 5 false) (directions_from w ws 4 true)) ≡ Some f →
+    go : (a b : Bool) → cond (not a) None (cond b (directions_from w ws 5 false)
+        (directions_from w ws 4 true)) ≡ Some f →
         BacksProtected f.protected f.backup
     go false b e = absurd (cc (e))
     go true true e = directions_back w ws 5 false f e

@@ -133,7 +133,8 @@ module _ (p : LocalNode) (s : NodeState) (all : AllNameByRole p s)
     go_back-leaves None begins = call-leaves c here
     go_back-leaves (Some b) begins =
         if_cases Leaves (is_in_use b.phase) _ _
-        (λ e. phase-leaves Held (guarded c) b (taking_path b (following b)) (record { work = here.work; back = here.back })
+        (λ e. phase-leaves Held (guarded c) b (taking_path b (following b))
+        (record { work = here.work; back = here.back })
         begins)
         (λ e. call-leaves c here)
 

@@ -108,7 +108,8 @@ noise_more u d bytes r n = by_test (n == d.0) refl
     by_test false e = ([], sym (append-nil (r.doings n)))
 
 noise_grows : (u d : NodeId) (bytes : List ℕ) (s : Stage) (full b : Bool) →
-    AreGrowing s (cond b [] (cond full (record s { stopped = Some d }) (record s { made = noised u d bytes s.made }) ∷ []))
+    AreGrowing s (cond b [] (cond full (record s { stopped = Some d })
+    (record s { made = noised u d bytes s.made }) ∷ []))
 noise_grows u d bytes s full true = tt
 noise_grows u d bytes s true false = (stays_grown s.made, tt)
 noise_grows u d bytes s false false = (grows s.made (noised u d bytes s.made) (noise_more u d bytes s.made), tt)

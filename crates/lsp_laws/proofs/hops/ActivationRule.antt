@@ -60,7 +60,8 @@ module _ (t : Network) (q : Purpose) (s : Mesh) (l : Lsp) (p : Plan) (i : ℕ) (
     abbrev message : Msg
     message = Path l e k r set label (Back true work primary)
 
-    open path-comes t q s l p i route chain below e k r set label role rest was use {asks, own, Keeps, hop, over, left, tells}
+    open path-comes t q s l p i route chain below e k r set label role rest was use
+        {asks, own, Keeps, hop, over, left, tells}
 
     module _ (g : Leg) (here : leg_at s l (node_at p (suc i)) ≡ Some g) (fits : LegFits t q l p (suc i) g)
         (held : g.phase ≡ Held) where

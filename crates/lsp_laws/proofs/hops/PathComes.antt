@@ -29,7 +29,8 @@ drop-next (suc j) (x ∷ xs) = drop-next j xs
 
 -- What a Path asks for that comes first from place i of a route, what an answer to it has to keep, and its hop: it came
 -- over the hop's link, with the steps that are left of the route, and tells of the LSP's purpose.
-pub record PathComes (q : Purpose) (s : Mesh) (l : Lsp) (p : Plan) (i : ℕ) (k : LinkId) (r : List Step) (role : PathRole)
+pub record PathComes (q : Purpose) (s : Mesh) (l : Lsp) (p : Plan) (i : ℕ) (k : LinkId) (r : List Step)
+    (role : PathRole)
     (message : Msg) (rest : List Msg) : Type 1 where
   pub asks : PathRequest
   pub own : is_message_of l message ≡ true

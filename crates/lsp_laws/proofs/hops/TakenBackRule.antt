@@ -57,7 +57,8 @@ module _ (t : Network) (q : Purpose) (s : Mesh) (l : Lsp) (p : Plan) (i : ℕ) (
       abbrev message : Msg
       message = Path l e k r set label (Back false work primary)
 
-      open path-comes t q s l p i route chain below e k r set label purpose rest was use {asks, own, Keeps, hop, over, left, tells}
+      open path-comes t q s l p i route chain below e k r set label purpose rest was use
+          {asks, own, Keeps, hop, over, left, tells}
 
       -- the LSP is a backup
       backup : role_of q ≡ role.Back
@@ -93,7 +94,8 @@ module _ (t : Network) (q : Purpose) (s : Mesh) (l : Lsp) (p : Plan) (i : ℕ) (
             Keeps (puts (with_phase Held g) (to_node next
             (Path g.lsp g.egress (link_at p (suc i)) (drop 1 r) g.sent g.back_in purpose) ∷ []))
         goes_on small =
-            let m : Msg = Path g.lsp g.egress (link_at p (suc i)) (drop 1 r) g.sent g.back_in (Back false work primary) in
+            let m : Msg = Path g.lsp g.egress (link_at p (suc i)) (drop 1 r) g.sent g.back_in
+            (Back false work primary) in
             down_taken t q s l p i route chain below message rest was own
             (puts (with_phase Held g) (to_node next m ∷ [])) (Some (with_phase Held g)) [] (m ∷ [])
             (rw mine refl) (sends_on t l l.ingress p route (suc i) m small mine) held (rw append-nil before)

@@ -16,7 +16,8 @@ use Rattle.lsp_laws.proofs.nodes.AnswerKeeps.{keeps-on_resv, keeps-on_path_err, 
 pub keeps-on_message : (p : LocalNode) (s : NodeState) (u : NodeId) (m : Msg) → NodeFacts p.id.0 s →
     Keeps p s (on_message p s u m)
 keeps-on_message p s u (Path l e k route set up r) facts =
-    keeps-on_path p s (record { arrival = arrival l e u k; route = route; set = set; upstream = up; role = r }) (find_leg l s.legs)
+    keeps-on_path p s (record { arrival = arrival l e u k; route = route; set = set; upstream = up; role = r })
+    (find_leg l s.legs)
     facts refl
 keeps-on_message p s u (Resv l e k x) facts = keeps-on_resv p s (arrival l e u k) x (find_leg l s.legs) facts refl
 keeps-on_message p s u (PathTear l e k) facts = keeps-on_tear p s (arrival l e u k) (find_leg l s.legs) facts refl

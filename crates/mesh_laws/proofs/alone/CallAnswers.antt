@@ -62,7 +62,8 @@ module _ (t : Network) (gs : List Group) (o : Routes) (p : LocalNode) (s : NodeS
       if_cases (Fine t gs o) (nat_lt LAST_NUMBER s.lsp) (leaves_bare c Spent) _ (λ e. bare-fine c Spent of)
       (λ e. if_cases (Fine t gs o) (is_full s) (leaves_bare c Full) _ (λ e. bare-fine c Full of)
       (λ e. if_cases (Fine t gs o) (lacks_first_back p s (is_two_way w) (guarding p w) out)
-      (leaves_bare c (Code label_code)) (begins_backup p s c w out (drop 1 route)) (λ e. bare-fine c (Code label_code) of)
+      (leaves_bare c (Code label_code)) (begins_backup p s c w out (drop 1 route))
+      (λ e. bare-fine c (Code label_code) of)
       (λ e. begins-fine c w out (drop 1 route) of)))
 
   pair_over-fine : (c : CallRec) (w : Leg) (route : Option (List Step)) → CallHolds t gs o c →

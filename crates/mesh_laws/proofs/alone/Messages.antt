@@ -221,7 +221,8 @@ module _ (t : Network) (gs : List Group) (o : Routes) (p : LocalNode) (s : NodeS
   pub message-fine : (u : NodeId) (m : Msg) → MsgConcerns t gs m → MsgKnows t s u m → MsgApart gs s.legs u m →
       Fine t gs o (on_message p s u m)
   message-fine u (Path l e k route set up r) concerns its other =
-      path_with-fine (record { arrival = arrival l e u k; route = route; set = set; upstream = up; role = r }) (find_leg l s.legs)
+      path_with-fine (record { arrival = arrival l e u k; route = route; set = set; upstream = up; role = r })
+      (find_leg l s.legs)
       refl concerns its
   message-fine u (Resv l e k x) concerns its other = resv_with-fine l e u k x (find_leg l s.legs) refl its other
   message-fine u (PathTear l e k) concerns its other = tear_with-fine (arrival l e u k) (find_leg l s.legs) refl

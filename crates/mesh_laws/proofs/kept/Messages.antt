@@ -168,7 +168,8 @@ module _ (p : LocalNode) (s : NodeState) (up : LegsUp s.legs) where
   -- each message that tears nothing, a Path only where a leg of its LSP stands
   pub message-kept : (u : NodeId) (m : Msg) → MsgKept m → ComesToLeg m → Good (on_message p s u m)
   message-kept u (Path l e k route set up r) kept there =
-      path-kept (record { arrival = arrival l e u k; route = route; set = set; upstream = up; role = r }) (find_leg l s.legs) refl
+      path-kept (record { arrival = arrival l e u k; route = route; set = set; upstream = up; role = r })
+      (find_leg l s.legs) refl
       there
   message-kept u (Resv l e k x) kept there = resv_with-kept (arrival l e u k) x (find_leg l s.legs) refl
   message-kept u (PathTear l e k) kept there = absurd kept

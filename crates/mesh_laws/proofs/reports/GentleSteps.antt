@@ -258,7 +258,8 @@ module _ (p : LocalNode) (s : NodeState) (facts : NodeFacts p.id.0 s) (l : Lsp) 
   pub message-gentle : (u : NodeId) (m : Msg) → is_notice_of l m ≡ false → (IsFirstPath m → ⊥) →
       IsGentle s l (on_message p s u m)
   message-gentle u (Path k e link route set up r) other not_first =
-      path-gentle (record { arrival = arrival k e u link; route = route; set = set; upstream = up; role = r }) (find_leg k s.legs) refl
+      path-gentle (record { arrival = arrival k e u link; route = route; set = set; upstream = up; role = r })
+      (find_leg k s.legs) refl
       (λ plain own none. not_first (rw plain refl, own, none))
   message-gentle u (Resv k e link x) other not_first =
       by-leg (λ o. IsGentle s l (resv_with p s (arrival k e u link) x o)) k (nothing-gentle s l)

@@ -86,7 +86,8 @@ module _ (t : Network) (s : Mesh) (o : Routes) (work : ℕ) (primary : List Step
                 (puts (with_phase Held g) (taken_on g (drop 1 r) back
                 (Some (record { node = far; fibre = fibre_at t p (suc i) }))))
                 (distinct t l.ingress p route (suc (suc i)) (suc i) small (omega arith) (omega arith)))
-                leg.1 at.0 g.egress (fibre_at t p (suc i)).link (drop 1 r) g.sent g.back_in work primary) (omega arith));
+                leg.1 at.0 g.egress (fibre_at t p (suc i)).link (drop 1 r) g.sent g.back_in work primary)
+                (omega arith));
           })
 
   -- A Path that takes an activation back weighs more than what its leg sends, and nothing that stays gets heavier.

@@ -149,7 +149,8 @@ module _ (t : Network) (s : Mesh) (o : Routes) (c : CallRec) (q : Purpose) (p : 
       by_role r back tells =
           let b = takes-back q r back tells in
           let small : weight o (commit s (node_at p 0).0 (disarms c g)) (node_at p 0).0 (node_at p 1).0
-          (Path g.lsp g.egress (fibre_at t p 0).link g.route g.sent g.back_in (Back false b.0 b.1)) ≤ suc (length g.route) =
+          (Path g.lsp g.egress (fibre_at t p 0).link g.route g.sent g.back_in (Back false b.0 b.1)) ≤ suc
+          (length g.route) =
           sent-back o s (commit s (node_at p 0).0 (disarms c g)) g.lsp g.lsp (node_at p 1) live-next.0 refl
           (leg-there s (node_at p 0) (node_at p 1) g.lsp (disarms c g)
           (distinct t g.lsp.ingress p pl.route 1 0 pl.route.long (omega arith) (omega arith))) live-next.1

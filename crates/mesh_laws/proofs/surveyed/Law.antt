@@ -46,8 +46,10 @@ module _ (t : Network) (valid : IsTopology t) (s : Mesh) (o : Routes) (hops : (l
       let forward : Bool = nat_eq into.link.high.0 m.node.0 in
       let end : end_of into.link forward ≡ m.node = own-end into.link m.node into.touches_it in
       let link : m.fibre.link ≡ into.link.id = into.number in
-      let one = shown-turn t valid s o hops facts calls legs shows g m.node m.fibre m.label m.one_at m.one m.one_turns in
-      let two = shown-turn t valid s o hops facts calls legs shows h m.node m.fibre m.label m.two_at m.two m.two_turns in
+      let one = shown-turn t valid s o hops facts calls legs shows g m.node m.fibre m.label m.one_at m.one
+      m.one_turns in
+      let two = shown-turn t valid s o hops facts calls legs shows h m.node m.fibre m.label m.two_at m.two
+      m.two_turns in
       let label = label-there t valid s o hops facts calls legs shows m.node m.fibre m.label m.one took in
       let a : CallRow = call_row m.one_at (s.nodes m.one_at.0).legs m.one in
       let b : CallRow = call_row m.two_at (s.nodes m.two_at.0).legs m.two in (
@@ -126,4 +128,5 @@ pub no_surveyed_contend : NoSurveyedContend
 no_surveyed_contend t events valid run g h differ two calls legs shows none =
     let parted : IsRun t start (two.before ++ two.since) = subst (IsRun t start) (sym two.parts) run in
     let first = run-first t start two.before two.since parted in
-    no_contend t events valid run g h two (every_contend_listed t two.before valid first calls legs shows g h differ none)
+    no_contend t events valid run g h two (every_contend_listed t two.before valid first calls legs shows g h
+    differ none)

@@ -105,7 +105,8 @@ module _ (t : Network) (valid : IsTopology t) (s : Mesh) (o : Routes) (hops : (l
             let route_is : IsRoute t l.ingress (plan route e) = route_made t l.ingress e route fits.long fits.leads in
             let over = route_is.links 0 fits.long in
             let begin : l.ingress ≡ n = sym (begins-at t l.ingress e route fits.leads fits.long) ∙ is in
-            at-link over.link _ over.found (subst (λ m. touches m over.link ≡ true) (route_is.first ∙ begin) over.touches)
+            at-link over.link _ over.found (subst (λ m. touches m over.link ≡ true) (route_is.first ∙ begin)
+            over.touches)
         at r route e fits (suc i) small is =
             let step = step_at route i (omega arith) in
             let its : StepFits t s r l step.0 = fits.hops i step.0 step.1 in

@@ -4,7 +4,8 @@ use Rattle.ason_main.proofs.answers.ason.Goals as goal
 
 pub returns-clause-complete : goal.returns-clause-complete
 returns-clause-complete g c =
-    is_complete c.every_check.ensures g.S.Source.left g.S.Source.handed g.S.Source.ended g.S.Source.faults g.K.Sink.written g.K.Sink.faults
+    is_complete c.every_check.ensures g.S.Source.left g.S.Source.handed g.S.Source.ended g.S.Source.faults
+    g.K.Sink.written g.K.Sink.faults
     (map string_bytes c.args.words.now) c.args.src.now c.answer.new.src c.args.out.now c.answer.new.out
     c.answer.ensures.0 c.answer.new.kept c.answer.result c.answer.ensures.1 c.answer.ensures.2
 

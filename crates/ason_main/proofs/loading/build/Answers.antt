@@ -15,7 +15,8 @@ returns-in_err-set_up-clause-stops g c =
     passed_on c.from_residual.result _ _
     (λ e same.
     stops_part p [] (part (settling ++ p.lines) Built) a f c.args.text.now.items
-    (loaded_none p a c.args.text.now.items c.requires.empty c.requires.new) (can_begin p a c.args.text.now.items c.requires.empty c.requires.new (settling ++ p.lines)
+    (loaded_none p a c.args.text.now.items c.requires.empty c.requires.new)
+    (can_begin p a c.args.text.now.items c.requires.empty c.requires.new (settling ++ p.lines)
     (tt, c.requires.postable)) e
     (subst (StopsAll p (silent_on 1) (settling ++ p.lines) (at a None 0) (at f None 0)) (sym same)
     c.in_err-set_up.ensures.stops))
@@ -31,7 +32,8 @@ returns-in_err-tell_phase-clause-stops g c =
     (λ e same.
     subst (StopsLoad p (x ∷ []) f c.tell_phase.new.text.items) (sym same)
     (starved_part p [] x a f c.args.text.now.items
-    (loaded_none p a c.args.text.now.items c.requires.empty c.requires.new) (can_begin p a c.args.text.now.items c.requires.empty c.requires.new (settling ++ p.lines)
+    (loaded_none p a c.args.text.now.items c.requires.empty c.requires.new)
+    (can_begin p a c.args.text.now.items c.requires.empty c.requires.new (settling ++ p.lines)
     (tt, c.requires.postable))
     c.in_ok-set_up.ensures.done))
     c.from_residual-in_err-tell_phase.ensures.1
@@ -41,6 +43,7 @@ returns-clause-done g c =
     let p = c.args.plan.now in
     let a = c.args.fleet.now in
     one_part p [] (settling ++ p.lines) Built a c.set_up.new.fleet c.args.text.now.items c.tell_phase.new.text.items
-    (loaded_none p a c.args.text.now.items c.requires.empty c.requires.new) (can_begin p a c.args.text.now.items c.requires.empty c.requires.new (settling ++ p.lines)
+    (loaded_none p a c.args.text.now.items c.requires.empty c.requires.new)
+    (can_begin p a c.args.text.now.items c.requires.empty c.requires.new (settling ++ p.lines)
     (tt, c.requires.postable))
     c.in_ok-set_up.ensures.done c.in_ok-tell_phase.ensures

@@ -15,7 +15,8 @@ returns-in_default c = elim c.in_default.branch [
   | in_default-via-in-Stuck+then-this-3 w ↦ search rules
   | in_default-via-in_default w ↦
       let call = c.args.call in
-      let same = decides-nothing c.args.parts.now.tables.now.legs call (option_copied c.args.back) call.state (has_any call.work_reports)
+      let same = decides-nothing c.args.parts.now.tables.now.legs call (option_copied c.args.back) call.state
+      (has_any call.work_reports)
       (has_any call.back_reports) w.in_default.not-Guarded-0 w.in_default.not-Turned-0 w.in_default.not-Stuck-0 in
       on_ok_weaker c.put_call-in_default.result (λ put. put ∙ ap (followed_by c.args.change.now) same)
       c.put_call-in_default.ensures

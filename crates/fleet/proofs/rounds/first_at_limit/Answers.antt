@@ -11,7 +11,8 @@ loop-place-preserved c =
 
 pub returns-then-is_at_limit : goal.returns-then-is_at_limit
 returns-then-is_at_limit c =
-    sym (found-there was_at_limit c.args.stations.now c.loop-place.place c.index-stations-place.result c.loop-place-test.true
+    sym (found-there was_at_limit c.args.stations.now c.loop-place.place c.index-stations-place.result
+    c.loop-place-test.true
     (sym (ap was_at_limit c.index-stations-place.is) ∙ sym c.is_at_limit.ensures ∙ c.if-is_at_limit.true)
     c.loop-place.invariant)
 

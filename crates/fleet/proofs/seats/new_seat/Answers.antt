@@ -19,7 +19,8 @@ loop-station-preserved c = record {
             (sym c.link_to.ensures ∙ w.in-Some.is) was)
         | in_default w ↦
             subst (AreEnds t (place + 1) c.args.id) (sym (ap (λ (v : Vec End Global). v.items) w.ends-is))
-            (end-none t c.args.stations.now c.loop-station.ends.items place c.args.id c.index-stations-station.result new
+            (end-none t c.args.stations.now c.loop-station.ends.items place c.args.id
+            c.index-stations-station.result new
             c.loop-station-test.true c.index-stations-station.is (sym c.link_to.ensures ∙ w.in_default.is) was)
       ];
 }

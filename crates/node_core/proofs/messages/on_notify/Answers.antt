@@ -12,7 +12,8 @@ returns-then-reports c =
     let read = c.ingress_of in
     let told = reported_here t c.args.parts.now.calls.now m in
     c.in_ok-answer_report.ensures
-    ∙ ap (λ calls. followed_by c.nothing-change.result (reported_here read.result.tables.now calls m)) read.ensures.calls
+    ∙ ap (λ calls. followed_by c.nothing-change.result (reported_here read.result.tables.now calls m))
+    read.ensures.calls
     ∙ ap (λ tables. followed_by c.nothing-change.result (reported_here tables c.args.parts.now.calls.now m))
     read.ensures.tables
     ∙ ap (λ a. followed_by a told) c.nothing-change.ensures ∙ after-nothing told

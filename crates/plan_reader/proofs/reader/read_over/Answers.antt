@@ -17,5 +17,6 @@ returns-in_err-script-clause-fault c =
     let is_ds : views c.elements-lines.result.now ≡ elements_at (codes "script") d = search rules in
     let h : FailsAs c.from_residual-in_err-script.result
     (λ f. IsScriptOf c.args.two_way t c.names.result.now (views c.elements-lines.result.now) (Err f)) = search rules in
-    script_faulty c.args.two_way d c.args.known c.args.links.now t c.names.result.now (views c.elements-lines.result.now)
+    script_faulty c.args.two_way d c.args.known c.args.links.now t c.names.result.now
+    (views c.elements-lines.result.now)
     c.from_residual-in_err-script.result is_t is_names is_ds h

@@ -7,4 +7,5 @@ use Rattle.plan_reader.proofs.script.read_script.Given as goal
 
 abbrev pub invariant-reading : goal.invariant-reading
 invariant-reading l =
-    LeadsOn Script (AddsLine l.two_way l.t l.names) (IsScriptOf l.two_way l.t l.names (views l.values)) l.i l.script l.values
+    LeadsOn Script (AddsLine l.two_way l.t l.names) (IsScriptOf l.two_way l.t l.names (views l.values)) l.i
+    l.script l.values

@@ -14,7 +14,8 @@ loop-event-preserved c =
           let added : c.match-step.kept ≡ kept ++ event ∷ [] =
           cc (w.kept-is, w.in_ok-keep-in-Ok.ensures) in (
             omega (arith, w.left_out-is, c.loop-event.invariant.0),
-            keeps-next c.args.t.now events kept c.match-step.kept c.loop-event.left_out c.match-step.left_out place event
+            keeps-next c.args.t.now events kept c.match-step.kept c.loop-event.left_out c.match-step.left_out
+                place event
                 c.loop-event.world c.step.new.self c.loop-event-test.true c.event-item.is added w.left_out-is
                 c.loop-event.invariant.1 w.in-Ok.ensures.done,
           )
@@ -22,7 +23,8 @@ loop-event-preserved c =
           let refused = w.in-Err-NotEnabled.ensures in
           let why = w.in-Err-NotEnabled.field-0-is in (
             omega (arith, w.left_out-is, c.loop-event.invariant.0),
-            leaves-next c.args.t.now events kept c.match-step.kept c.loop-event.left_out c.match-step.left_out place event
+            leaves-next c.args.t.now events kept c.match-step.kept c.loop-event.left_out c.match-step.left_out
+                place event
                 c.loop-event.world c.step.new.self c.loop-event-test.true c.event-item.is w.kept-is w.left_out-is
                 c.loop-event.invariant.1 (refused.refused why) (refused.unmoved why),
           )
