@@ -1,3 +1,4 @@
+pub mod Again
 pub mod Aged
 pub mod Members
 pub mod Flow

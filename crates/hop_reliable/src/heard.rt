@@ -1,8 +1,8 @@
 //! What a packet is to a hop.
 
-ghost use Rattle.std.specs.Prelude.{◌≡◌, ◌+◌, ◌<◌, ◌^◌, IfOk};
+ghost use Rattle.std.specs.Prelude.{◌≡◌, ◌+◌, ◌<◌, ◌^◌, IfOk, Some, map};
 ghost use Rattle.std.specs.Option.{option_to_list};
-ghost use Rattle.hop_reliable.specs.Hop.{ack_of_id, answers_to, heard_body, heard_number};
+ghost use Rattle.hop_reliable.specs.Hop.{HopState, ack_of_id, answers_to, heard_as, heard_body, heard_number};
 
 use ason_base::{Ids, MsgId, OutOfMemory, Packet};
 use std::alloc::Global;
@@ -37,6 +37,18 @@ impl Heard {
                 Ok(Some(ack))
             }
             Heard::Acked | Heard::Unnumbered | Heard::Ahead => Ok(None),
+        }
+    }
+
+    /// The number that the answer to a packet that was heard so acknowledges, none where nothing answers it.
+    pub fn acked(self, p: &Packet) -> Option<MsgId>
+        requires { (h : HopState) × (self ≡ heard_as h p.now) }
+        ensures { answers_to self p.now ≡
+            map (λ id. ack_of_id (Some id)) (option_to_list result) }
+    {
+        match self {
+            Heard::Next | Heard::Repeat => p.id,
+            Heard::Acked | Heard::Unnumbered | Heard::Ahead => None,
         }
     }
 }

@@ -4,7 +4,7 @@ ghost use Rattle.std.specs.Prelude.{◌≡◌, ◌+◌, ◌-◌, ◌<◌, ◌≤
 ghost use Rattle.hop_reliable.specs.Hop.{all_sent, fresh, heard_as, last_number, numbered, received, resent, resting, taken, ticked, with_next};
 
 use crate::heard::{Heard, heard_as};
-use crate::unacked::{Unacked, age_all, due_after_tick, numbered, take_off};
+use crate::unacked::{Unacked, age_all, due_after_tick, in_epoch, numbered, take_off};
 use ason_base::{Copied, Msg, MsgId, OutOfMemory, Packet, copy_all};
 use std::alloc::Global;
 use std::marker::Model;
@@ -73,6 +73,14 @@ impl Hop {
         let packet = self.next_packet(alloc, msg);
         self.keep(kept)?;
         Ok(packet)
+    }
+
+    /// The number that the next message gets, with which it goes out first.
+    pub fn next_id(&self) -> MsgId
+        requires { last_number self.now < 2 ^ 32 - 1 }
+        ensures { result ≡ record { epoch = 1; number = last_number self.now + 1 } }
+    {
+        in_epoch(self.next_number())
     }
 
     /// The message with the next number, as it goes out first. It changes nothing.
@@ -194,6 +202,13 @@ impl Hop {
         } }
     {
         age_all(&mut self.unacked);
+    }
+
+    /// The messages that aren't acknowledged, in order of number.
+    pub fn waiting(&self) -> &[Unacked]
+        ensures { result.now ≡ self.now.state.unacked }
+    {
+        &self.unacked
     }
 
     /// How many messages are unacknowledged: at most those that were sent.

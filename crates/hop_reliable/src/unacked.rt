@@ -2,6 +2,7 @@
 
 ghost use Rattle.std.specs.Prelude.{◌≡◌, ◌≤◌, ◌∷◌, ◌++◌, IfOk, length, map, vec_capacity, vec_len};
 ghost use Rattle.std.specs.List.{list_any};
+ghost use Rattle.hop_reliable.specs.Ages.{is_due, older_age};
 ghost use Rattle.hop_reliable.specs.Hop.{again, is_ack_of, numbered, older, still_unacked};
 
 use crate::ages::{is_due, older_age};
@@ -32,15 +33,38 @@ impl Drop for Unacked {
     }
 }
 
+impl Unacked {
+    /// Its number, in the epoch of every message.
+    pub fn id(&self) -> MsgId
+        ensures { result ≡ record { epoch = 1; number = self.now.number } }
+    {
+        in_epoch(self.number)
+    }
+
+    /// Whether the next tick sends it again.
+    pub fn goes_next(&self) -> bool
+        ensures { result ≡ is_due (older_age self.now.age) }
+    {
+        is_due(older_age(self.age))
+    }
+}
+
+/// The number of a message, in the epoch of every message.
+pub(crate) fn in_epoch(number: u32) -> MsgId
+    ensures { result ≡ record { epoch = 1; number = number } }
+{
+    MsgId {
+        epoch: EPOCH,
+        number,
+    }
+}
+
 /// The message with its number, and no acknowledgement.
 pub(crate) fn numbered(alloc: Global, number: u32, msg: Msg) -> Packet
     ensures { result ≡ numbered number msg }
 {
     Packet {
-        id: Some(MsgId {
-            epoch: EPOCH,
-            number,
-        }),
+        id: Some(in_epoch(number)),
         acks: Ids::new(alloc),
         body: Some(msg),
     }
@@ -52,7 +76,7 @@ pub(crate) fn due_after_tick(alloc: Global, unacked: &[Unacked]) -> Result<Vec<P
 {
     let mut due = Vec::new(alloc);
     for w in unacked {
-        if is_due(older_age(w.age)) {
+        if w.goes_next() {
             due.push(numbered(alloc, w.number, w.msg.copy(alloc)?))?;
         }
     }
