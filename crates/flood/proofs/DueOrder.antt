@@ -1,5 +1,5 @@
 -- What is due stands in order of number, so it is found by number.
-use Rattle.std.proofs.Common.{◌≡◌, ◌≢◌, ◌≤◌, ◌<◌, ℕ, zero, suc, ◌+◌, ◌-◌, ◌==◌, Bool, true, false, cond, not, List, [], ◌∷◌, ◌++◌, length, get_or, filter, map, refl, ap, subst, sym, arith, AllPairs, Result, Ok, Err, take, Option, Some, None, ◌∙◌, Less, Greater, inl, inr, ◌⊎◌}
+use Rattle.std.proofs.Common.{◌≡◌, ◌≢◌, ◌≤◌, ◌<◌, ℕ, zero, suc, ◌+◌, ◌-◌, ◌==◌, Bool, true, false, cond, not, List, [], ◌∷◌, ◌++◌, length, get_or, filter, map, refl, ap, subst, sym, arith, AllPairs, Result, Ok, Err, take, drop, Option, Some, None, ◌∙◌, Less, Greater, inl, inr, ◌⊎◌}
 use Rattle.std.specs.List.{remove}
 use Rattle.std.specs.List.Sorted.{IsBinarySearchResult, IsNonDecreasingBy, IsPartitionPoint}
 use Rattle.std.specs.Ordering.{nat_cmp, ordering_index}
@@ -13,7 +13,7 @@ use Rattle.std.proofs.lemmas.Cmp.{ranked}
 use Rattle.ason_base.specs.declared.ids.NodeId.{NodeId}
 use Rattle.ason_base.specs.declared.network.TeRow.{TeRow}
 use Rattle.flood.specs.declared.due.Due.{Due}
-use Rattle.flood.specs.State.{IsInOrder, NeighbourState, is_from, older, queued, queued_unless, unqueued, unqueued_unless}
+use Rattle.flood.specs.State.{IsInOrder, NeighbourState, is_first, is_from, older, queued, queued_unless, unqueued, unqueued_unless}
 
 abbrev pub Rises : List Due → Type 0
 Rises due = AllPairs (λ d e. d.number < e.number) due
@@ -81,6 +81,15 @@ one_goes number (e ∷ due) (suc i) rising within is =
     let other : (e.number == number) ≡ false = differ e.number number (λ same. absurd (omega arith)) in
     subst (λ b. e ∷ remove due i ≡ cond (not b) (e ∷ without number due) (without number due)) (sym other)
     (ap (λ ds. e ∷ ds) (one_goes number due i (tail_rises e due rising) (omega arith) (λ d. is d)))
+
+-- where the first row that is due has the number, it is the one that goes
+pub first_goes : (number : ℕ) (due : List Due) → Rises due → is_first number due ≡ true
+    → drop 1 due ≡ filter (λ (d : Due). not (d.number == number)) due
+unfolding without
+first_goes number [] rising is = refl
+first_goes number (e ∷ due) rising is =
+    let same : e.number ≡ number = grind arith in
+    one_goes number (e ∷ due) 0 rising (omega arith) (λ d. same)
 
 -- what a binary search by number finds is taken off, and where it finds nothing, nothing is there
 abbrev pub IsFoundBy : ℕ → List Due → Result ℕ ℕ → Type 0

@@ -60,11 +60,11 @@ joined : (old a b c : List ℕ) → ((old ++ a) ++ b) ++ c ≡ old ++ ((a ++ b) 
 joined old a b c = simp append_assoc
 
 -- a row's message, as it is pushed
-pub row_pushed : (old room headed sent new : List ℕ) (number : ℕ) (origin : NodeId) (row : TeRow) → room ≡ old →
-    headed ≡ room ++ (big_bytes 1 1 ++ big_bytes 3 0 ++ big_bytes 4 number) → sent ≡ headed ++ big_bytes 4 origin.0 →
+pub row_pushed : (old headed sent new : List ℕ) (number : ℕ) (origin : NodeId) (row : TeRow) →
+    headed ≡ old ++ (big_bytes 1 1 ++ big_bytes 3 0 ++ big_bytes 4 number) → sent ≡ headed ++ big_bytes 4 origin.0 →
     new ≡ sent ++ link_tlv origin row → new ≡ old ++ flood_bytes (Row number origin row)
-row_pushed old room headed sent new number origin row same e1 e2 e3 =
-    rw (e3, e2, e1, same) (joined old (big_bytes 1 1 ++ big_bytes 3 0 ++ big_bytes 4 number) (big_bytes 4 origin.0)
+row_pushed old headed sent new number origin row e1 e2 e3 =
+    rw (e3, e2, e1) (joined old (big_bytes 1 1 ++ big_bytes 3 0 ++ big_bytes 4 number) (big_bytes 4 origin.0)
     (link_tlv origin row))
 
 -- the same error in results of two types

@@ -1,4 +1,5 @@
 pub mod Messages
+pub mod References
 pub mod State
 pub mod Calls
 pub mod Ends

@@ -95,6 +95,11 @@ declared_row s row = with_row s None s.me None row
 abbrev pub acked : ℕ → NeighbourState → NeighbourState
 acked number n = record { id = n.id; sent = n.sent; due = filter (λ d. not (d.number == number)) n.due }
 
+-- the first row that is due has the number
+abbrev pub is_first : ℕ → List Due → Bool
+is_first number [] = false
+is_first number (d ∷ due) = d.number == number
+
 abbrev pub acked_by : NodeId → ℕ → NeighbourState → NeighbourState
 acked_by from number n = if n.id.0 == from.0 then acked number n else n
 

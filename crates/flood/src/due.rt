@@ -1,7 +1,7 @@
 //! Rows that are due to a neighbour.
 
 ghost use Rattle.std.specs.Prelude.{◌≡◌, ◌<◌, ◌==◌, ◌++◌, AllPairs, not, filter, IfOk, OnOk, map};
-ghost use Rattle.flood.specs.State.{age_after_tick, goes_at, older};
+ghost use Rattle.flood.specs.State.{age_after_tick, goes_at, is_first, older};
 
 use ason_base::{Copied, NodeId, OutOfMemory, TeRow, copied};
 use hop_reliable::ages::{is_due, older_age};
@@ -54,6 +54,15 @@ pub(crate) fn goes_at(age: Option<u8>) -> bool
     }
 }
 
+impl Due {
+    /// Whether the next tick sends it.
+    pub fn goes_next(&self) -> bool
+        ensures { result ≡ goes_at (age_after_tick self.now.age) }
+    {
+        goes_at(age_after_tick(self.age))
+    }
+}
+
 // Adds the same rows again.
 fn push_copies(alloc: Global, all: &mut VecDeque<Due>, due: &[Due]) -> Result<(), OutOfMemory>
     ensures { OnOk result (all.new.items ≡ all.old.items ++ due.now) }
@@ -84,11 +93,25 @@ pub(crate) fn age_all(due: &mut [Due])
     }
 }
 
-/// Takes off the row of this number. The numbers rise, so it is looked up; the first ones are taken off the fastest.
+/// Whether the first row that is due has this number.
+fn is_first(due: &VecDeque<Due>, number: u32) -> bool
+    ensures { result ≡ is_first number due.now.items }
+{
+    match due.front() {
+        None => false,
+        Some(first) => first.number == number,
+    }
+}
+
+/// Takes off the row of this number. Most often it is the first one. The numbers rise, so any other is looked up.
 pub(crate) fn take_off(due: &mut VecDeque<Due>, number: u32)
     requires { AllPairs (λ d e. d.number < e.number) due.old.items }
     ensures { due.new.items ≡ filter (λ d. not (d.number == number)) due.old.items }
 {
+    if is_first(due, number) {
+        let _ = due.pop_front();
+        return;
+    }
     if let Ok(place) = due.binary_search_by_key(&number, |d| d.number) {
         let _ = due.remove(place);
     }

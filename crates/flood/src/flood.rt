@@ -141,7 +141,7 @@ impl Flood {
     }
 
     /// Whether a row that a neighbour gave becomes known.
-    fn is_new(&self, row: &TeRow) -> bool
+    pub fn is_new(&self, row: &TeRow) -> bool
         ensures { result ≡ is_new self.now row.now }
     {
         !self.known.has_link(row.link) && !is_end(self.me, row) && self.known.has_room(row)
@@ -240,6 +240,13 @@ impl Flood {
         ensures { result ≡ is_known self.now.rows link }
     {
         self.known.has_link(link)
+    }
+
+    /// The neighbours, with the rows that are due to each.
+    pub fn neighbours(&self) -> &[FloodNeighbour]
+        ensures { result.now ≡ self.now.neighbours }
+    {
+        &self.neighbours
     }
 
     /// How many rows are due, to each neighbour that hasn't acknowledged them.

@@ -5,10 +5,14 @@ pub mod due;
 pub mod flood;
 pub mod known;
 pub mod laws;
+pub mod message_refs;
 pub mod messages;
 pub mod neighbours;
 pub mod sends;
 
+pub use due::Due;
 pub use flood::Flood;
-pub use messages::{FloodMsg, append_flood, decode_flood, encode_flood};
+pub use message_refs::FloodRef;
+pub use messages::{FloodMsg, append_flood, append_flood_ref, decode_flood, encode_flood};
+pub use neighbours::FloodNeighbour;
 pub use sends::{FloodOut, FloodSends};

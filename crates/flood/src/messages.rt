@@ -1,19 +1,20 @@
 //! Flood messages and their bytes.
 
-ghost use Rattle.std.specs.Prelude.{◌≡◌, ◌<◌, ◌≤◌, ◌+◌, ◌^◌, ◌++◌, drop, length, IfOk, IsErrOf, OnOk, vec_capacity, vec_len};
+ghost use Rattle.std.specs.Prelude.{◌≡◌, ◌<◌, ◌≤◌, ◌+◌, ◌^◌, ◌++◌, drop, length, IfOk, IsErrOf, OnOk};
 ghost use Rattle.byteorder.specs.Endian.{big_bytes, big_number};
 ghost use Rattle.ason_base.specs.declared.network.TeRow.{TeRow};
 ghost use Rattle.flood.specs.declared.messages.FloodMsg.{FloodMsg};
 ghost use Rattle.flood.specs.Messages.{CanBeWritten, FitsEnvelope, SpellsFlood, flood_bytes};
 ghost use Rattle.te_tlv.specs.Rows.{SpellsRow};
+ghost use Rattle.te_tlv.specs.Written.{IsWritable};
 
 use crate::laws::floods_come_back;
+use crate::message_refs::FloodRef;
 use ason_base::{DecodeError, NodeId, OutOfMemory, TeRow};
 use byteorder::{BigEndian, ByteOrder};
 use std::alloc::Global;
 use te_tlv::writing::row_fits;
 use te_tlv::{append_row, read_row};
-use wire_buf::{put_u8, put_u24, put_u32};
 
 /// The kinds of flood messages.
 const ROW: u8 = 1;
@@ -99,17 +100,12 @@ pub fn decode_flood(alloc: Global, bytes: &[u8]) -> Result<FloodMsg, DecodeError
     }
 }
 
-/// Appends the head of a message in the room that is reserved: its kind, three zeros and its number.
-fn put_head(out: &mut Vec<u8>, kind: u8, number: u32)
-    requires { vec_len out.old + 8 ≤ vec_capacity out.old }
-    ensures items { out.new.items ≡ out.old.items ++
-        (big_bytes 1 kind ++ big_bytes 3 0 ++ big_bytes 4 number) }
-    ensures len { vec_len out.new ≡ vec_len out.old + 8 }
-    ensures capacity { vec_capacity out.old ≤ vec_capacity out.new }
+/// The head of a message: its kind, three zeros and its number.
+fn head(kind: u8, number: u32) -> [u8; 8]
+    ensures { result ≡ big_bytes 1 kind ++ big_bytes 3 0 ++ big_bytes 4 number }
 {
-    put_u8(out, kind);
-    put_u24(out, 0);
-    put_u32(out, number);
+    let n = number.to_be_bytes();
+    [kind, 0, 0, 0, n[0], n[1], n[2], n[3]]
 }
 
 // Laws: what the types of a flood message say of its numbers. Calling them changes nothing.
@@ -118,45 +114,59 @@ fn number_fits(n: u32)
     ensures { n < 2 ^ 32 }
 {}
 
-fn message_fits(m: &FloodMsg)
+fn message_fits(m: &FloodRef)
     ensures { FitsEnvelope m.now }
 {
-    match m {
-        FloodMsg::Ack { number } => number_fits(*number),
-        FloodMsg::Row {
-            number,
-            origin,
-            row,
-        } => {
-            number_fits(*number);
+    number_fits(m.number);
+    match &m.row {
+        None => {}
+        Some((origin, row)) => {
             number_fits(origin.0);
             row_fits(row);
         }
     }
 }
 
+// Appends the bytes of an acknowledgement.
+fn push_ack(out: &mut Vec<u8>, number: u32) -> Result<(), OutOfMemory>
+    ensures { OnOk result (out.new.items ≡ out.old.items ++ flood_bytes (FloodMsg.Ack number)) }
+{
+    out.extend_from_slice(&head(ACK, number))?;
+    Ok(())
+}
+
+// Appends the bytes of a row's message.
+fn push_row(out: &mut Vec<u8>, number: u32, origin: NodeId, row: &TeRow) -> Result<(), OutOfMemory>
+    requires { IsWritable origin row.now }
+    ensures { OnOk result
+        (out.new.items ≡ out.old.items ++ flood_bytes (FloodMsg.Row number origin row.now)) }
+{
+    out.extend_from_slice(&head(ROW, number))?;
+    out.extend_from_slice(&origin.0.to_be_bytes())?;
+    append_row(out, origin, row)
+}
+
 // Appends the bytes of a flood message.
-fn push_message(out: &mut Vec<u8>, m: &FloodMsg) -> Result<(), OutOfMemory>
+fn push_message(out: &mut Vec<u8>, m: &FloodRef) -> Result<(), OutOfMemory>
     requires { CanBeWritten m.now }
     ensures { OnOk result (out.new.items ≡ out.old.items ++ flood_bytes m.now) }
 {
-    match m {
-        FloodMsg::Ack { number } => {
-            out.reserve(8)?;
-            put_head(out, ACK, *number);
-            Ok(())
-        }
-        FloodMsg::Row {
-            number,
-            origin,
-            row,
-        } => {
-            out.reserve(12)?;
-            put_head(out, ROW, *number);
-            put_u32(out, origin.0);
-            append_row(out, *origin, row)
-        }
+    match &m.row {
+        None => push_ack(out, m.number),
+        Some((origin, row)) => push_row(out, m.number, *origin, row),
     }
+}
+
+/// Appends the bytes of a flood message, with zeros where nothing reads.
+pub fn append_flood_ref(out: &mut Vec<u8>, m: &FloodRef) -> Result<(), OutOfMemory>
+    requires { CanBeWritten m.now }
+    ensures written { OnOk result (out.new.items ≡ out.old.items ++ flood_bytes m.now) }
+    // What is written is read as the message again.
+    ensures spelled { SpellsFlood (flood_bytes m.now) m.now }
+{
+    floods_come_back();
+    message_fits(m);
+    push_message(out, m)
 }
 
 /// Appends the bytes of a flood message, with zeros where nothing reads.
@@ -166,9 +176,7 @@ pub fn append_flood(out: &mut Vec<u8>, m: &FloodMsg) -> Result<(), OutOfMemory>
     // What is written is read as the message again.
     ensures spelled { SpellsFlood (flood_bytes m.now) m.now }
 {
-    floods_come_back();
-    message_fits(m);
-    push_message(out, m)
+    append_flood_ref(out, &FloodRef::of(m))
 }
 
 /// The bytes of a flood message, as they are appended.

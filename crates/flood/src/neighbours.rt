@@ -5,7 +5,7 @@ ghost use Rattle.std.specs.List.{flat_map};
 ghost use Rattle.std.specs.List.Sorted.{IsStrictlyIncreasing};
 ghost use Rattle.flood.specs.State.{acked_by, due_to, first_sending, first_sendings, fresh, is_from, older_neighbour, queued, queued_unless, sent_to, unqueued, unqueued_unless};
 
-use crate::due::{Due, age_after_tick, age_all, copies, goes_at, take_off};
+use crate::due::{Due, age_all, copies, take_off};
 use crate::messages::FloodMsg;
 use crate::sends::FloodSends;
 use ason_base::{Copied, NodeId, OutOfMemory, TeRow};
@@ -42,6 +42,28 @@ impl FloodNeighbour {
         }
     }
 
+    /// Which node it is.
+    pub fn id(&self) -> NodeId
+        ensures { result ≡ self.now.id }
+    {
+        self.id
+    }
+
+    /// The number of the next row that becomes due to it.
+    pub fn next_number(&self) -> u32
+        requires { self.now.sent + 1 < 2 ^ 32 }
+        ensures { result ≡ self.now.sent + 1 }
+    {
+        self.sent + 1
+    }
+
+    /// The rows that it hasn't acknowledged, in order of number: the first of them, and the others.
+    pub fn due(&self) -> (&[Due], &[Due])
+        ensures { result.0.now ++ result.1.now ≡ self.now.due }
+    {
+        self.due.as_slices()
+    }
+
     /// Makes the row due to it with the next number.
     fn queue(
         &mut self,
@@ -54,7 +76,7 @@ impl FloodNeighbour {
         ensures ok { OnOk result (self.new ≡ queued origin age row.now self.old) }
         ensures err { OnErr result (self.new ≡ self.old) }
     {
-        let number = self.sent + 1;
+        let number = self.next_number();
         let row = row.copy(alloc)?;
         self.due.push_back(Due {
             number,
@@ -134,7 +156,7 @@ impl FloodNeighbour {
         Ok((
             self.id,
             FloodMsg::Row {
-                number: self.sent + 1,
+                number: self.next_number(),
                 origin,
                 row,
             },
@@ -148,7 +170,7 @@ impl FloodNeighbour {
         if self.due.is_empty() {
             return Ok(());
         }
-        let (first, others) = self.due.as_slices();
+        let (first, others) = self.due();
         push_due(alloc, sends, self.id, first)?;
         push_due(alloc, sends, self.id, others)
     }
@@ -193,7 +215,7 @@ fn push_due(
     ensures { OnOk result (sends.new ≡ sends.old ++ due_to to due.now) }
 {
     for d in due {
-        if goes_at(age_after_tick(d.age)) {
+        if d.goes_next() {
             let row = d.row.copy(alloc)?;
             sends.push((
                 to,

@@ -1,7 +1,7 @@
-use Rattle.std.proofs.Common.{◌≡◌, ◌<◌, ◌∙◌, length, rules}
+use Rattle.std.proofs.Common.{◌≡◌, ◌<◌, ◌∙◌, length, rules, sym}
 use Rattle.std.specs.List.{remove}
 use Rattle.std.proofs.lemmas.List.Sorted.{answers_always}
-use Rattle.flood.proofs.DueOrder.{found_goes, none_goes}
+use Rattle.flood.proofs.DueOrder.{first_goes, found_goes, none_goes}
 use Rattle.flood.proofs.due.take_off.Goals as goal
 
 pub returns-in-Ok : goal.returns-in-Ok
@@ -16,3 +16,7 @@ pub returns-in_default : goal.returns-in_default
 returns-in_default c =
     none_goes c.args.number c.args.due.now.items c.in_default.field-0 c.requires
     (c.in_default.ensures.position (λ d. d.number) (answers_always _ _ _ (λ f a r g called. search rules)))
+
+pub returns-then-is_first : goal.returns-then-is_first
+returns-then-is_first c = c.pop_front.ensures.rest ∙ first_goes c.args.number c.args.due.now.items c.requires
+    (sym c.is_first.ensures ∙ c.if-is_first.true)
