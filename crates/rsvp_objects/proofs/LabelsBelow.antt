@@ -1,17 +1,18 @@
 -- The labels of a set one by one, as a LABEL_SET is counted and written, and read again.
 use Rattle.std.proofs.Common.{◌≡◌, ℕ, zero, suc, ◌+◌, ◌-◌, ◌*◌, ◌<◌, ◌≤◌, ◌^◌, ◌||◌, List, [], ◌∷◌, ◌++◌, length}
-use Rattle.std.proofs.Common.{filter, Bool, true, false, cond, refl, ap, sym, ◌∙◌, arith, append_assoc}
-use Rattle.std.proofs.Common.{All, length-append, zero-add, suc-add, max, inl, inr}
-use Rattle.std.proofs.lemmas.List.{append-nil}
+use Rattle.std.proofs.Common.{drop, filter, replicate, set, take, max, All, Bool, true, false, cond, refl, ap, sym, ◌∙◌}
+use Rattle.std.proofs.Common.{arith, append_assoc, length-append, inl, inr}
+use Rattle.std.proofs.lemmas.List.{append-nil, length-replicate, set-append_right, take_at}
 use Rattle.std.proofs.lemmas.List.Elements.{filter-append, All-filter, All-nil, All-cons}
 use Rattle.std.proofs.lemmas.List.Concat.{flat_map-append}
+use Rattle.std.proofs.lemmas.List.Sums.{length-filter, count_by-le-length}
 use Rattle.ason_base.specs.Labels.{has, up_to, numbers_from}
 use Rattle.ason_base.proofs.MaskMembers.{filter-agree}
 use Rattle.byteorder.specs.Endian.{big_number, big_bytes}
-use Rattle.wire_buf.specs.Objects.{header, numbers, object}
+use Rattle.wire_buf.specs.Objects.{numbers, object}
 use Rattle.wire_buf.proofs.Numbers.{numbers-length, numbers_again}
 use Rattle.rsvp_objects.specs.declared.label_set.LabelSetObject.{LabelSetObject}
-use Rattle.rsvp_objects.specs.LabelSets.{among, or_zero, labels_bytes, label_set_bytes, action_of}
+use Rattle.rsvp_objects.specs.LabelSets.{among, or_zero, laid, labels_bytes, label_set_bytes, action_of}
 use Rattle.rsvp_objects.specs.LabelSets.{listed, IsLabelSet, HasLabels}
 use Rattle.rsvp_objects.proofs.Labels.{differ, has_low, is_among_itself, none_among}
 
@@ -41,86 +42,115 @@ pub below_without : (s : List ℕ) (n : ℕ) → 1 ≤ n → has s n ≡ false �
 below_without s n h e =
     below_more s n h ∙ ap (λ (b : Bool). labels_below s n ++ cond b (n ∷ []) []) e ∙ append-nil (labels_below s n)
 
-numbers_apart : (a b first : ℕ) → numbers_from first (a + b) ≡ numbers_from first a ++ numbers_from (first + a) b
+length-numbers_from : (k first : ℕ) → length (numbers_from first k) ≡ k
 unfolding numbers_from
-numbers_apart zero b first =
-    ap (λ (n : ℕ). numbers_from first n) (zero-add b) ∙ ap (λ (n : ℕ). numbers_from n b) (omega arith)
-numbers_apart (suc a) b first =
-    ap (λ (n : ℕ). numbers_from first n) (suc-add a b)
-    ∙ ap (λ (l : List ℕ). first ∷ l) (numbers_apart a b (first + 1)
-    ∙ ap (λ (n : ℕ). numbers_from (first + 1) a ++ numbers_from n b) (omega arith))
+length-numbers_from zero first = refl
+length-numbers_from (suc k) first = omega (arith, length-numbers_from k (first + 1))
 
--- those below n are at most all
-pub below_few : (s : List ℕ) (n : ℕ) → n ≤ 81 → length (labels_below s n) ≤ length (among s)
-below_few s n h =
-    let whole : n - 1 + (80 - (n - 1)) ≡ 80 = omega arith in
-    let apart : among s ≡ labels_below s n ++ filter (has s) (numbers_from (1 + (n - 1)) (80 - (n - 1))) =
-    ap (λ (m : ℕ). filter (has s) (up_to m)) (sym whole) ∙ ap (filter (has s)) (numbers_apart (n - 1) (80 - (n - 1)) 1)
-    ∙ filter-append (has s) (up_to (n - 1)) (numbers_from (1 + (n - 1)) (80 - (n - 1))) in
+-- Each of them is one of the numbers from 1 on.
+pub below_few : (s : List ℕ) (n : ℕ) → length (labels_below s n) ≤ n - 1
+below_few s n =
     omega (
       arith,
-      ap length apart,
-      length-append (labels_below s n)
-          (filter (has s) (numbers_from (1 + (n - 1)) (80 - (n - 1)))),
+      length-filter (has s) (up_to (n - 1)),
+      count_by-le-length (has s) (up_to (n - 1)),
+      length-numbers_from (n - 1) 1,
     )
 
 pub none_below : (s : List ℕ) → labels_below s 1 ≡ []
 unfolding numbers_from
 none_below s = refl
 
-pub all_below : (s : List ℕ) (n : ℕ) → n ≡ 81 → labels_below s n ≡ among s
-all_below s n e = ap (labels_below s) e
-
-pub labels_bytes-more : (ls : List ℕ) (n : ℕ) → labels_bytes (ls ++ n ∷ []) ≡ labels_bytes ls ++ big_bytes 4 n
+labels_bytes-more : (ls : List ℕ) (n : ℕ) → labels_bytes (ls ++ n ∷ []) ≡ labels_bytes ls ++ big_bytes 4 n
 labels_bytes-more ls n = flat_map-append (big_bytes 4) ls (n ∷ [])
 
-pub count_takes : (s : List ℕ) (n count : ℕ) → 1 ≤ n → has s n ≡ true → count ≡ length (labels_below s n) →
-    count + 1 ≡ length (labels_below s (n + 1))
-count_takes s n count h e so_far =
-    omega (arith, ap length (below_with s n h e), length-append (labels_below s n) (n ∷ []))
+-- ---- labels laid over zeros
 
-pub count_skips : (s : List ℕ) (n count : ℕ) → 1 ≤ n → has s n ≡ false → count ≡ length (labels_below s n) →
-    count ≡ length (labels_below s (n + 1))
-count_skips s n count h e so_far = so_far ∙ sym (ap length (below_without s n h e))
+four_bytes : (a b c d n : ℕ) → a ≡ 0 → b ≡ 0 → c ≡ 0 → d ≡ n → 0 ∷ 0 ∷ 0 ∷ n ∷ [] ≡ a ∷ b ∷ c ∷ d ∷ []
+four_bytes a b c d n first second third fourth = cc
 
-pub room_for_one : (s : List ℕ) (n : ℕ) → 1 ≤ n → n ≤ 80 → has s n ≡ true →
-    length (labels_below s n) + 1 ≤ length (among s)
-room_for_one s n h top e =
-    omega (arith, count_takes s n (length (labels_below s n)) h e refl, below_few s (n + 1) (omega arith))
+small_number : (n : ℕ) → n < 256 → 0 ∷ 0 ∷ 0 ∷ n ∷ [] ≡ big_bytes 4 n
+small_number n small = four_bytes _ _ _ _ n (omega arith) (omega arith) (omega arith) (omega arith)
 
-pub items_begin : (old s : List ℕ) → old ≡ old ++ labels_bytes (labels_below s 1)
-items_begin old s = sym (ap (λ (l : List ℕ). old ++ labels_bytes l) (none_below s) ∙ append-nil old)
+-- There is room for the labels below n, and for one more.
+pub room_below : (s bytes : List ℕ) (n at : ℕ) → n ≤ 80 → at ≡ 8 + 4 * length (labels_below s n) →
+    bytes ≡ laid (labels_below s n) at → (at + 4 ≤ 328) × (length bytes ≡ 328)
+room_below s bytes n at top end is =
+    let few = below_few s n in
+    let front : List ℕ = replicate 8 0 ++ labels_bytes (labels_below s n) in
+    let zeros : List ℕ = replicate (328 - at) 0 in
+    let len : length front ≡ at = omega (arith, numbers-length (labels_below s n)) in (
+      omega (arith, few),
+      ap length is
+          ∙ omega (arith, few, length-append front zeros, length-replicate {A = ℕ} (328 - at) 0, len),
+    )
 
-pub items_skip : (old items s : List ℕ) (n : ℕ) → 1 ≤ n → has s n ≡ false →
-    items ≡ old ++ labels_bytes (labels_below s n) → items ≡ old ++ labels_bytes (labels_below s (n + 1))
-items_skip old items s n h e so_far = so_far ∙ ap (λ (l : List ℕ). old ++ labels_bytes l) (sym (below_without s n h e))
+pub laid_begin : (s bytes : List ℕ) → bytes ≡ replicate 328 0 → bytes ≡ laid (labels_below s 1) 8
+laid_begin s bytes zeros = rw (none_below s) zeros
 
-pub items_take : (old items more s : List ℕ) (n : ℕ) → 1 ≤ n → has s n ≡ true →
-    items ≡ old ++ labels_bytes (labels_below s n) → more ≡ items ++ big_bytes 4 n →
-    more ≡ old ++ labels_bytes (labels_below s (n + 1))
-items_take old items more s n h e so_far put =
-    put ∙ ap (λ (l : List ℕ). l ++ big_bytes 4 n) so_far
-    ∙ append_assoc old (labels_bytes (labels_below s n)) (big_bytes 4 n)
-    ∙ ap (λ (l : List ℕ). old ++ l) (sym (labels_bytes-more (labels_below s n) n)
-    ∙ ap labels_bytes (sym (below_with s n h e)))
+pub laid_skip : (s bytes : List ℕ) (n at : ℕ) → 1 ≤ n → has s n ≡ false →
+    bytes ≡ laid (labels_below s n) at → bytes ≡ laid (labels_below s (n + 1)) at
+laid_skip s bytes n at h e is = is ∙ ap (λ (ls : List ℕ). laid ls at) (sym (below_without s n h e))
+
+-- The fourth byte makes the label out of zeros.
+pub laid_take : (s bytes : List ℕ) (n at : ℕ) → 1 ≤ n → n ≤ 80 → has s n ≡ true →
+    at ≡ 8 + 4 * length (labels_below s n) → bytes ≡ laid (labels_below s n) at →
+    set bytes (at + 3) n ≡ laid (labels_below s (n + 1)) (at + 4)
+laid_take s bytes n at h top e end is =
+    let few = below_few s n in
+    let ls = labels_below s n in
+    let front : List ℕ = replicate 8 0 ++ labels_bytes ls in
+    let zeros : List ℕ = replicate (328 - (at + 4)) 0 in
+    let len : length front ≡ at = omega (arith, numbers-length ls) in
+    let left : 328 - at ≡ suc (suc (suc (suc (328 - (at + 4))))) = omega (arith, few) in
+    let third : at + 3 - at ≡ 3 = omega arith in
+    ap (λ (l : List ℕ). set l (at + 3) n) is
+    ∙ set-append_right front (replicate (328 - at) 0) at (at + 3) n len (omega arith)
+    ∙ ap (λ (k : ℕ). front ++ set (replicate k 0) (at + 3 - at) n) left
+    ∙ ap (λ (k : ℕ). front ++ set (0 ∷ 0 ∷ 0 ∷ 0 ∷ zeros) k n) third
+    ∙ sym (append_assoc front (0 ∷ 0 ∷ 0 ∷ n ∷ []) zeros)
+    ∙ ap (λ (l : List ℕ). (front ++ l) ++ zeros) (small_number n (omega arith))
+    ∙ ap (λ (l : List ℕ). (replicate 8 0 ++ l) ++ zeros)
+    (sym (ap labels_bytes (below_with s n h e) ∙ labels_bytes-more ls n))
 
 or_zero-length : (ls : List ℕ) → length (or_zero ls) ≡ max (length ls) 1
 or_zero-length [] = refl
 or_zero-length (l ∷ ls) = omega arith
 
--- how long the body of a LABEL_SET is
-pub label_set-length : (o : LabelSetObject) → length (label_set_bytes o) ≡ 4 + 4 * max (length (among o.labels)) 1
+-- How long the body of a LABEL_SET is.
+label_set-length : (o : LabelSetObject) → length (label_set_bytes o) ≡ 4 + 4 * max (length (among o.labels)) 1
 label_set-length o =
     let ls = or_zero (among o.labels) in omega (arith, numbers-length ls, or_zero-length (among o.labels))
 
-pub label_set_written : (old reserved headed acted typed new : List ℕ) (o : LabelSetObject) (len count : ℕ) →
-    count ≡ length (among o.labels) → len ≡ 8 + 4 * max count 1 → reserved ≡ old →
-    headed ≡ reserved ++ header len 36 1 →
-    acted ≡ headed ++ big_bytes 1 (action_of o.include) → typed ≡ acted ++ big_bytes 3 2 →
-    new ≡ typed ++ labels_bytes (or_zero (among o.labels)) → new ≡ old ++ object 36 1 (label_set_bytes o)
-label_set_written old reserved headed acted typed new o len count is_count is_len e1 e2 e3 e4 e5 =
-    let total : len ≡ 4 + length (label_set_bytes o) = omega (arith, label_set-length o) in
-    rw (e5, e4, e3, e2, e1, total) (simp append_assoc)
+-- Zeros behind no label are the label 0.
+zeros_are_zero : (ls : List ℕ) → laid ls (8 + 4 * length ls) ≡ laid (or_zero ls) (8 + 4 * length (or_zero ls))
+zeros_are_zero [] = refl
+zeros_are_zero (l ∷ ls) = refl
+
+action_byte : (include : Bool) → action_of include ∷ [] ≡ big_bytes 1 (action_of include)
+action_byte true = refl
+action_byte false = refl
+
+-- The object stands at the front, once the fields before its labels are written.
+pub object_laid : (headed bytes : List ℕ) (o : LabelSetObject) (action end len : ℕ) →
+    action ≡ action_of o.include → end ≡ 8 + 4 * length (among o.labels) → len ≡ max end 12 →
+    bytes ≡ laid (among o.labels) end → headed ≡ big_bytes 2 len ++ drop 2 bytes →
+    take len (set (set (set (set headed 2 36) 3 1) 4 action) 7 2) ≡ object 36 1 (label_set_bytes o)
+object_laid headed bytes o action end len is_action is_end is_len is_laid is_headed =
+    let ls = among o.labels in
+    let body = label_set_bytes o in
+    let total : len ≡ 4 + length body = omega (arith, label_set-length o) in
+    let rest : List ℕ = replicate (328 - (8 + 4 * length (or_zero ls))) 0 in
+    let same : bytes ≡ laid (or_zero ls) (8 + 4 * length (or_zero ls))
+    = is_laid ∙ ap (laid ls) is_end ∙ zeros_are_zero ls in
+    let fields = λ (n : ℕ) (act l : List ℕ). big_bytes 2 n ++ (36 ∷ 1 ∷ (act ++ (0 ∷ 0 ∷ 2 ∷ l))) in
+    let whole : set (set (set (set headed 2 36) 3 1) 4 action) 7 2 ≡ object 36 1 body ++ rest
+    = ap (λ (l : List ℕ). set (set (set (set l 2 36) 3 1) 4 action) 7 2)
+    (is_headed ∙ ap (λ (l : List ℕ). big_bytes 2 len ++ drop 2 l) same)
+    ∙ ap (λ (n : ℕ). fields n (action ∷ []) (labels_bytes (or_zero ls) ++ rest)) total
+    ∙ ap (λ (act : List ℕ). fields (4 + length body) act (labels_bytes (or_zero ls) ++ rest))
+    (ap (λ (k : ℕ). k ∷ []) is_action ∙ action_byte o.include) in
+    ap (take len) whole ∙ take_at (object 36 1 body) rest len (omega (arith, total))
 
 -- ---- what is written is read again
 

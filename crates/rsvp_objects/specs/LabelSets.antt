@@ -1,7 +1,7 @@
 -- LABEL_SET (RFC 3473, section 2.6; RFC 3471, section 3.5): action, reserved bits and label type in three bytes,
 -- labels.
 use Rattle.std.specs.Prelude.{◌≡◌, ◌≤◌, ℕ, ◌%◌, ◌==◌, nat_le, ◌&&◌, ◌||◌, Bool, true, false, if◌then◌else◌, ◌⊎◌, List}
-use Rattle.std.specs.Prelude.{[], ◌∷◌, ◌++◌, length, drop, filter}
+use Rattle.std.specs.Prelude.{[], ◌∷◌, ◌++◌, ◌-◌, length, drop, filter, replicate}
 use Rattle.std.specs.List.{flat_map}
 use Rattle.byteorder.specs.Endian.{big_bytes}
 use Rattle.ason_base.specs.Labels.{has, up_to}
@@ -45,6 +45,10 @@ or_zero (l ∷ ls) = l ∷ ls
 
 abbrev pub labels_bytes : List ℕ → List ℕ
 labels_bytes ls = flat_map (big_bytes 4) ls
+
+-- these labels behind the eight bytes of fields, up to this end, and zeros to the end of the room
+abbrev pub laid : List ℕ → ℕ → List ℕ
+laid ls end = replicate 8 0 ++ labels_bytes ls ++ replicate (328 - end) 0
 
 abbrev pub action_of : Bool → ℕ
 action_of include = if include then 0 else 1

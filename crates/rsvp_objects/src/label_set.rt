@@ -1,19 +1,22 @@
 //! LABEL_SET (RFC 3473, section 2.6; RFC 3471, section 3.5).
 
-ghost use Rattle.std.specs.Prelude.{◌≡◌, ◌≤◌, ◌+◌, ◌*◌, ◌++◌, [], ◌∷◌, ℕ, List, length, SomeIff, vec_len, vec_capacity};
+ghost use Rattle.std.specs.Prelude.{◌≡◌, ◌≤◌, ◌+◌, ◌*◌, ◌++◌, [], ◌∷◌, ℕ, List, length, take, replicate, SomeIff};
 ghost use Rattle.ason_base.specs.Labels.{has};
 ghost use Rattle.wire_buf.specs.Codecs.{Appends, Reads};
 ghost use Rattle.wire_buf.specs.Objects.{numbers, object};
 ghost use Rattle.rsvp_objects.specs.declared.label_set.LabelSetObject.{LabelSetObject};
 ghost use Rattle.rsvp_objects.specs.LabelSets.{HasLabels, IsLabelSet, action_of, among, between, is_between};
-ghost use Rattle.rsvp_objects.specs.LabelSets.{label_set_bytes, labels_bytes, listed, or_zero, ranged};
+ghost use Rattle.rsvp_objects.specs.LabelSets.{label_set_bytes, laid, listed, ranged};
 
 use ason_base::{Label, LabelSet, OutOfMemory};
 use byteorder::{BigEndian, ByteOrder};
-use wire_buf::{Cursor, put_header, put_u8, put_u24, put_u32};
+use wire_buf::Cursor;
 
 /// The label type of a generalized label.
-const GENERALIZED: u32 = 2;
+const GENERALIZED: u8 = 2;
+
+// The most bytes that the object takes: eight of fields, and four for each of 80 labels.
+const MOST_BYTES: usize = 328;
 
 /// The labels that a Path includes or excludes.
 #[derive(Drop)]
@@ -114,36 +117,20 @@ fn holds(set: &LabelSet, n: u8) -> bool
     }
 }
 
-fn count(set: &LabelSet) -> usize
-    ensures value { result ≡ length (among set.now) }
-    ensures small { result ≤ 80 }
+// Writes the labels over zeros behind the first eight bytes, each in four, and tells where they end.
+fn lay_labels(bytes: &mut [u8], set: &LabelSet) -> usize
+    requires { bytes.old ≡ replicate 328 0 }
+    ensures end { result ≡ 8 + 4 * length (among set.now) }
+    ensures laid { bytes.new ≡ laid (among set.now) result }
 {
-    set.rises();
-    set.len()
-}
-
-fn put_labels(out: &mut Vec<u8>, set: &LabelSet)
-    requires { vec_len out.old + 4 * length (among set.now) ≤ vec_capacity out.old }
-    ensures { out.new.items ≡ out.old.items ++ labels_bytes (among set.now) }
-{
+    let mut at = 8;
     'labels: for n in 1..81u8 {
         if holds(set, n) {
-            put_u32(out, u32::from(n));
+            bytes[at + 3] = n;
+            at += 4;
         }
     }
-}
-
-// Appends the labels, or a 0 where there is none.
-fn put_or_zero(out: &mut Vec<u8>, set: &LabelSet, count: usize)
-    requires count { count ≡ length (among set.now) }
-    requires room { vec_len out.old + 4 * length (or_zero (among set.now)) ≤ vec_capacity out.old }
-    ensures { out.new.items ≡ out.old.items ++ labels_bytes (or_zero (among set.now)) }
-{
-    if count == 0 {
-        put_u32(out, 0);
-    } else {
-        put_labels(out, set);
-    }
+    at
 }
 
 fn action(include: bool) -> u8
@@ -152,18 +139,29 @@ fn action(include: bool) -> u8
     if include { 0 } else { 1 }
 }
 
+// Writes the object over zeros, and tells how long it is. The zeros behind the labels are the label 0 of an empty set.
+fn lay_object(bytes: &mut [u8], x: &LabelSetObject) -> usize
+    requires { bytes.old ≡ replicate 328 0 }
+    ensures few { result ≤ 328 }
+    ensures laid { take result bytes.new ≡ object 36 1 (label_set_bytes x.now) }
+{
+    let len = lay_labels(bytes, &x.labels).max(12);
+    BigEndian::write_u16(bytes, len as u16);
+    bytes[2] = 36;
+    bytes[3] = 1;
+    bytes[4] = action(x.include);
+    bytes[7] = GENERALIZED;
+    len
+}
+
 /// Appends the LABEL_SET object, with action 0 or 1 and the labels rising. A set without labels is written as the one
 /// label 0, which names none.
 pub fn write_label_set(out: &mut Vec<u8>, x: &LabelSetObject) -> Result<(), OutOfMemory>
     ensures { Appends out.old out.new (object 36 1 (label_set_bytes x.now)) result }
 {
-    let count = count(&x.labels);
-    let len = 8 + 4 * count.max(1);
-    out.reserve(len)?;
-    put_header(out, len as u16, 36, 1);
-    put_u8(out, action(x.include));
-    put_u24(out, GENERALIZED);
-    put_or_zero(out, &x.labels, count);
+    let mut bytes = [0u8; MOST_BYTES];
+    let len = lay_object(&mut bytes, x);
+    out.extend_from_slice(&bytes[..len])?;
     Ok(())
 }
 
