@@ -10,8 +10,8 @@ use Rattle.ason_base.specs.declared.messages.MsgId.{MsgId}
 use Rattle.ason_base.specs.declared.messages.Packet.{Packet}
 use Rattle.rsvp_messages.specs.Objects.{Object}
 use Rattle.rsvp_messages.specs.Packets.{type_of}
-use Rattle.rsvp_messages.specs.Written.{ack_object, all_bytes, bytes_of, header_bytes, message, msg_objects}
-use Rattle.rsvp_messages.specs.Written.{packet_objects, written}
+use Rattle.rsvp_messages.specs.Written.{ack_object, all_bytes, body_objects, bytes_of, header_bytes, id_objects}
+use Rattle.rsvp_messages.specs.Written.{message, msg_objects, packet_objects, written}
 
 pub acks_more : (old so_far new : List ℕ) (acks : List MsgId) (i : ℕ) (d : MsgId) → i < length acks →
     so_far ≡ old ++ all_bytes (map ack_object (take i acks)) → new ≡ so_far ++ bytes_of (ack_object (get_or acks i d)) →
@@ -52,11 +52,14 @@ five (Ok t) old n1 n2 n3 n4 n5 a b d e f e1 e2 e3 e4 e5 =
 five (Err x) old n1 n2 n3 n4 n5 a b d e f e1 e2 e3 e4 e5 = tt
 
 -- the pieces of a packet, behind what was there
-pub packet_bytes : (old head n1 n2 n3 n4 : List ℕ) (id acks body : List Object) → n1 ≡ old ++ head →
-    n2 ≡ n1 ++ all_bytes id → n3 ≡ n2 ++ all_bytes acks → n4 ≡ n3 ++ all_bytes body →
-    n4 ≡ old ++ (head ++ all_bytes (id ++ (acks ++ body)))
-packet_bytes old head n1 n2 n3 n4 id acks body e1 e2 e3 e4 =
-    rw (e4, e3, e2, e1, apart id (acks ++ body), apart acks body) (simp append_assoc refl)
+pub packet_bytes : (old head n1 n2 n3 n4 : List ℕ) (sender : NodeId) (parts p : Packet) → parts ≡ p → n1 ≡ old ++ head →
+    n2 ≡ n1 ++ all_bytes (id_objects parts.id) → n3 ≡ n2 ++ all_bytes (map ack_object parts.acks) →
+    n4 ≡ n3 ++ all_bytes (body_objects sender parts.body) → n4 ≡ old ++ (head ++ all_bytes (packet_objects sender p))
+packet_bytes old head n1 n2 n3 n4 sender parts p make e1 e2 e3 e4 =
+    let acks = map ack_object parts.acks in
+    let body = body_objects sender parts.body in
+    subst (λ (q : Packet). n4 ≡ old ++ (head ++ all_bytes (packet_objects sender q))) make
+    (rw (e4, e3, e2, e1, apart (id_objects parts.id) (acks ++ body), apart acks body) (simp append_assoc refl))
 
 -- what stands behind the bytes that were there
 behind : (bytes old tail : List ℕ) (start : ℕ) → bytes ≡ old ++ tail → start ≡ length old → drop start bytes ≡ tail

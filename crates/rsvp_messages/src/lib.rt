@@ -40,6 +40,7 @@ mod label_sets;
 pub mod laws;
 pub mod lines;
 mod lookup;
+pub mod packet_ref;
 mod path;
 mod raw;
 pub mod reading;
@@ -52,7 +53,8 @@ pub mod writable;
 pub mod writing;
 
 pub use lines::{Fate, ObjectLine, objects};
+pub use packet_ref::PacketRef;
 pub use reading::decode;
 pub use room::room_for;
 pub use writable::is_writable;
-pub use writing::{encode, encode_into};
+pub use writing::{encode, encode_into, encode_ref_into};

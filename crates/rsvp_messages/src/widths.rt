@@ -6,9 +6,8 @@ ghost use Rattle.wire_buf.specs.Routes.{HasIds};
 ghost use Rattle.rsvp_objects.specs.LabelSets.{among};
 ghost use Rattle.rsvp_messages.specs.Writable.{Fits, FitsCode, FitsId, FitsLsp, FitsMsg, FitsRole, IsLabelNumber};
 
-use ason_base::{
-    ErrCode, Label, LabelSet, LinkId, Lsp, Msg, MsgId, NodeId, Packet, PathRole, Step, Steps,
-};
+use crate::packet_ref::PacketRef;
+use ason_base::{ErrCode, Label, LabelSet, LinkId, Lsp, Msg, MsgId, NodeId, PathRole, Step, Steps};
 
 pub(crate) fn node_fits(node: NodeId)
     ensures { node.0 < 2 ^ 32 }
@@ -156,12 +155,12 @@ fn msg_fits(msg: &Msg)
 }
 
 /// The numbers of every packet fit their fields.
-pub(crate) fn packet_fits(p: &Packet)
+pub(crate) fn packet_fits(p: &PacketRef<'_>)
     ensures { Fits p.now }
 {
     number_fits(p.id);
-    ids_fit(p.acks.items());
-    if let Some(msg) = &p.body {
+    ids_fit(p.acks);
+    if let Some(msg) = p.body {
         msg_fits(msg);
     }
 }

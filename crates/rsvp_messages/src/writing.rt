@@ -1,6 +1,7 @@
 //! Writing whole messages.
 
 ghost use Rattle.std.specs.Prelude.{◌≡◌, ◌++◌, IfOk, IfSome, OnOk};
+ghost use Rattle.std.specs.Option.{option_copied};
 ghost use Rattle.rsvp_messages.specs.Packets.{Spells, type_of};
 ghost use Rattle.ason_base.specs.Writable.{IsWritableMsg};
 ghost use Rattle.rsvp_messages.specs.Writable.{IsWritable};
@@ -11,6 +12,7 @@ use crate::header::{begin, seal};
 use crate::ids::{write_acks, write_message_id};
 use crate::kinds::{ACK, NOTIFY, PATH, PATH_ERR, PATH_TEAR, RESV};
 use crate::laws::packets_come_back;
+use crate::packet_ref::PacketRef;
 use crate::path::{write_path_end, write_path_head, write_path_request, write_path_route};
 use crate::resv::write_resv;
 use crate::roles::write_role;
@@ -20,8 +22,8 @@ use crate::widths::{node_fits, packet_fits};
 use ason_base::{Msg, NodeId, OutOfMemory, Packet};
 use std::alloc::Global;
 
-fn kind_of(body: &Option<Msg>) -> u8
-    ensures { result ≡ type_of body.now }
+fn kind_of(body: Option<&Msg>) -> u8
+    ensures { result ≡ type_of (option_copied body.entry) }
 {
     match body {
         Some(Msg::Path { .. }) => PATH,
@@ -78,15 +80,47 @@ fn write_msg(out: &mut Vec<u8>, sender: NodeId, msg: &Msg) -> Result<(), OutOfMe
     }
 }
 
-fn write_body(out: &mut Vec<u8>, sender: NodeId, body: &Option<Msg>) -> Result<(), OutOfMemory>
-    requires { IfSome body.now IsWritableMsg }
+fn write_body(out: &mut Vec<u8>, sender: NodeId, body: Option<&Msg>) -> Result<(), OutOfMemory>
+    requires { IfSome (option_copied body) IsWritableMsg }
     ensures { OnOk result (out.new.items ≡ out.old.items ++ all_bytes
-        (body_objects sender body.now)) }
+        (body_objects sender (option_copied body.entry))) }
 {
     match body {
         Some(msg) => write_msg(out, sender, msg),
         None => Ok(()),
     }
+}
+
+// Law: what is written is read as the packet again. Calling it changes nothing.
+fn comes_back(sender: NodeId, p: &PacketRef<'_>)
+    requires { IsWritable p.now }
+    ensures { Spells (written sender p.now) p.now }
+{
+    packets_come_back();
+    node_fits(sender);
+    packet_fits(p);
+}
+
+/// Appends the written form of the packet that these parts make, from this sender. After want of memory there may be a
+/// part of it.
+pub fn encode_ref_into(
+    out: &mut Vec<u8>,
+    sender: NodeId,
+    p: &PacketRef<'_>,
+) -> Result<(), OutOfMemory>
+    requires { IsWritable p.now }
+    ensures written { OnOk result (out.new.items ≡ out.old.items ++ written sender p.now) }
+    // What is written is read as the packet again.
+    ensures spelled { Spells (written sender p.now) p.now }
+{
+    comes_back(sender, p);
+    let start = out.len();
+    begin(out, kind_of(p.body))?;
+    write_message_id(out, p.id)?;
+    write_acks(out, p.acks)?;
+    write_body(out, sender, p.body)?;
+    seal(&mut out[start..]);
+    Ok(())
 }
 
 /// Appends the written form of a packet, from this sender. After want of memory there may be a part of it.
@@ -96,16 +130,7 @@ pub fn encode_into(out: &mut Vec<u8>, sender: NodeId, p: &Packet) -> Result<(), 
     // What is written is read as the packet again.
     ensures spelled { Spells (written sender p.now) p.now }
 {
-    packets_come_back();
-    node_fits(sender);
-    packet_fits(p);
-    let start = out.len();
-    begin(out, kind_of(&p.body))?;
-    write_message_id(out, p.id)?;
-    write_acks(out, p.acks.items())?;
-    write_body(out, sender, &p.body)?;
-    seal(&mut out[start..]);
-    Ok(())
+    encode_ref_into(out, sender, &PacketRef::of(p))
 }
 
 /// The written form of a packet, from this sender.

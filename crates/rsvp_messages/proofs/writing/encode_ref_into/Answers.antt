@@ -1,10 +1,11 @@
-use Rattle.std.proofs.Common.{◌≡◌, ◌++◌, ◌∙◌, ℕ, List, ap, arith, length, length-append, map}
+use Rattle.std.proofs.Common.{◌≡◌, ◌++◌, ◌∙◌, List, ℕ, ap, arith, length, length-append, subst}
 use Rattle.std.proofs.lemmas.List.{with_items_is}
-use Rattle.ason_base.specs.declared.messages.MsgId.{MsgId}
-use Rattle.rsvp_messages.specs.Written.{ack_object, all_bytes, body_objects, header_bytes, id_objects, packet_objects}
+use Rattle.ason_base.specs.declared.messages.Packet.{Packet}
+use Rattle.rsvp_messages.specs.Packets.{type_of}
+use Rattle.rsvp_messages.specs.Written.{all_bytes, header_bytes, packet_objects}
 use Rattle.rsvp_messages.proofs.Lengths.{packet-short}
 use Rattle.rsvp_messages.proofs.Joining.{packet_bytes, put_back, sealed, tail_of}
-use Rattle.rsvp_messages.proofs.writing.encode_into.Goals as goal
+use Rattle.rsvp_messages.proofs.writing.encode_ref_into.Goals as goal
 
 pub seal-requires-clause-short : goal.seal-requires-clause-short
 seal-requires-clause-short c =
@@ -12,11 +13,8 @@ seal-requires-clause-short c =
     let old = c.args.out.now.items in
     let tail = header_bytes c.kind_of.result 0 0 ++ all_bytes (packet_objects c.args.sender p) in
     let e : c.deref_mut.result.now ≡ old ++ tail
-    = c.deref_mut.ensures.value ∙ packet_bytes _ _ _ _ _ _ (id_objects p.id) (map ack_object p.acks)
-    (body_objects c.args.sender p.body)
-    c.in_ok-begin.ensures c.in_ok-write_message_id.ensures
-    (c.in_ok-write_acks.ensures ∙ ap (λ (l : List MsgId). c.write_message_id.new.out.items ++ all_bytes
-    (map ack_object l)) c.items.ensures) c.in_ok-write_body.ensures in
+    = c.deref_mut.ensures.value ∙ packet_bytes _ _ _ _ _ _ c.args.sender _ p c.p.view_is
+    c.in_ok-begin.ensures c.in_ok-write_message_id.ensures c.in_ok-write_acks.ensures c.in_ok-write_body.ensures in
     let start : c.len-start.result ≡ length old = omega (arith, c.len-start.ensures, c.args.out.now.ok.0) in
     packet-short c.args.sender p c.kind_of.result _ c.requires (tail_of _ old tail _ e start)
 
@@ -26,14 +24,13 @@ returns-clause-written c =
     let old = c.args.out.now.items in
     let tail = header_bytes c.kind_of.result 0 0 ++ all_bytes (packet_objects c.args.sender p) in
     let e : c.deref_mut.result.now ≡ old ++ tail
-    = c.deref_mut.ensures.value ∙ packet_bytes _ _ _ _ _ _ (id_objects p.id) (map ack_object p.acks)
-    (body_objects c.args.sender p.body)
-    c.in_ok-begin.ensures c.in_ok-write_message_id.ensures
-    (c.in_ok-write_acks.ensures ∙ ap (λ (l : List MsgId). c.write_message_id.new.out.items ++ all_bytes
-    (map ack_object l)) c.items.ensures) c.in_ok-write_body.ensures in
+    = c.deref_mut.ensures.value ∙ packet_bytes _ _ _ _ _ _ c.args.sender _ p c.p.view_is
+    c.in_ok-begin.ensures c.in_ok-write_message_id.ensures c.in_ok-write_acks.ensures c.in_ok-write_body.ensures in
     let start : c.len-start.result ≡ length old = omega (arith, c.len-start.ensures, c.args.out.now.ok.0) in
     let is_tail = tail_of _ old tail _ e start in
     let put = put_back _ old tail c.seal.new.out _ e start in
+    let kind : c.kind_of.result ≡ type_of p.body =
+    subst (λ (q : Packet). c.kind_of.result ≡ type_of q.body) c.p.view_is c.kind_of.ensures in
     with_items_is c.write_body.new.out _
     (omega (
       arith,
@@ -46,8 +43,4 @@ returns-clause-written c =
       c.deref_mut.ensures.len,
     ))
     ∙ put ∙ ap (λ (l : List ℕ). old ++ l)
-    (sealed _ c.seal.new.out c.kind_of.result c.args.sender p is_tail c.seal.ensures c.kind_of.ensures)
-
-pub returns-clause-spelled : goal.returns-clause-spelled
-returns-clause-spelled c =
-    c.packets_come_back.ensures c.args.sender c.args.p.now c.node_fits.ensures c.requires c.packet_fits.ensures
+    (sealed _ c.seal.new.out c.kind_of.result c.args.sender p is_tail c.seal.ensures kind)
