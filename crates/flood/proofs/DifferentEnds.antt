@@ -13,7 +13,8 @@ or_true : (b : Bool) → (b || true) ≡ true
 or_true true = refl
 or_true false = refl
 
-or_false : (b : Bool) → (b || false) ≡ b
+-- a test beside one that fails
+pub or_false : (b : Bool) → (b || false) ≡ b
 or_false true = refl
 or_false false = refl
 
@@ -53,6 +54,12 @@ has-with_end ends node n =
       | false ↦ λ _. list_any-append (λ m. m == n) ends (node ∷ []) ∙
           ap (λ (d : Bool). list_any (λ m. m == n) ends || d) (or_false (node == n))
     ] refl
+
+-- what stands among numbers with this one
+pub with_end_has : (ends : List ℕ) (node n : ℕ) →
+    list_any (λ m. m == n) (with_end ends node) ≡ (list_any (λ m. m == n) ends || (node == n))
+unfolding has
+with_end_has ends node n = has-with_end ends node n
 
 has-with_ends : (ends : List ℕ) (row : TeRow) (n : ℕ) →
     has n (with_ends ends row) ≡ (has n ends || is_end (record { 0 = n }) row)

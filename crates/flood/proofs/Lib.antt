@@ -17,6 +17,7 @@ pub mod NetworkLaws
 pub mod TopologyRows
 pub mod Example
 pub mod DueOrder
-pub mod LinkNumbers
+pub mod RisingNumbers
+pub mod AlikeEnds
 pub mod ReadAgain
 pub mod FewEnds

@@ -178,8 +178,14 @@ pub record IsCounted (rows : ℕ) (ns : List NeighbourState) : Type 0 where
   pub sent : All (λ n. n.sent ≤ rows) ns
   pub due : All (λ n. length n.due ≤ n.sent) ns
 
--- what is kept beside the known rows: the numbers of their links, rising, and their different ends
+-- as many numbers, and the same ones, in any order
+pub record AreAlike (xs ys : List ℕ) : Type 0 where
+  pub count : length xs ≡ length ys
+  pub has : (n : ℕ) → list_any (λ m. m == n) xs ≡ list_any (λ m. m == n) ys
+
+-- what is kept beside the known rows: the numbers of their links and of their different ends, both rising
 pub record IsIndexed (rows : List TeRow) (numbers nodes : List ℕ) : Type 0 where
   pub rising : IsNonDecreasing numbers
   pub links : (n : ℕ) → list_any (λ m. m == n) numbers ≡ is_known rows (record { 0 = n })
-  pub ends : nodes ≡ ends_of rows
+  pub in_order : IsNonDecreasing nodes
+  pub ends : AreAlike nodes (ends_of rows)

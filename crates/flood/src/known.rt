@@ -1,17 +1,17 @@
 //! The rows that a node knows, their links and their different ends.
 
-ghost use Rattle.std.specs.Prelude.{◌≡◌, ◌^◌, ◌==◌, ◌≤◌, ◌<◌, ◌+◌, ◌∷◌, ◌++◌, ◌||◌, ℕ, [], OnErr, OnOk, length, vec_capacity, vec_len};
+ghost use Rattle.std.specs.Prelude.{◌≡◌, ◌^◌, ◌==◌, ◌≤◌, ◌<◌, ◌+◌, ◌∷◌, ◌++◌, ◌||◌, ℕ, [], OnErr, OnOk, length, nat_le, vec_capacity, vec_len};
 ghost use Rattle.std.specs.List.{list_any};
 ghost use Rattle.std.specs.List.Sorted.{IsNonDecreasing};
-ghost use Rattle.flood.specs.State.{has_room, is_known, with_end, with_ends};
+ghost use Rattle.flood.specs.State.{AreAlike, has_room, is_known, with_end, with_ends};
 
 use ason_base::network::{MOST_LINKS, MOST_NODES};
 use ason_base::{Copied, LinkId, OutOfMemory, TeRow, copy_all};
 use std::alloc::Global;
 use std::marker::Model;
 
-/// The known rows, in order of learning. Beside them stand the numbers of their links, rising, and their different ends, so
-/// that neither is looked for among all rows.
+/// The known rows, in order of learning. Beside them stand the numbers of their links and of their different ends, both
+/// rising, so that neither is looked for among all rows.
 pub struct KnownRows {
     rows: Vec<TeRow>,
     links: Vec<u32>,
@@ -53,14 +53,14 @@ impl KnownRows {
     pub fn has_link(&self, link: LinkId) -> bool
         ensures { result ≡ is_known self.now link }
     {
-        self.links.binary_search(&link.0).is_ok()
+        has_number(&self.links, link.0)
     }
 
     /// Whether they keep their limits with this one.
     pub fn has_room(&self, row: &TeRow) -> bool
         ensures { result ≡ has_room self.now row.now }
     {
-        self.rows.len() < MOST_LINKS && ends_with(&self.ends, row) <= MOST_NODES
+        self.rows.len() < MOST_LINKS && has_room_for_ends(&self.ends, row)
     }
 
     /// Adds a row at the end. Where memory runs out, nothing has changed.
@@ -71,7 +71,7 @@ impl KnownRows {
         self.rows.reserve(1)?;
         self.links.reserve(1)?;
         self.ends.reserve(2)?;
-        insert_link(&mut self.links, row.link.0);
+        insert_number(&mut self.links, row.link.0);
         add_ends(&mut self.ends, &row);
         self.rows.push(row)?;
         Ok(())
@@ -97,63 +97,65 @@ impl Drop for KnownRows {
     }
 }
 
-/// Puts a link's number in its place, if it isn't there. There is room for it.
-fn insert_link(links: &mut Vec<u32>, link: u32)
-    requires room { vec_len links.old < vec_capacity links.old }
-    requires rising { IsNonDecreasing links.old.items }
-    ensures rising { IsNonDecreasing links.new.items }
-    ensures has { (n : ℕ) → list_any (λ m. m == n) links.new.items ≡
-        (list_any (λ m. m == n) links.old.items || (link == n)) }
+/// Whether the number is among these, which rise.
+fn has_number(numbers: &[u32], n: u32) -> bool
+    requires { IsNonDecreasing numbers.now }
+    ensures { result ≡ list_any (λ m. m == n) numbers.now }
 {
-    if let Err(place) = links.binary_search(&link) {
-        match links.insert(place, link) {
+    numbers.binary_search(&n).is_ok()
+}
+
+/// Puts a number in its place, if it isn't there. There is room for it.
+fn insert_number(numbers: &mut Vec<u32>, n: u32)
+    requires room { vec_len numbers.old < vec_capacity numbers.old }
+    requires rising { IsNonDecreasing numbers.old.items }
+    ensures rising { IsNonDecreasing numbers.new.items }
+    ensures has { (m : ℕ) → list_any (λ k. k == m) numbers.new.items ≡
+        (list_any (λ k. k == m) numbers.old.items || (n == m)) }
+    ensures count { length numbers.new.items ≡ length (with_end numbers.old.items n) }
+    ensures len { vec_len numbers.new ≤ vec_len numbers.old + 1 }
+    ensures capacity { vec_capacity numbers.old ≤ vec_capacity numbers.new }
+{
+    if let Err(place) = numbers.binary_search(&n) {
+        match numbers.insert(place, n) {
             Ok(()) => {}
             Err(_) => unreachable!(),
         }
     }
 }
 
-fn has_end(ends: &[u32], node: u32) -> bool
-    ensures { result ≡ list_any (λ n. n == node) ends.now }
-{
-    ends.iter().any(|n| *n == node)
-}
-
 /// How many ends there are with those of the row.
 fn ends_with(ends: &[u32], row: &TeRow) -> usize
-    requires { length ends.now + 2 < 2 ^ 64 }
+    requires few { length ends.now + 2 < 2 ^ 64 }
+    requires rising { IsNonDecreasing ends.now }
     ensures { result ≡ length (with_ends ends.now row.now) }
 {
     let mut count = ends.len();
-    if !has_end(ends, row.low.0) {
+    if !has_number(ends, row.low.0) {
         count += 1;
     }
-    if row.low.0 != row.high.0 && !has_end(ends, row.high.0) {
+    if row.low.0 != row.high.0 && !has_number(ends, row.high.0) {
         count += 1;
     }
     count
 }
 
-// Adds a node, if it isn't there. There is room for it.
-fn add_end(ends: &mut Vec<u32>, node: u32)
-    requires { vec_len ends.old < vec_capacity ends.old }
-    ensures items { ends.new.items ≡ with_end ends.old.items node }
-    ensures len { vec_len ends.new ≤ vec_len ends.old + 1 }
-    ensures capacity { vec_capacity ends.old ≤ vec_capacity ends.new }
+/// Whether there are few enough ends with those of the row. They are counted only where two more would be too many.
+fn has_room_for_ends(ends: &[u32], row: &TeRow) -> bool
+    requires few { length ends.now + 2 < 2 ^ 64 }
+    requires rising { IsNonDecreasing ends.now }
+    ensures { result ≡ nat_le (length (with_ends ends.now row.now)) 64 }
 {
-    if !has_end(ends, node) {
-        match ends.push(node) {
-            Ok(()) => {}
-            Err(_) => unreachable!(),
-        }
-    }
+    ends.len() + 2 <= MOST_NODES || ends_with(ends, row) <= MOST_NODES
 }
 
 // Adds the ends of a row. There is room for both.
 fn add_ends(ends: &mut Vec<u32>, row: &TeRow)
-    requires { vec_len ends.old + 2 ≤ vec_capacity ends.old }
-    ensures { ends.new.items ≡ with_ends ends.old.items row.now }
+    requires room { vec_len ends.old + 2 ≤ vec_capacity ends.old }
+    requires rising { IsNonDecreasing ends.old.items }
+    ensures rising { IsNonDecreasing ends.new.items }
+    ensures alike { AreAlike ends.new.items (with_ends ends.old.items row.now) }
 {
-    add_end(ends, row.low.0);
-    add_end(ends, row.high.0);
+    insert_number(ends, row.low.0);
+    insert_number(ends, row.high.0);
 }

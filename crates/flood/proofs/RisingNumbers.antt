@@ -1,14 +1,15 @@
--- The numbers of the known links, which rise, so that one is found by halving.
-use Rattle.std.proofs.Common.{◌≡◌, ◌≤◌, ◌<◌, ℕ, ◌==◌, Bool, true, false, List, ◌∷◌, length, get_or, take, drop, refl, ap, subst, sym, ◌∙◌, arith, Result, Ok, Err, ◌⊎◌, inl, inr}
+-- Numbers that rise, so that one is found by halving.
+use Rattle.std.proofs.Common.{◌≡◌, ◌≤◌, ◌<◌, ℕ, ◌+◌, ◌==◌, Bool, true, false, cond, List, [], ◌∷◌, ◌++◌, length, get_or, take, drop, refl, ap, subst, sym, ◌∙◌, arith, Result, Ok, Err, ◌⊎◌, inl, inr}
 use Rattle.std.specs.Prelude.{◌||◌, is_ok}
 use Rattle.std.specs.List.{insert, list_any}
 use Rattle.std.specs.List.Sorted.{IsBinarySearchResult, IsNonDecreasing}
 use Rattle.std.specs.Ordering.{nat_cmp}
-use Rattle.std.proofs.lemmas.List.{get_or_default, take-append-drop}
+use Rattle.std.proofs.lemmas.List.{get_or_default, length-append, take-append-drop}
 use Rattle.std.proofs.lemmas.List.Elements.{Contains-get_or}
 use Rattle.std.proofs.lemmas.List.Folds.{list_any-append}
 use Rattle.std.proofs.lemmas.List.Sorted.{IsNonDecreasingBy-insert, searched}
 use Rattle.ason_base.proofs.Ordered.{any-there, there-any}
+use Rattle.flood.specs.State.{with_end}
 
 abbrev pub has : List ℕ → ℕ → Bool
 has xs n = list_any (λ m. m == n) xs
@@ -103,3 +104,21 @@ has_again xs x n there = by_test (x == n) refl
     by_test : (b : Bool) → (x == n) ≡ b → has xs n ≡ (has xs n || b)
     by_test true e = or_true (has xs n) (let same : x ≡ n = grind arith in subst (λ m. has xs m ≡ true) same there)
     by_test false e = or_false (has xs n)
+
+-- How many there are then
+
+pub inserted_count : (xs : List ℕ) (i x : ℕ) → has xs x ≡ false → length (insert xs i x) ≡ length (with_end xs x)
+inserted_count xs i x new = subst (λ b. length (insert xs i x) ≡ length (cond b xs (xs ++ x ∷ []))) (sym new) longer
+  where
+    longer : length (take i xs ++ x ∷ drop i xs) ≡ length (xs ++ x ∷ [])
+    longer =
+        let parted : length (take i xs ++ x ∷ drop i xs) ≡ length (take i xs) + length (x ∷ drop i xs) =
+        length-append (take i xs) (x ∷ drop i xs) in
+        let joined : length (take i xs ++ drop i xs) ≡ length (take i xs) + length (drop i xs) =
+        length-append (take i xs) (drop i xs) in
+        let whole : length (take i xs ++ drop i xs) ≡ length xs = ap length (take-append-drop i xs) in
+        let one : length (xs ++ x ∷ []) ≡ length xs + 1 = length-append xs (x ∷ []) in
+        omega arith
+
+pub same_count : (xs : List ℕ) (x : ℕ) → has xs x ≡ true → length xs ≡ length (with_end xs x)
+same_count xs x there = subst (λ b. length xs ≡ length (cond b xs (xs ++ x ∷ []))) (sym there) refl
