@@ -60,24 +60,18 @@ sub_tlv-whole kind value whole =
     let none : padded (length value) - length value ≡ 0 = omega arith in
     rw none (ap (λ (v : List ℕ). (big_bytes 2 kind ++ big_bytes 2 (length value)) ++ v) (append-nil value))
 
-joined : (old a b v : List ℕ) → ((old ++ a) ++ b) ++ v ≡ old ++ ((a ++ b) ++ v)
-joined old a b v = simp append_assoc
-
 -- the sub-TLV of SRLGs, as it is pushed
-pub srlgs_pushed : (old kinds lens new ns : List ℕ) (len : ℕ) → (length ns == 0) ≡ false → len ≡ 4 * length ns →
-    kinds ≡ old ++ big_bytes 2 16 → lens ≡ kinds ++ big_bytes 2 len →
-    new ≡ lens ++ flat_map (λ n. big_bytes 4 n) ns → new ≡ old ++ srlgs_tlv ns
-srlgs_pushed old kinds lens new [] len some is e1 e2 e3 = absurd (cc)
-srlgs_pushed old kinds lens new (n ∷ ns) len some is e1 e2 e3 =
+pub srlgs_pushed : (old headed new ns : List ℕ) (len : ℕ) → (length ns == 0) ≡ false → len ≡ 4 * length ns →
+    headed ≡ old ++ (big_bytes 2 16 ++ big_bytes 2 len) →
+    new ≡ headed ++ flat_map (λ n. big_bytes 4 n) ns → new ≡ old ++ srlgs_tlv ns
+srlgs_pushed old headed new [] len some is e1 e2 = absurd (cc)
+srlgs_pushed old headed new (n ∷ ns) len some is e1 e2 =
     let value : List ℕ = flat_map (λ m. big_bytes 4 m) (n ∷ ns) in
     let numbers : length value ≡ 4 * length (n ∷ ns) = numbers-length (n ∷ ns) in
     let len_is : len ≡ length value = is ∙ sym numbers in
     let whole : padded (length value) ≡ length value = ap padded numbers ∙ padded-four (length (n ∷ ns))
     ∙ sym numbers in
-    let pushed : new ≡ ((old ++ big_bytes 2 16) ++ big_bytes 2 (length value)) ++ value =
-    e3 ∙ ap (λ (l : List ℕ). l ++ value) (e2 ∙ ap (λ (l : List ℕ). l ++ big_bytes 2 len) e1
-    ∙ ap (λ (k : ℕ). (old ++ big_bytes 2 16) ++ big_bytes 2 k) len_is) in
-    pushed ∙ joined old (big_bytes 2 16) (big_bytes 2 (length value)) value
+    rw (e2, e1, len_is) (append_assoc old (big_bytes 2 16 ++ big_bytes 2 (length value)) value)
     ∙ ap (λ (l : List ℕ). old ++ l) (sym (sub_tlv-whole 16 value whole))
 
 pub all_pushed : (lens new ns : List ℕ) (i : ℕ) → i ≤ length ns → length ns ≤ i →
@@ -87,9 +81,12 @@ all_pushed lens new ns i low high pushed =
     pushed ∙ ap (λ (ms : List ℕ). lens ++ flat_map (λ n. big_bytes 4 n) ms)
     (ap (λ (k : ℕ). take k ns) all ∙ take-length ns)
 
+joined : (old head fixed srlgs : List ℕ) → (old ++ (head ++ fixed)) ++ srlgs ≡ old ++ (head ++ (fixed ++ srlgs))
+joined old head fixed srlgs = simp append_assoc
+
 -- the Link TLV, as it is pushed
-pub tlv_pushed : (old room kinds lens new body : List ℕ) (len : ℕ) → room ≡ old → len ≡ length body →
-    kinds ≡ room ++ big_bytes 2 2 → lens ≡ kinds ++ big_bytes 2 len → new ≡ lens ++ body →
-    new ≡ old ++ (big_bytes 2 2 ++ big_bytes 2 (length body) ++ body)
-tlv_pushed old room kinds lens new body len same is e1 e2 e3 =
-    rw (e3, e2, e1, same, is) (joined old (big_bytes 2 2) (big_bytes 2 (length body)) body)
+pub tlv_pushed : (old headed new fixed srlgs : List ℕ) (len : ℕ) → len ≡ length (fixed ++ srlgs) →
+    headed ≡ old ++ (big_bytes 2 2 ++ big_bytes 2 len ++ fixed) → new ≡ headed ++ srlgs →
+    new ≡ old ++ (big_bytes 2 2 ++ big_bytes 2 (length (fixed ++ srlgs)) ++ (fixed ++ srlgs))
+tlv_pushed old headed new fixed srlgs len is e1 e2 =
+    rw (e2, e1, is) (joined old (big_bytes 2 2 ++ big_bytes 2 (length (fixed ++ srlgs))) fixed srlgs)

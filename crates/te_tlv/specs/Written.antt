@@ -24,11 +24,14 @@ abbrev pub srlgs_tlv : List ℕ → List ℕ
 srlgs_tlv [] = []
 srlgs_tlv (s ∷ ss) = sub_tlv SRLG (flat_map (λ n. big_bytes 4 n) (s ∷ ss))
 
-abbrev pub link_body : NodeId → TeRow → List ℕ
-link_body origin row =
+-- the sub-TLVs that each row has
+abbrev pub fixed_body : NodeId → TeRow → List ℕ
+fixed_body origin row =
     sub_tlv LINK_TYPE (POINT_TO_POINT ∷ []) ++ sub_tlv LINK_ID (big_bytes 4 (peer_of origin row))
     ++ sub_tlv METRIC (big_bytes 4 row.metric) ++ sub_tlv IDENTIFIERS (big_bytes 4 row.link.0 ++ big_bytes 4 row.link.0)
-    ++ srlgs_tlv row.srlgs
+
+abbrev pub link_body : NodeId → TeRow → List ℕ
+link_body origin row = fixed_body origin row ++ srlgs_tlv row.srlgs
 
 abbrev pub link_tlv : NodeId → TeRow → List ℕ
 link_tlv origin row = big_bytes 2 LINK ++ big_bytes 2 (length (link_body origin row)) ++ link_body origin row

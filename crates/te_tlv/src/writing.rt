@@ -1,23 +1,28 @@
 //! Writing rows.
 
-ghost use Rattle.std.specs.Prelude.{◌≡◌, ◌<◌, ◌≤◌, ◌+◌, ◌^◌, ◌++◌, [], ◌∷◌, length, All, IfOk, OnOk, vec_capacity, vec_len};
-ghost use Rattle.std.specs.List.{flat_map};
+ghost use Rattle.std.specs.Prelude.{◌≡◌, ◌<◌, ◌≤◌, ◌^◌, ◌++◌, length, All, IfOk, OnOk};
 ghost use Rattle.byteorder.specs.Endian.{big_bytes};
 ghost use Rattle.te_tlv.specs.Rows.{SpellsRow};
-ghost use Rattle.te_tlv.specs.Written.{HasNumbers, IsWritable, link_body, link_tlv, peer_of, srlgs_tlv, sub_tlv};
+ghost use Rattle.te_tlv.specs.Written.{HasNumbers, IsWritable, fixed_body, link_tlv, peer_of, srlgs_tlv};
+ghost use Rattle.te_tlv.specs.declared.srlgs.TheConstants.{SRLG};
+ghost use Rattle.te_tlv.specs.declared.sub_tlvs.TheConstants.{LINK};
 
 use crate::laws::rows_come_back;
-use crate::reading::{IDENTIFIERS, LINK_ID, LINK_TYPE, METRIC};
 use crate::srlgs::SRLG;
-use crate::sub_tlvs::LINK;
 use ason_base::{NodeId, OutOfMemory, TeRow};
+use byteorder::{BigEndian, ByteOrder};
 use std::alloc::Global;
-use wire_buf::{push_u16, push_u32, put_u16, put_u32};
 
 /// How many bytes a TLV's header takes, and the sub-TLVs that each row has.
 const HEADER: usize = 4;
 
 const FIXED: usize = 36;
+
+/// A Link TLV without SRLGs whose length, numbers and metric are zero.
+const ZERO_ROW: [u8; HEADER + FIXED] = [
+    0, 2, 0, 0, 0, 1, 0, 1, 1, 0, 0, 0, 0, 2, 0, 4, 0, 0, 0, 0, 0, 5, 0, 4, 0, 0, 0, 0, 0, 11, 0,
+    8, 0, 0, 0, 0, 0, 0, 0, 0,
+];
 
 /// The number of the end that isn't the origin.
 fn peer_of(origin: NodeId, row: &TeRow) -> u32
@@ -43,43 +48,13 @@ fn srlgs_len(srlgs: &[u32]) -> usize
     }
 }
 
-/// Appends the sub-TLV of a point-to-point link in the room that is reserved: one byte and three of padding.
-#[tactic(auto, unfolding(crate::specs::Written::sub_tlv))]
-fn put_link_type(out: &mut Vec<u8>)
-    requires { vec_len out.old + 8 ≤ vec_capacity out.old }
-    ensures items { out.new.items ≡ out.old.items ++ sub_tlv 1 (1 ∷ []) }
-    ensures len { vec_len out.new ≡ vec_len out.old + 8 }
-    ensures capacity { vec_capacity out.old ≤ vec_capacity out.new }
+/// The header of the sub-TLV of the SRLGs.
+fn srlgs_header(len: u16) -> [u8; HEADER]
+    ensures { result ≡ big_bytes 2 SRLG ++ big_bytes 2 len }
 {
-    put_u16(out, LINK_TYPE);
-    put_u16(out, 1);
-    put_u32(out, 1 << 24);
-}
-
-/// Appends a sub-TLV of four bytes in the room that is reserved.
-#[tactic(auto, unfolding(crate::specs::Written::sub_tlv))]
-fn put_number(out: &mut Vec<u8>, kind: u16, n: u32)
-    requires { vec_len out.old + 8 ≤ vec_capacity out.old }
-    ensures items { out.new.items ≡ out.old.items ++ sub_tlv kind (big_bytes 4 n) }
-    ensures len { vec_len out.new ≡ vec_len out.old + 8 }
-    ensures capacity { vec_capacity out.old ≤ vec_capacity out.new }
-{
-    put_u16(out, kind);
-    put_u16(out, 4);
-    put_u32(out, n);
-}
-
-/// Appends the sub-TLV of both identifiers in the room that is reserved.
-#[tactic(auto, unfolding(crate::specs::Written::sub_tlv))]
-fn put_identifiers(out: &mut Vec<u8>, link: u32)
-    requires { vec_len out.old + 12 ≤ vec_capacity out.old }
-    ensures { out.new.items ≡ out.old.items ++ sub_tlv 11
-        (big_bytes 4 link ++ big_bytes 4 link) }
-{
-    put_u16(out, IDENTIFIERS);
-    put_u16(out, 8);
-    put_u32(out, link);
-    put_u32(out, link);
+    let kind = SRLG.to_be_bytes();
+    let len = len.to_be_bytes();
+    [kind[0], kind[1], len[0], len[1]]
 }
 
 /// Appends the sub-TLV of the SRLGs, where there are any.
@@ -90,25 +65,25 @@ fn push_srlgs(out: &mut Vec<u8>, srlgs: &[u32]) -> Result<(), OutOfMemory>
     if srlgs.is_empty() {
         return Ok(());
     }
-    push_u16(out, SRLG)?;
-    push_u16(out, 4 * srlgs.len() as u16)?;
+    out.extend_from_slice(&srlgs_header(4 * srlgs.len() as u16))?;
     for n in srlgs {
-        push_u32(out, *n)?;
+        out.extend_from_slice(&n.to_be_bytes())?;
     }
     Ok(())
 }
 
-/// Appends the sub-TLVs in order of type, those that each row has in the room that is reserved.
-fn push_body(out: &mut Vec<u8>, origin: NodeId, row: &TeRow) -> Result<(), OutOfMemory>
-    requires few { length row.now.srlgs ≤ 16 }
-    requires room { vec_len out.old + 36 ≤ vec_capacity out.old }
-    ensures { OnOk result (out.new.items ≡ out.old.items ++ link_body origin row.now) }
+/// The header of a Link TLV of this length, and the sub-TLVs that each row has.
+#[tactic(auto, unfolding(crate::specs::Written::sub_tlv))]
+fn fixed_part(len: u16, origin: NodeId, row: &TeRow) -> [u8; HEADER + FIXED]
+    ensures { result ≡ big_bytes 2 LINK ++ big_bytes 2 len ++ fixed_body origin row.now }
 {
-    put_link_type(out);
-    put_number(out, LINK_ID, peer_of(origin, row));
-    put_number(out, METRIC, row.metric);
-    put_identifiers(out, row.link.0);
-    push_srlgs(out, row.srlgs.items())
+    let mut bytes = ZERO_ROW;
+    BigEndian::write_u16(&mut bytes[2..], len);
+    BigEndian::write_u32(&mut bytes[16..], peer_of(origin, row));
+    BigEndian::write_u32(&mut bytes[24..], row.metric);
+    BigEndian::write_u32(&mut bytes[32..], row.link.0);
+    BigEndian::write_u32(&mut bytes[36..], row.link.0);
+    bytes
 }
 
 // Laws: what the types of a row say of its numbers. Calling them changes nothing.
@@ -140,11 +115,10 @@ fn push_row(out: &mut Vec<u8>, origin: NodeId, row: &TeRow) -> Result<(), OutOfM
     requires { length row.now.srlgs ≤ 16 }
     ensures { OnOk result (out.new.items ≡ out.old.items ++ link_tlv origin row.now) }
 {
-    let len = FIXED + srlgs_len(row.srlgs.items());
-    out.reserve(HEADER + len)?;
-    put_u16(out, LINK);
-    put_u16(out, len as u16);
-    push_body(out, origin, row)
+    let srlgs = row.srlgs.items();
+    let len = FIXED + srlgs_len(srlgs);
+    out.extend_from_slice(&fixed_part(len as u16, origin, row))?;
+    push_srlgs(out, srlgs)
 }
 
 /// Appends the Link TLV of a row, from one of its ends: sub-TLVs in order of type, SRLGs rising, padding zero.
