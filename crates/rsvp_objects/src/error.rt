@@ -1,15 +1,14 @@
 //! ERROR_SPEC (RFC 2205, appendix A.5), also with an interface (RFC 3473, section 8.2.1).
 
-ghost use Rattle.std.specs.Prelude.{◌≡◌, ◌≤◌, ◌+◌, ◌++◌, length, None, Some, vec_len, vec_capacity};
+ghost use Rattle.std.specs.Prelude.{◌≡◌, ◌≤◌, length, None, Some};
 ghost use Rattle.wire_buf.specs.Codecs.{Appends, Reads};
 ghost use Rattle.wire_buf.specs.Objects.{object};
 ghost use Rattle.rsvp_objects.specs.declared.error.ErrorSpec.{ErrorSpec};
 ghost use Rattle.rsvp_objects.specs.Bodies.{HasWidths, IsError, IsErrorIpv4, error_bytes, spec_at, spec_bytes};
 
-use crate::tlv::{if_index, put_if_index};
+use crate::tlv::{if_index, if_index_bytes};
 use ason_base::{ErrCode, LinkId, NodeId, OutOfMemory};
 use byteorder::{BigEndian, ByteOrder};
-use wire_buf::{put_header, put_u8, put_u16, put_u32};
 
 const IPV4: u8 = 1;
 
@@ -39,35 +38,51 @@ fn spec_of(body: &[u8], link: Option<LinkId>) -> ErrorSpec
     }
 }
 
-fn put_spec(out: &mut Vec<u8>, x: &ErrorSpec)
-    requires { vec_len out.old + 8 ≤ vec_capacity out.old }
-    ensures items { out.new.items ≡ out.old.items ++ spec_bytes x.now }
-    ensures len { vec_len out.new ≡ vec_len out.old + 8 }
-    ensures capacity { vec_capacity out.old ≤ vec_capacity out.new }
+/// The fields of an error beside its link.
+fn spec_bytes(x: &ErrorSpec) -> [u8; 8]
+    ensures { result ≡ spec_bytes x.now }
 {
-    put_u32(out, x.node.0);
-    put_u8(out, x.flags);
-    put_u8(out, x.code.code);
-    put_u16(out, x.code.value);
+    let [flags] = x.flags.to_be_bytes();
+    let [code] = x.code.code.to_be_bytes();
+    let mut bytes = [0, 0, 0, 0, flags, code, 0, 0];
+    BigEndian::write_u32(&mut bytes, x.node.0);
+    BigEndian::write_u16(&mut bytes[6..], x.code.value);
+    bytes
+}
+
+/// The ERROR_SPEC object of this C-Type without TLVs.
+fn plain_object(ctype: u8, x: &ErrorSpec) -> [u8; 12]
+    ensures { result ≡ object 6 ctype (spec_bytes x.now) }
+{
+    let mut bytes = [0, 12, 6, ctype, 0, 0, 0, 0, 0, 0, 0, 0];
+    bytes[4..].copy_from_slice(&spec_bytes(x));
+    bytes
 }
 
 fn write_plain(out: &mut Vec<u8>, ctype: u8, x: &ErrorSpec) -> Result<(), OutOfMemory>
     ensures { Appends out.old out.new (object 6 ctype (spec_bytes x.now)) result }
 {
-    out.reserve(12)?;
-    put_header(out, 12, 6, ctype);
-    put_spec(out, x);
+    out.extend_from_slice(&plain_object(ctype, x))?;
     Ok(())
+}
+
+/// The ERROR_SPEC object with the IF_INDEX of the link.
+fn object_with_link(x: &ErrorSpec, link: LinkId) -> [u8; 24]
+    requires { x.now.link ≡ Some link }
+    ensures { result ≡ object 6 3 (error_bytes x.now) }
+{
+    let mut bytes = [0; 24];
+    bytes[..4].copy_from_slice(&[0, 24, 6, IF_ID]);
+    bytes[4..12].copy_from_slice(&spec_bytes(x));
+    bytes[12..].copy_from_slice(&if_index_bytes(x.node, link));
+    bytes
 }
 
 fn write_with_link(out: &mut Vec<u8>, x: &ErrorSpec, link: LinkId) -> Result<(), OutOfMemory>
     requires { x.now.link ≡ Some link }
     ensures { Appends out.old out.new (object 6 3 (error_bytes x.now)) result }
 {
-    out.reserve(24)?;
-    put_header(out, 24, 6, IF_ID);
-    put_spec(out, x);
-    put_if_index(out, x.node, link);
+    out.extend_from_slice(&object_with_link(x, link))?;
     Ok(())
 }
 

@@ -1,15 +1,14 @@
 //! RSVP_HOP with an interface (RFC 3473, section 8.1.1).
 
-ghost use Rattle.std.specs.Prelude.{◌<◌, ◌^◌};
+ghost use Rattle.std.specs.Prelude.{◌≡◌, ◌<◌, ◌^◌};
 ghost use Rattle.wire_buf.specs.Codecs.{Appends, Reads};
 ghost use Rattle.wire_buf.specs.Objects.{object};
 ghost use Rattle.rsvp_objects.specs.declared.hop.HopObject.{HopObject};
 ghost use Rattle.rsvp_objects.specs.Bodies.{IsHop, hop_bytes};
 
-use crate::tlv::{one_if_index, put_if_index};
+use crate::tlv::{if_index_bytes, one_if_index};
 use ason_base::{LinkId, NodeId, OutOfMemory};
 use byteorder::{BigEndian, ByteOrder};
-use wire_buf::{put_header, put_u32};
 
 /// The sender of a message, and the link that it sends over.
 #[derive(Clone, Copy, Drop)]
@@ -34,15 +33,22 @@ pub fn read_hop(body: &[u8]) -> Option<HopObject>
     }
 }
 
+/// The RSVP_HOP object.
+fn object_of(x: &HopObject) -> [u8; 24]
+    ensures { result ≡ object 3 3 (hop_bytes x.now) }
+{
+    let mut bytes = [0; 24];
+    bytes[..4].copy_from_slice(&[0, 24, 3, 3]);
+    BigEndian::write_u32(&mut bytes[4..], x.sender.0);
+    bytes[12..].copy_from_slice(&if_index_bytes(x.sender, x.link));
+    bytes
+}
+
 /// Appends the RSVP_HOP object. The sender is its address and that of its IF_INDEX.
 pub fn write_hop(out: &mut Vec<u8>, x: &HopObject) -> Result<(), OutOfMemory>
     ensures { Appends out.old out.new (object 3 3 (hop_bytes x.now)) result }
 {
-    out.reserve(24)?;
-    put_header(out, 24, 3, 3);
-    put_u32(out, x.sender.0);
-    put_u32(out, 0);
-    put_if_index(out, x.sender, x.link);
+    out.extend_from_slice(&object_of(x))?;
     Ok(())
 }
 

@@ -1,6 +1,6 @@
 //! MESSAGE_ID and MESSAGE_ID_ACK (RFC 2961, sections 4.2 and 4.3).
 
-ghost use Rattle.std.specs.Prelude.{◌<◌, ◌^◌, ℕ};
+ghost use Rattle.std.specs.Prelude.{◌≡◌, ◌<◌, ◌^◌, ℕ};
 ghost use Rattle.ason_base.specs.declared.messages.MsgId.{MsgId};
 ghost use Rattle.wire_buf.specs.Codecs.{Appends, Reads};
 ghost use Rattle.wire_buf.specs.Objects.{object};
@@ -8,7 +8,6 @@ ghost use Rattle.rsvp_objects.specs.Bodies.{IsMsgId, msg_id_bytes};
 
 use ason_base::{MsgId, OutOfMemory};
 use byteorder::{BigEndian, ByteOrder};
-use wire_buf::{put_header, put_u8, put_u24, put_u32};
 
 const MESSAGE_ID: u8 = 23;
 
@@ -30,15 +29,22 @@ pub fn read_id(body: &[u8]) -> Option<MsgId>
     })
 }
 
+/// The object of this class.
+fn object_of(class: u8, flags: u8, x: &MsgId) -> [u8; 12]
+    requires { x.now.epoch < 2 ^ 24 }
+    ensures { result ≡ object class 1 (msg_id_bytes flags x.now) }
+{
+    let mut bytes = [0, 12, class, 1, flags, 0, 0, 0, 0, 0, 0, 0];
+    BigEndian::write_u24(&mut bytes[5..], x.epoch);
+    BigEndian::write_u32(&mut bytes[8..], x.number);
+    bytes
+}
+
 fn write_as(out: &mut Vec<u8>, class: u8, flags: u8, x: &MsgId) -> Result<(), OutOfMemory>
     requires { x.now.epoch < 2 ^ 24 }
     ensures { Appends out.old out.new (object class 1 (msg_id_bytes flags x.now)) result }
 {
-    out.reserve(12)?;
-    put_header(out, 12, class, 1);
-    put_u8(out, flags);
-    put_u24(out, x.epoch);
-    put_u32(out, x.number);
+    out.extend_from_slice(&object_of(class, flags, x))?;
     Ok(())
 }
 

@@ -1,13 +1,12 @@
 //! LABEL and UPSTREAM_LABEL, generalized (RFC 3473, sections 2.3 and 3).
 
-ghost use Rattle.std.specs.Prelude.{◌≤◌, ℕ};
+ghost use Rattle.std.specs.Prelude.{◌≡◌, ◌≤◌, ℕ};
 ghost use Rattle.wire_buf.specs.Codecs.{Appends, Reads};
 ghost use Rattle.wire_buf.specs.Objects.{object};
 ghost use Rattle.rsvp_objects.specs.Bodies.{IsLabel, label_bytes};
 
 use ason_base::{Label, OutOfMemory};
 use byteorder::{BigEndian, ByteOrder};
-use wire_buf::{put_header, put_u32};
 
 const LABEL: u8 = 16;
 
@@ -28,12 +27,19 @@ pub fn read_label(body: &[u8]) -> Option<Label>
     Label::new(number as u8)
 }
 
+/// The object of this class.
+fn object_of(class: u8, x: &Label) -> [u8; 8]
+    ensures { result ≡ object class 2 (label_bytes x.now) }
+{
+    let mut bytes = [0, 8, class, 2, 0, 0, 0, 0];
+    BigEndian::write_u32(&mut bytes[4..], u32::from(x.number()));
+    bytes
+}
+
 fn write_as(out: &mut Vec<u8>, class: u8, x: &Label) -> Result<(), OutOfMemory>
     ensures { Appends out.old out.new (object class 2 (label_bytes x.now)) result }
 {
-    out.reserve(8)?;
-    put_header(out, 8, class, 2);
-    put_u32(out, u32::from(x.number()));
+    out.extend_from_slice(&object_of(class, x))?;
     Ok(())
 }
 

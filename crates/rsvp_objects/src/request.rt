@@ -6,7 +6,6 @@ ghost use Rattle.wire_buf.specs.Objects.{object};
 ghost use Rattle.rsvp_objects.specs.Bodies.{IsRequest, request_bytes};
 
 use ason_base::OutOfMemory;
-use wire_buf::{put_header, put_u8, put_u16};
 
 /// The LSP encoding type Lambda (RFC 3471, section 3.1.1).
 const LAMBDA: u8 = 8;
@@ -32,11 +31,7 @@ pub fn read_request(body: &[u8]) -> Option<LabelRequest>
 pub fn write_request(out: &mut Vec<u8>, _x: &LabelRequest) -> Result<(), OutOfMemory>
     ensures { Appends out.old out.new (object 19 4 request_bytes) result }
 {
-    out.reserve(8)?;
-    put_header(out, 8, 19, 4);
-    put_u8(out, LAMBDA);
-    put_u8(out, LAMBDA_SWITCH);
-    put_u16(out, 0);
+    out.extend_from_slice(&[0, 8, 19, 4, LAMBDA, LAMBDA_SWITCH, 0, 0])?;
     Ok(())
 }
 

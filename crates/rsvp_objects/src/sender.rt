@@ -1,6 +1,6 @@
 //! SENDER_TEMPLATE and FILTER_SPEC of an LSP tunnel (RFC 3209, sections 4.6.2.1 and 4.6.3.1).
 
-ghost use Rattle.std.specs.Prelude.{◌<◌, ◌^◌};
+ghost use Rattle.std.specs.Prelude.{◌≡◌, ◌<◌, ◌^◌};
 ghost use Rattle.wire_buf.specs.Codecs.{Appends, Reads};
 ghost use Rattle.wire_buf.specs.Objects.{object};
 ghost use Rattle.rsvp_objects.specs.declared.sender.SenderRef.{SenderRef};
@@ -8,7 +8,6 @@ ghost use Rattle.rsvp_objects.specs.Bodies.{IsSenderRef, sender_bytes};
 
 use ason_base::{NodeId, OutOfMemory};
 use byteorder::{BigEndian, ByteOrder};
-use wire_buf::{put_header, put_u16, put_u32};
 
 const FILTER_SPEC: u8 = 10;
 
@@ -33,14 +32,20 @@ fn sender_of(body: &[u8]) -> Option<SenderRef>
     })
 }
 
+/// The object of this class.
+fn object_of(class: u8, x: &SenderRef) -> [u8; 12]
+    ensures { result ≡ object class 7 (sender_bytes x.now) }
+{
+    let mut bytes = [0, 12, class, 7, 0, 0, 0, 0, 0, 0, 0, 0];
+    BigEndian::write_u32(&mut bytes[4..], x.sender.0);
+    BigEndian::write_u16(&mut bytes[10..], x.lsp);
+    bytes
+}
+
 fn write_as(out: &mut Vec<u8>, class: u8, x: &SenderRef) -> Result<(), OutOfMemory>
     ensures { Appends out.old out.new (object class 7 (sender_bytes x.now)) result }
 {
-    out.reserve(12)?;
-    put_header(out, 12, class, 7);
-    put_u32(out, x.sender.0);
-    put_u16(out, 0);
-    put_u16(out, x.lsp);
+    out.extend_from_slice(&object_of(class, x))?;
     Ok(())
 }
 

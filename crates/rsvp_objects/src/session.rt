@@ -1,6 +1,6 @@
 //! SESSION of an LSP tunnel (RFC 3209, section 4.6.1.1).
 
-ghost use Rattle.std.specs.Prelude.{◌<◌, ◌^◌};
+ghost use Rattle.std.specs.Prelude.{◌≡◌, ◌<◌, ◌^◌};
 ghost use Rattle.wire_buf.specs.Codecs.{Appends, Reads};
 ghost use Rattle.wire_buf.specs.Objects.{object};
 ghost use Rattle.rsvp_objects.specs.declared.session.Session.{Session};
@@ -8,7 +8,6 @@ ghost use Rattle.rsvp_objects.specs.Bodies.{IsSession, session_bytes};
 
 use ason_base::{NodeId, OutOfMemory};
 use byteorder::{BigEndian, ByteOrder};
-use wire_buf::{put_header, put_u16, put_u32};
 
 /// The tunnel that a message is about: its egress, its number at the ingress, and the extended tunnel id.
 #[derive(Clone, Copy, Drop)]
@@ -32,16 +31,22 @@ pub fn read_session(body: &[u8]) -> Option<Session>
     })
 }
 
+/// The SESSION object.
+fn object_of(x: &Session) -> [u8; 16]
+    ensures { result ≡ object 1 7 (session_bytes x.now) }
+{
+    let mut bytes = [0, 16, 1, 7, 0, 0, 0, 0, 0, 0, 0, 0, 0, 0, 0, 0];
+    BigEndian::write_u32(&mut bytes[4..], x.endpoint.0);
+    BigEndian::write_u16(&mut bytes[10..], x.tunnel);
+    BigEndian::write_u32(&mut bytes[12..], x.extended);
+    bytes
+}
+
 /// Appends the SESSION object.
 pub fn write_session(out: &mut Vec<u8>, x: &Session) -> Result<(), OutOfMemory>
     ensures { Appends out.old out.new (object 1 7 (session_bytes x.now)) result }
 {
-    out.reserve(16)?;
-    put_header(out, 16, 1, 7);
-    put_u32(out, x.endpoint.0);
-    put_u16(out, 0);
-    put_u16(out, x.tunnel);
-    put_u32(out, x.extended);
+    out.extend_from_slice(&object_of(x))?;
     Ok(())
 }
 

@@ -1,13 +1,13 @@
 //! The IF_INDEX among the TLVs of an interface (RFC 3471, section 9.1).
 
-ghost use Rattle.std.specs.Prelude.{◌≡◌, ◌≤◌, ◌+◌, ◌++◌, [], ◌∷◌, length, vec_len, vec_capacity};
+ghost use Rattle.std.specs.Prelude.{◌≡◌, [], ◌∷◌, length};
 ghost use Rattle.std.specs.Option.{option_to_list};
 ghost use Rattle.wire_buf.specs.Codecs.{Reads};
 ghost use Rattle.rsvp_objects.specs.Tlvs.{HasIfIndexes, if_index_bytes, link_in};
 
 use ason_base::{LinkId, NodeId};
 use byteorder::{BigEndian, ByteOrder};
-use wire_buf::{at_most_one, put_u16, put_u32};
+use wire_buf::at_most_one;
 
 /// The type of an IF_INDEX.
 const IF_INDEX: u16 = 3;
@@ -44,15 +44,13 @@ pub(crate) fn one_if_index(tlvs: &[u8]) -> Option<LinkId>
     }
 }
 
-/// Appends an IF_INDEX in the room that is reserved.
-pub(crate) fn put_if_index(out: &mut Vec<u8>, node: NodeId, link: LinkId)
-    requires { vec_len out.old + 12 ≤ vec_capacity out.old }
-    ensures items { out.new.items ≡ out.old.items ++ if_index_bytes node link }
-    ensures len { vec_len out.new ≡ vec_len out.old + 12 }
-    ensures capacity { vec_capacity out.old ≤ vec_capacity out.new }
+/// The IF_INDEX of this node and this link.
+pub(crate) fn if_index_bytes(node: NodeId, link: LinkId) -> [u8; 12]
+    ensures { result ≡ if_index_bytes node link }
 {
-    put_u16(out, IF_INDEX);
-    put_u16(out, 12);
-    put_u32(out, node.0);
-    put_u32(out, link.0);
+    let mut bytes = [0, 0, 0, 12, 0, 0, 0, 0, 0, 0, 0, 0];
+    BigEndian::write_u16(&mut bytes, IF_INDEX);
+    BigEndian::write_u32(&mut bytes[4..], node.0);
+    BigEndian::write_u32(&mut bytes[8..], link.0);
+    bytes
 }
