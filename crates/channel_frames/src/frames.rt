@@ -1,17 +1,19 @@
 //! Frames on a control channel: one byte, which tells what follows, and a body.
 
-ghost use Rattle.std.specs.Prelude.{◌≡◌, ◌∷◌, ◌++◌, OnOk};
+ghost use Rattle.std.specs.Prelude.{◌≡◌, ◌∷◌, ◌++◌, IfNone, IfSome, OnOk};
 ghost use Rattle.wire_buf.specs.Codecs.{Decodes};
 ghost use Rattle.rsvp_messages.specs.Writable.{IsWritable};
 ghost use Rattle.rsvp_messages.specs.Written.{written};
-ghost use Rattle.channel_frames.specs.Frames.{CanBeWritten, IsFrame, frame_bytes};
+ghost use Rattle.channel_frames.specs.Bodies.{IsBody};
+ghost use Rattle.channel_frames.specs.Frames.{CanBeWritten, IsFrame, SpellsNothing, frame_bytes};
 ghost use Rattle.channel_frames.specs.declared.frames.Content.{Content};
 ghost use Rattle.flood.specs.Messages as floods;
 ghost use Rattle.flood.specs.Messages.{flood_bytes};
 
+use crate::content_ref::{ContentRef, Parts};
 use ason_base::{DecodeError, NodeId, OutOfMemory, Packet};
-use flood::{FloodMsg, append_flood, decode_flood};
-use rsvp_messages::{decode, encode_into, room_for};
+use flood::{FloodMsg, FloodRef, append_flood_ref, decode_flood};
+use rsvp_messages::{PacketRef, decode, encode_ref_into};
 use std::alloc::Global;
 
 /// The first byte of a frame that bears an RSVP message: RSVP's number among the protocols over IP.
@@ -49,52 +51,72 @@ fn read_flood(alloc: Global, body: &[u8]) -> Result<Content, DecodeError>
     }
 }
 
+/// What follows the first byte of a frame, by that byte.
+#[derive(Clone, Copy, Drop)]
+pub enum Body<'a> {
+    /// The bytes of an RSVP message.
+    Message(&'a [u8]),
+    /// The bytes of a flood message.
+    Flood(&'a [u8]),
+}
+
+/// The body of a frame. None only where its bytes spell nothing.
+pub fn body_of(bytes: &[u8]) -> Option<Body<'_>>
+    ensures some { IfSome result (λ body. IsBody bytes.now body) }
+    ensures none { IfNone result (SpellsNothing bytes.now) }
+{
+    let (first, body) = bytes.split_first()?;
+    match *first {
+        RSVP => Some(Body::Message(body)),
+        FLOOD => Some(Body::Flood(body)),
+        _ => None,
+    }
+}
+
 /// What the bytes of a frame spell.
 pub fn read_frame(alloc: Global, bytes: &[u8]) -> Result<Content, DecodeError>
     ensures { Decodes (IsFrame bytes.now) result }
 {
-    let Some((first, body)) = bytes.split_first() else {
-        return Err(DecodeError::NotMessage);
-    };
-    if *first == RSVP {
-        read_message(alloc, body)
-    } else if *first == FLOOD {
-        read_flood(alloc, body)
-    } else {
-        Err(DecodeError::NotMessage)
+    match body_of(bytes) {
+        Some(Body::Message(body)) => read_message(alloc, body),
+        Some(Body::Flood(body)) => read_flood(alloc, body),
+        None => Err(DecodeError::NotMessage),
     }
 }
 
 // Appends the frame of a packet.
-fn write_message(out: &mut Vec<u8>, me: NodeId, p: &Packet) -> Result<(), OutOfMemory>
+fn write_message(out: &mut Vec<u8>, me: NodeId, p: &PacketRef<'_>) -> Result<(), OutOfMemory>
     requires { IsWritable p.now }
     ensures written { OnOk result (out.new.items ≡ out.old.items ++ 46 ∷ written me p.now) }
     ensures spelled { OnOk result (IsFrame (46 ∷ written me p.now) (Content.Message p.now)) }
 {
-    out.reserve(1 + room_for(p))?;
     out.push(RSVP)?;
-    encode_into(out, me, p)
+    encode_ref_into(out, me, p)
 }
 
 // Appends the frame of a flood message.
-fn write_flood(out: &mut Vec<u8>, m: &FloodMsg) -> Result<(), OutOfMemory>
+fn write_flood(out: &mut Vec<u8>, m: &FloodRef<'_>) -> Result<(), OutOfMemory>
     requires { floods.CanBeWritten m.now }
     ensures written { OnOk result (out.new.items ≡ out.old.items ++ 89 ∷ flood_bytes m.now) }
     ensures spelled { OnOk result (IsFrame (89 ∷ flood_bytes m.now) (Content.Flood m.now)) }
 {
     out.push(FLOOD)?;
-    append_flood(out, m)
+    append_flood_ref(out, m)
 }
 
 /// Appends the frame that a node sends. After want of memory there may be a part of it.
-pub fn write_frame(out: &mut Vec<u8>, me: NodeId, content: &Content) -> Result<(), OutOfMemory>
+pub fn write_frame(
+    out: &mut Vec<u8>,
+    me: NodeId,
+    content: &ContentRef<'_>,
+) -> Result<(), OutOfMemory>
     requires { CanBeWritten content.now }
     ensures written { OnOk result (out.new.items ≡ out.old.items ++ frame_bytes me content.now) }
     // What is written is read as the same again.
     ensures spelled { OnOk result (IsFrame (frame_bytes me content.now) content.now) }
 {
-    match content {
-        Content::Message(p) => write_message(out, me, p),
-        Content::Flood(m) => write_flood(out, m),
+    match &content.parts {
+        Parts::Message(p) => write_message(out, me, p),
+        Parts::Flood(m) => write_flood(out, m),
     }
 }

@@ -1,7 +1,6 @@
 -- A row that a flood brings: that the node may learn it, and what it knows then.
 use Rattle.std.proofs.Common.{◌≡◌, ◌≢◌, ◌≤◌, ◌+◌, ◌-◌, ℕ, Bool, true, false, cond, not, nat_eq, List, [], ◌∷◌, ◌++◌, length, take, refl, sym, ap, ◌∙◌, subst, arith}
 use Rattle.std.specs.Prelude.{◌&&◌, ◌||◌, Some, None}
-use Rattle.std.specs.List.{AllByRecursion}
 use Rattle.std.proofs.lemmas.List.{length-append}
 use Rattle.ason_base.specs.declared.ids.NodeId.{NodeId}
 use Rattle.ason_base.specs.declared.messages.Msg.{Msg}
@@ -9,7 +8,7 @@ use Rattle.ason_base.specs.declared.network.TeRow.{TeRow}
 use Rattle.ason_base.specs.Walks.{HaveFewEnds}
 use Rattle.flood.specs.declared.messages.FloodMsg.{FloodMsg}
 use Rattle.flood.specs.declared.messages.FloodMsg.TheVariants.{Row, Ack}
-use Rattle.flood.specs.Messages.{CanBeWritten, SpellsFlood}
+use Rattle.flood.specs.Messages.{SpellsFlood}
 use Rattle.flood.specs.State.{FloodState, has_room, is_end, is_known, is_new, learnt_of}
 use Rattle.flood.proofs.FewEnds.{room_is_for_few}
 use Rattle.flood.proofs.ReadAgain.{read_is_writable}

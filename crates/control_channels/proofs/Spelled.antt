@@ -3,7 +3,6 @@ use Rattle.std.proofs.Common.{◌≡◌, ◌+◌, ℕ, List, ◌∷◌, ◌++◌
 use Rattle.std.specs.Prelude.{Option, None}
 use Rattle.ason_base.specs.declared.ids.NodeId.{NodeId}
 use Rattle.ason_base.specs.declared.messages.Msg.{Msg}
-use Rattle.ason_base.specs.declared.messages.Packet.{Packet}
 use Rattle.ason_base.specs.declared.tables.Out.{Out}
 use Rattle.hop_reliable.proofs.Members.{each-append}
 use Rattle.hop_reliable.specs.Hop.{HopState, numbered}
@@ -13,7 +12,7 @@ use Rattle.channel_frames.specs.declared.frames.Content.TheVariants.{Message}
 use Rattle.channel_frames.specs.Frames.{IsFrame, frame_bytes}
 use Rattle.control_channels.specs.declared.adjacencies.Adjacency.{Adjacency}
 use Rattle.control_channels.specs.declared.frames.Frame.{Frame}
-use Rattle.control_channels.specs.Adjacencies.{hop_at, next_at, packets_on, rested, sendings_to, sent_one}
+use Rattle.control_channels.specs.Adjacencies.{hop_at, next_at, packets_on, rested, sent_one}
 use Rattle.control_channels.specs.Answers.{body_answer}
 use Rattle.control_channels.specs.Frames.{AllSpelled, Sending, sent_frame}
 use Rattle.control_channels.proofs.Preparing.{next-hops}
@@ -24,15 +23,6 @@ frame-spelled me to f c is spelled = subst (λ (g : Frame). IsFrame g.bytes c) i
 
 pub both-spelled : (me : NodeId) (xs ys : List Sending) → AllSpelled me xs → AllSpelled me ys → AllSpelled me (xs ++ ys)
 both-spelled me xs ys = each-append (λ (s : Sending). IsFrame (frame_bytes me s.content) s.content) xs ys
-
--- one packet less is left to send
-pub packet-spelled : (me to : NodeId) (f : Frame) (p : Packet) (left all now : List Packet) → now ≡ p ∷ left →
-    f ≡ sent_frame me to (Message p) → IsFrame f.bytes (Message p) →
-    (AllSpelled me (sendings_to to now) → AllSpelled me (sendings_to to all)) →
-    AllSpelled me (sendings_to to left) → AllSpelled me (sendings_to to all)
-packet-spelled me to f p left all now items is spelled whole rest =
-    whole (subst (λ ps. AllSpelled me (sendings_to to ps)) (sym items)
-    (frame-spelled me to f (Message p) is spelled, rest))
 
 -- one message less is left to send
 pub message-spelled : (me : NodeId) (hops after start : ℕ → HopState) (o : Out) (left all now : List Out) (f : Frame) →

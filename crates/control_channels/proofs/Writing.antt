@@ -1,8 +1,6 @@
 -- What has a written form.
-use Rattle.std.proofs.Common.{◌≡◌, ◌≤◌, ◌+◌, ℕ, Bool, true, false, cond, List, [], ◌∷◌, ◌++◌, length, map, filter, sym, ap, ◌∙◌, subst, arith, append_assoc}
+use Rattle.std.proofs.Common.{◌≡◌, ◌≤◌, ◌+◌, ℕ, List, [], ◌∷◌, length, sym, subst, arith}
 use Rattle.std.specs.Prelude.{Option, Some, None}
-use Rattle.std.specs.List.{AllByRecursion}
-use Rattle.ason_base.specs.declared.ids.NodeId.{NodeId}
 use Rattle.ason_base.specs.declared.messages.Msg.{Msg}
 use Rattle.ason_base.specs.declared.messages.Msg.TheVariants.{Path, Resv, PathTear, PathErr, Notify}
 use Rattle.ason_base.specs.declared.messages.Packet.{Packet}
@@ -12,18 +10,13 @@ use Rattle.ason_base.specs.declared.steps.Step.{Step}
 use Rattle.ason_base.specs.Writable.{IsWritableMsg, IsWritableRole}
 use Rattle.channel_frames.specs.declared.frames.Content.TheVariants.{Message}
 use Rattle.channel_frames.specs.Frames.{CanBeWritten, IsFrame}
-use Rattle.hop_reliable.specs.declared.unacked.Unacked.{Unacked}
-use Rattle.hop_reliable.specs.Ages.{is_due, older_age}
-use Rattle.hop_reliable.specs.Hop.{HopState, again, numbered, older, resent}
+use Rattle.hop_reliable.specs.Hop.{numbered}
 use Rattle.mesh_nodes.specs.Sent.{CanBePassedOn}
 use Rattle.rsvp_messages.specs.Messages.{HasRole, HasRoute, SpellsMsg}
 use Rattle.rsvp_messages.specs.Objects.{Object}
 use Rattle.rsvp_messages.specs.Packets.{SpellsBody}
 use Rattle.rsvp_messages.specs.Writable.{IsWritable}
-use Rattle.control_channels.specs.Adjacencies.{CanGoAgain, sendings_to}
 use Rattle.control_channels.specs.Answers.{BodyCanBePassedOn}
-use Rattle.control_channels.specs.Frames.{frames_to, sent_frame}
-use Rattle.control_channels.specs.declared.frames.Frame.{Frame}
 
 -- Numbered messages
 
@@ -33,22 +26,6 @@ numbered-writable n m w = record { id = omega arith; acks = λ k d h. absurd (om
 pub next-writable : (n : ℕ) (m : Msg) (p : Packet) → IsWritableMsg m → p ≡ numbered (n + 1) m →
     CanBeWritten (Message p)
 next-writable n m p w e = subst IsWritable (sym e) (numbered-writable (n + 1) m w)
-
-again-writable : (ws : List Unacked) → AllByRecursion (λ (w : Unacked). IsWritableMsg w.msg) ws →
-    AllByRecursion IsWritable (again (map older ws))
-again-writable [] f = tt
-again-writable (w ∷ ws) f = go (is_due (older_age w.age)) (again-writable ws f.1)
-  where
-    rest : List Unacked
-    rest = filter (λ (v : Unacked). is_due v.age) (map older ws)
-
-    go : (b : Bool) → AllByRecursion IsWritable (again (map older ws)) →
-        AllByRecursion IsWritable (map (λ (v : Unacked). numbered v.number v.msg) (cond b (older w ∷ rest) rest))
-    go true later = (numbered-writable w.number w.msg f.0, later)
-    go false later = later
-
-pub resent-writable : (h : HopState) (ps : List Packet) → CanGoAgain h → ps ≡ resent h → AllByRecursion IsWritable ps
-resent-writable h ps f e = subst (AllByRecursion IsWritable) (sym e) (again-writable h.unacked f)
 
 -- What is read can be passed on
 
@@ -73,14 +50,3 @@ passed-on bytes p (body, is, spelled) = go p.body spelled.1.packet.body
     go : (b : Option Msg) → SpellsBody spelled.0 p.id p.acks b → BodyCanBePassedOn b
     go None s = tt
     go (Some m) s = passed-msg spelled.0 m s.1
-
--- Frames at the end of a list
-
-pub framed-on : (me to : NodeId) (fs new first : List Frame) (f : Frame) (p : Packet) (rest all : List Packet) →
-    f ≡ sent_frame me to (Message p) → new ≡ fs ++ f ∷ [] →
-    fs ++ frames_to me (sendings_to to (p ∷ rest)) ≡ first ++ frames_to me (sendings_to to all) →
-    new ++ frames_to me (sendings_to to rest) ≡ first ++ frames_to me (sendings_to to all)
-framed-on me to fs new first f p rest all is pushed h =
-    ap (λ n. n ++ frames_to me (sendings_to to rest)) pushed ∙
-    append_assoc fs (f ∷ []) (frames_to me (sendings_to to rest))
-    ∙ ap (λ g. fs ++ g ∷ frames_to me (sendings_to to rest)) is ∙ h

@@ -1,10 +1,8 @@
 -- The frames that a controller sends.
-use Rattle.std.specs.Prelude.{List, map, Option, None}
+use Rattle.std.specs.Prelude.{List, map}
 use Rattle.std.specs.List.{AllByRecursion}
 use Rattle.ason_base.specs.declared.ids.NodeId.{NodeId}
-use Rattle.ason_base.specs.declared.messages.Msg.{Msg}
 use Rattle.channel_frames.specs.declared.frames.Content.{Content}
-use Rattle.channel_frames.specs.declared.frames.Content.TheVariants.{Message, Flood}
 use Rattle.channel_frames.specs.Frames.{IsFrame, frame_bytes}
 use Rattle.control_channels.specs.declared.frames.Frame.{Frame}
 
@@ -12,11 +10,6 @@ use Rattle.control_channels.specs.declared.frames.Frame.{Frame}
 pub record Sending : Type 0 where
   pub to : NodeId
   pub content : Content
-
--- the message that it bears, if it does
-abbrev pub message_in : Content → Option Msg
-message_in (Message p) = p.body
-message_in (Flood m) = None
 
 -- the frame that a node sends
 abbrev pub sent_frame : NodeId → NodeId → Content → Frame

@@ -6,17 +6,18 @@ ghost use Rattle.std.specs.List.{AllByRecursion, flat_map};
 ghost use Rattle.ason_base.specs.Writable.{IsWritableMsg};
 ghost use Rattle.channel_frames.specs.declared.frames.Content.{Content};
 ghost use Rattle.channel_frames.specs.Frames.{IsFrame, frame_bytes};
-ghost use Rattle.hop_reliable.specs.Hop.{heard_as, last_number, numbered, with_next};
+ghost use Rattle.hop_reliable.specs.Hop.{again, heard_as, last_number, numbered, older, with_next};
 ghost use Rattle.rsvp_messages.specs.Writable.{IsWritable};
 ghost use Rattle.control_channels.specs.declared.adjacencies.Adjacency.{Adjacency};
 ghost use Rattle.control_channels.specs.Adjacencies.{AllCanGo, CanGoAgain, IsChangedAt, adjacency_at, aged, again_to, committed, hop_at, is_to, next_at, packets_on, peer_numbers, prepared_at, reaches, rested, sendings_to, sent_on, sent_one, taken_at, taken_by};
-ghost use Rattle.control_channels.specs.Frames.{AllSpelled, frames_to, message_in, sent_frame};
+ghost use Rattle.control_channels.specs.Frames.{AllSpelled, frames_to, sent_frame};
 ghost use Rattle.control_channels.specs.ReadyControllers.{unacknowledged};
 
 use crate::frames::{Frame, FrameMaker};
 use ason_base::{Msg, MsgId, NodeId, Out, OutOfMemory, Packet};
-use channel_frames::Content;
-use hop_reliable::{Heard, Hop};
+use channel_frames::ContentRef;
+use hop_reliable::{Heard, Hop, Unacked};
+use rsvp_messages::PacketRef;
 use std::alloc::Global;
 
 /// The hop to one neighbour.
@@ -90,19 +91,6 @@ pub fn take(adjacencies: &mut [Adjacency], from: NodeId, heard: Heard, acks: &[M
 
 // Sending
 
-// The message that the content of a frame bears, if it does.
-fn message_in(content: Content) -> Option<Msg>
-    ensures { result ≡ message_in content }
-{
-    match content {
-        Content::Message(packet) => {
-            let (_, body) = packet.into_parts();
-            body
-        }
-        Content::Flood(_) => None,
-    }
-}
-
 // Prepares a message, and frames it as it goes out first.
 fn prepare_framed(
     maker: &mut FrameMaker,
@@ -120,15 +108,14 @@ fn prepare_framed(
     ensures spelled { IfOk result
         (λ f. IsFrame f.bytes (Content.Message (numbered (last_number hop.old + 1) msg))) }
 {
-    let content = Content::Message(hop.next_packet(maker.alloc, msg));
-    let frame = maker.frame(me, to, &content)?;
-    match message_in(content) {
-        None => unreachable!(),
-        Some(msg) => {
-            hop.keep(msg)?;
-            Ok(frame)
-        }
-    }
+    let packet = PacketRef {
+        id: Some(hop.next_id()),
+        acks: &[],
+        body: Some(&msg),
+    };
+    let frame = maker.frame(me, to, &ContentRef::message(packet))?;
+    hop.keep(msg)?;
+    Ok(frame)
 }
 
 fn prepare_at(
@@ -240,37 +227,44 @@ pub(crate) fn frame_one(
     maker: &mut FrameMaker,
     me: NodeId,
     to: NodeId,
-    p: Packet,
+    p: PacketRef<'_>,
     frames: &mut Vec<Frame>,
 ) -> Result<(), OutOfMemory>
     requires { IsWritable p }
     ensures frames { OnOk result
-        (frames.new.items ≡ frames.old.items ++ sent_frame me to (Content.Message p) ∷ []) }
+        (frames.new.items ≡ frames.old.items ++ sent_frame me to (Content.Message p.entry) ∷ []) }
     ensures spelled { OnOk result
-        (IsFrame (frame_bytes me (Content.Message p)) (Content.Message p)) }
+        (IsFrame (frame_bytes me (Content.Message p.entry)) (Content.Message p.entry)) }
 {
-    let frame = maker.frame(me, to, &Content::Message(p))?;
+    let frame = maker.frame(me, to, &ContentRef::message(p))?;
     frames.push(frame)?;
     Ok(())
 }
 
-// The frames of these packets go to the end of the list.
-fn frame_all(
+// The frame of a message that goes again goes to the end of the list.
+fn frame_waiting(
     maker: &mut FrameMaker,
     me: NodeId,
     to: NodeId,
-    packets: Vec<Packet>,
+    waiting: &Unacked,
     frames: &mut Vec<Frame>,
 ) -> Result<(), OutOfMemory>
-    requires { AllByRecursion IsWritable packets.items }
+    requires { IsWritableMsg waiting.now.msg }
     ensures frames { OnOk result
-        (frames.new.items ≡ frames.old.items ++ frames_to me (sendings_to to packets.items)) }
-    ensures spelled { OnOk result (AllSpelled me (sendings_to to packets.items)) }
+        (frames.new.items ≡ frames.old.items ++ frames_to me
+        (sendings_to to (again (older waiting.now ∷ [])))) }
+    ensures spelled { OnOk result
+        (AllSpelled me (sendings_to to (again (older waiting.now ∷ [])))) }
 {
-    for p in packets {
-        frame_one(maker, me, to, p, frames)?;
+    if !waiting.goes_next() {
+        return Ok(());
     }
-    Ok(())
+    let packet = PacketRef {
+        id: Some(waiting.id()),
+        acks: &[],
+        body: Some(&waiting.msg),
+    };
+    frame_one(maker, me, to, packet, frames)
 }
 
 // What the next tick sends again to a neighbour goes to the end of the list.
@@ -285,11 +279,11 @@ fn frame_again(
         (frames.new.items ≡ frames.old.items ++ frames_to me (again_to adjacency.now)) }
     ensures spelled { OnOk result (AllSpelled me (again_to adjacency.now)) }
 {
-    if adjacency.hop.pending() == 0 {
-        return Ok(());
+    let all = adjacency.hop.waiting();
+    for waiting in all {
+        frame_waiting(maker, me, adjacency.peer, waiting, frames)?;
     }
-    let due = adjacency.hop.due(maker.alloc)?;
-    frame_all(maker, me, adjacency.peer, due, frames)
+    Ok(())
 }
 
 /// What the next tick sends again goes to the end of the list, by neighbour and then by number.

@@ -1,12 +1,12 @@
 //! What a node floods: the rows of its own links, and those that are due.
 
-ghost use Rattle.std.specs.Prelude.{◌≡◌, ◌++◌, IfOk, OnOk, map};
+ghost use Rattle.std.specs.Prelude.{◌≡◌, ◌++◌, ◌∷◌, [], IfOk, OnOk, map};
 ghost use Rattle.std.specs.List.{AllByRecursion};
 ghost use Rattle.ason_base.specs.Network.{row_of};
 ghost use Rattle.flood.specs.Messages.{CanBeWritten};
 ghost use Rattle.flood.specs.NetworkLaws.{AreRowsOfLinks};
 ghost use Rattle.flood.specs.Networks.{begun_node, new_flood, nodes_beside};
-ghost use Rattle.flood.specs.State.{sent_at_tick};
+ghost use Rattle.flood.specs.State.{due_to, sent_at_tick, sent_to};
 ghost use Rattle.mesh_rules.specs.LocalNodes.{local_node};
 ghost use Rattle.mesh_rules.specs.State.{new_node};
 ghost use Rattle.control_channels.specs.Controllers.{floods_to};
@@ -16,9 +16,9 @@ ghost use Rattle.control_channels.specs.ReadyControllers.{CanGo, FloodFits};
 use crate::frames::{Frame, FrameMaker};
 use crate::peers::{other_ends, touches};
 use ason_base::{LinkSpec, NodeId, OutOfMemory, TeRow, Topology};
-use channel_frames::Content;
+use channel_frames::ContentRef;
 use flood::laws::every_start;
-use flood::{Flood, FloodSends};
+use flood::{Due, Flood, FloodNeighbour, FloodRef, FloodSends};
 use std::alloc::Global;
 
 // Declares the rows of those of these links that the node is an end of, in order of link.
@@ -68,10 +68,68 @@ pub fn frame_floods(
     ensures spelled { OnOk result (AllSpelled me (floods_to sends)) }
 {
     for (to, m) in sends.into_vec() {
-        let frame = maker.frame(me, to, &Content::Flood(m))?;
+        let frame = maker.frame(me, to, &ContentRef::flood(FloodRef::of(&m)))?;
         frames.push(frame)?;
     }
     Ok(())
+}
+
+// The frame of a row, where the next tick sends it, goes to the end of the list.
+fn frame_row(
+    maker: &mut FrameMaker,
+    me: NodeId,
+    to: NodeId,
+    due: &Due,
+    frames: &mut Vec<Frame>,
+) -> Result<(), OutOfMemory>
+    requires { CanGo due.now }
+    ensures frames { OnOk result (frames.new.items ≡ frames.old.items ++ frames_to me
+        (floods_to (due_to to (due.now ∷ [])))) }
+    ensures spelled { OnOk result (AllSpelled me (floods_to (due_to to (due.now ∷ [])))) }
+{
+    if !due.goes_next() {
+        return Ok(());
+    }
+    let row = FloodRef::row(due.number, due.origin, &due.row);
+    let frame = maker.frame(me, to, &ContentRef::flood(row))?;
+    frames.push(frame)?;
+    Ok(())
+}
+
+// The frames of those of these rows that the next tick sends go to the end of the list.
+fn frame_rows(
+    maker: &mut FrameMaker,
+    me: NodeId,
+    to: NodeId,
+    due: &[Due],
+    frames: &mut Vec<Frame>,
+) -> Result<(), OutOfMemory>
+    requires { AllByRecursion CanGo due.now }
+    ensures frames { OnOk result (frames.new.items ≡ frames.old.items ++ frames_to me
+        (floods_to (due_to to due.now))) }
+    ensures spelled { OnOk result (AllSpelled me (floods_to (due_to to due.now))) }
+{
+    for row in due {
+        frame_row(maker, me, to, row, frames)?;
+    }
+    Ok(())
+}
+
+// The frames of the rows that the next tick sends to a neighbour go to the end of the list.
+fn frame_rows_to(
+    maker: &mut FrameMaker,
+    me: NodeId,
+    neighbour: &FloodNeighbour,
+    frames: &mut Vec<Frame>,
+) -> Result<(), OutOfMemory>
+    requires { AllByRecursion CanGo neighbour.now.due }
+    ensures frames { OnOk result (frames.new.items ≡ frames.old.items ++ frames_to me
+        (floods_to (sent_to neighbour.now))) }
+    ensures spelled { OnOk result (AllSpelled me (floods_to (sent_to neighbour.now))) }
+{
+    let (first, others) = neighbour.due();
+    frame_rows(maker, me, neighbour.id(), first, frames)?;
+    frame_rows(maker, me, neighbour.id(), others, frames)
 }
 
 /// The frames of the rows that the next tick sends go to the end of the list, by neighbour and then by number.
@@ -86,6 +144,9 @@ pub fn frame_floods_due(
         (frames.new.items ≡ frames.old.items ++ frames_to me (floods_to (sent_at_tick flood.now))) }
     ensures spelled { OnOk result (AllSpelled me (floods_to (sent_at_tick flood.now))) }
 {
-    let sends = flood.due(maker.alloc)?;
-    frame_floods(maker, me, sends, frames)
+    let neighbours = flood.neighbours();
+    for neighbour in neighbours {
+        frame_rows_to(maker, me, neighbour, frames)?;
+    }
+    Ok(())
 }

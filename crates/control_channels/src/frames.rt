@@ -1,12 +1,13 @@
 //! The frames that a controller sends.
 
-ghost use Rattle.std.specs.Prelude.{◌≡◌, IfOk};
+ghost use Rattle.std.specs.Prelude.{◌≡◌, [], IfOk};
 ghost use Rattle.channel_frames.specs.Frames.{CanBeWritten, IsFrame};
 ghost use Rattle.control_channels.specs.Frames.{sent_frame};
 
 use ason_base::{Bytes, Items, NodeId, OutOfMemory};
-use channel_frames::{Content, write_frame};
+use channel_frames::{ContentRef, write_frame};
 use std::alloc::Global;
+use std::mem::replace;
 
 /// Bytes on their way to a neighbour.
 #[derive(Drop)]
@@ -18,31 +19,75 @@ pub struct Frame {
 /// Frames, in the order in which they are sent.
 pub type Frames = Items<Frame>;
 
-/// What makes frames: each is written in one buffer that is used again, and its bytes are taken from there.
+/// How many buffers a maker keeps for frames to come.
+const MOST_SPARE: usize = 256;
+
+/// What makes frames. It takes back the lists and the bytes of frames that came to their end, and uses their memory
+/// again.
 pub struct FrameMaker {
     /// Where frames and lists of them get their memory.
     pub alloc: Global,
-    buffer: Vec<u8>,
+    spare: Vec<Vec<u8>>,
+    list: Vec<Frame>,
 }
 
 impl FrameMaker {
-    /// A maker with an empty buffer.
+    /// A maker that keeps no memory yet.
     pub fn new(alloc: Global) -> FrameMaker {
         FrameMaker {
             alloc,
-            buffer: Vec::new(alloc),
+            spare: Vec::new(alloc),
+            list: Vec::new(alloc),
+        }
+    }
+
+    /// A list without frames.
+    pub fn list(&mut self) -> Vec<Frame>
+        ensures { result.items ≡ [] }
+    {
+        let mut list = replace(&mut self.list, Vec::new(self.alloc));
+        list.clear();
+        list
+    }
+
+    /// Takes back a list, whose frames came to their end.
+    pub fn recycle_list(&mut self, list: Vec<Frame>) {
+        self.list = list;
+    }
+
+    /// Takes back the bytes of a frame that came to its end.
+    pub fn recycle_bytes(&mut self, bytes: Bytes) {
+        if self.spare.len() < MOST_SPARE {
+            let _ = self.spare.push(bytes.into_vec());
+        }
+    }
+
+    // A buffer without bytes.
+    fn buffer(&mut self) -> Vec<u8>
+        ensures { result.items ≡ [] }
+    {
+        match self.spare.pop() {
+            Some(mut buffer) => {
+                buffer.clear();
+                buffer
+            }
+            None => Vec::new(self.alloc),
         }
     }
 
     /// What goes from this node to a neighbour.
-    pub fn frame(&mut self, me: NodeId, to: NodeId, content: &Content) -> Result<Frame, OutOfMemory>
+    pub fn frame(
+        &mut self,
+        me: NodeId,
+        to: NodeId,
+        content: &ContentRef<'_>,
+    ) -> Result<Frame, OutOfMemory>
         requires { CanBeWritten content.now }
         ensures frame { IfOk result (λ f. f ≡ sent_frame me to content.now) }
         ensures spelled { IfOk result (λ f. IsFrame f.bytes content.now) }
     {
-        self.buffer.clear();
-        write_frame(&mut self.buffer, me, content)?;
-        let bytes = Vec::from_slice(self.alloc, &self.buffer)?;
+        let mut bytes = self.buffer();
+        write_frame(&mut bytes, me, content)?;
         Ok(Frame {
             to,
             bytes: Bytes::from_vec(bytes),
@@ -54,7 +99,8 @@ impl Drop for FrameMaker {
     fn drop(self) {
         let FrameMaker {
             alloc: _,
-            buffer: _,
+            spare: _,
+            list: _,
         } = self;
     }
 }

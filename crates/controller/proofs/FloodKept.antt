@@ -21,7 +21,6 @@ use Rattle.mesh_rules.specs.State.{NodeState}
 use Rattle.node_rules.specs.Nodes.{NodeView, stepped}
 use Rattle.node_rules.specs.declared.inputs.Input.TheVariants as input
 use Rattle.te_tlv.specs.Written.{IsWritable}
-use Rattle.control_channels.specs.Adjacencies.{neighbours}
 use Rattle.control_channels.specs.Controllers.{with_learnt}
 use Rattle.control_channels.specs.ReadyControllers.{CanGo, FloodFits}
 use Rattle.control_channels.proofs.RowsLearnt.{learnt-rows}

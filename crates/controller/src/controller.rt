@@ -13,7 +13,7 @@ use crate::reactions::react;
 use ason_base::{NodeId, OutOfMemory, TableRows, Topology};
 use control_channels::adjacencies::{pending, reaches};
 use control_channels::peers::adjacencies;
-use control_channels::{Adjacency, CoreInput, FrameMaker, Frames, Pending, begun};
+use control_channels::{Adjacency, CoreInput, Frame, FrameMaker, Frames, Pending, begun};
 use flood::Flood;
 use node_core::Node;
 use std::alloc::Global;
@@ -82,6 +82,23 @@ impl Controller {
         )?;
         self.steps += 1;
         Ok(Frames::from_vec(frames))
+    }
+
+    /// Takes back the list of frames that a step handed back, once they are sent: the next step uses its memory again.
+    pub fn recycle_list(&mut self, frames: Vec<Frame>)
+        ensures { self.new ≡ self.old }
+    {
+        self.maker.recycle_list(frames);
+    }
+
+    /// Takes back the input of a step: frames to come use the memory of its bytes, if it has any.
+    pub fn recycle(&mut self, input: CoreInput)
+        ensures { self.new ≡ self.old }
+    {
+        match input {
+            CoreInput::Frame { from: _, bytes } => self.maker.recycle_bytes(bytes),
+            CoreInput::Tick | CoreInput::Desk(_) => {}
+        }
     }
 
     /// What a table shows of the node: its calls in order of number, its legs in order of LSP.

@@ -15,9 +15,9 @@ ghost use Rattle.control_channels.specs.Frames.{AllSpelled, frames_to};
 ghost use Rattle.control_channels.specs.ReadyControllers.{AllToNeighbours, FloodFits};
 
 use ason_base::{NodeId, OutOfMemory, TeRow};
-use channel_frames::Content;
+use channel_frames::ContentRef;
 use control_channels::{Frame, FrameMaker, frame_floods};
-use flood::{Flood, FloodMsg, FloodOut};
+use flood::{Flood, FloodMsg, FloodOut, FloodRef};
 use node_core::{Input, Node};
 use std::alloc::Global;
 
@@ -112,7 +112,7 @@ fn frame_ack(
     ensures spelled { OnOk result
         (AllSpelled me (floods_to ((to, FloodMsg.Ack number) ∷ []))) }
 {
-    let frame = maker.frame(me, to, &Content::Flood(FloodMsg::Ack { number }))?;
+    let frame = maker.frame(me, to, &ContentRef::flood(FloodRef::ack(number)))?;
     frames.push(frame)?;
     Ok(())
 }
@@ -145,7 +145,7 @@ pub(crate) fn take_flood(
 {
     flood.counts();
     let me = node.id();
-    let mut frames = Vec::new(maker.alloc);
+    let mut frames = maker.list();
     if let Some(number) = known_row(flood, m) {
         frame_ack(maker, me, from, number, &mut frames)?;
         return Ok(frames);

@@ -21,14 +21,15 @@ ghost use Rattle.control_channels.specs.ReadyControllers.{AllToNeighbours, Flood
 
 use crate::floods::take_flood;
 use ason_base::{Copied, DecodeError, DeskItem, Msg, NodeId, Out, OutOfMemory, Packet, copy_all};
-use channel_frames::{Content, read_frame};
+use channel_frames::{Body, body_of};
 use control_channels::adjacencies::{
     age_all, commit_all, discard_all, frame_due, hears, prepare_all, take,
 };
 use control_channels::{Adjacency, CoreInput, Frame, FrameMaker, acknowledge, frame_floods_due};
-use flood::Flood;
+use flood::{Flood, decode_flood};
 use hop_reliable::Heard;
 use node_core::{Change, Input, Node};
+use rsvp_messages::decode;
 
 // Messages that the node sends are prepared, and their frames stand at the end of the list.
 fn prepare_sent(
@@ -235,7 +236,7 @@ fn taken(
     ensures err { OnErr result (adjacencies.new ≡ adjacencies.old) }
 {
     node.fits();
-    let mut frames = Vec::new(maker.alloc);
+    let mut frames = maker.list();
     take_packet(maker, node, adjacencies, &mut frames, from, packet)?;
     Ok(frames)
 }
@@ -272,11 +273,18 @@ fn take_frame(
     ensures err { OnErr result (adjacencies.new ≡ adjacencies.old) }
     ensures err_flood { OnErr result (flood.new ≡ flood.old) }
 {
-    match read_frame(maker.alloc, bytes) {
-        Ok(Content::Message(packet)) => taken(maker, node, adjacencies, from, packet),
-        Ok(Content::Flood(m)) => take_flood(maker, node, flood, from, &m),
-        Err(DecodeError::NotMessage) => Ok(Vec::new(maker.alloc)),
-        Err(DecodeError::OutOfMemory) => Err(OutOfMemory),
+    match body_of(bytes) {
+        None => Ok(maker.list()),
+        Some(Body::Message(body)) => match decode(maker.alloc, body) {
+            Ok(packet) => taken(maker, node, adjacencies, from, packet),
+            Err(DecodeError::NotMessage) => Ok(maker.list()),
+            Err(DecodeError::OutOfMemory) => Err(OutOfMemory),
+        },
+        Some(Body::Flood(body)) => match decode_flood(maker.alloc, body) {
+            Ok(m) => take_flood(maker, node, flood, from, &m),
+            Err(DecodeError::NotMessage) => Ok(maker.list()),
+            Err(DecodeError::OutOfMemory) => Err(OutOfMemory),
+        },
     }
 }
 
@@ -326,7 +334,7 @@ fn handle(
     ensures err { OnErr result (adjacencies.new ≡ adjacencies.old) }
 {
     node.fits();
-    let mut frames = Vec::new(maker.alloc);
+    let mut frames = maker.list();
     give_item(maker, node, adjacencies, &mut frames, item)?;
     commit_all(adjacencies);
     Ok(frames)
@@ -358,7 +366,7 @@ fn tick(
     node.fits();
     flood.counts();
     let me = node.id();
-    let mut frames = Vec::new(maker.alloc);
+    let mut frames = maker.list();
     frame_due(maker, me, adjacencies, &mut frames)?;
     frame_floods_due(maker, me, flood, &mut frames)?;
     give(maker, node, adjacencies, &mut frames, &Input::Tick)?;

@@ -26,8 +26,8 @@ returns-clause-node c =
 pub returns-clause-frames : goal.returns-clause-frames
 returns-clause-frames c =
     answer-frames c.id-me.result c.args.node.now.place.id c.in_ok-out.out.sends
-    (sends_after c.args.flood.now c.args.from c.args.m.now) c.new-frames.result.items c.frame_floods.new.frames.items
-    c.new-frames.ensures.items c.id-me.ensures c.in_ok-out.ensures.sends c.in_ok-frame_floods.ensures.frames
+    (sends_after c.args.flood.now c.args.from c.args.m.now) c.list-frames.result.items c.frame_floods.new.frames.items
+    c.list-frames.ensures c.id-me.ensures c.in_ok-out.ensures.sends c.in_ok-frame_floods.ensures.frames
 
 pub returns-clause-spelled : goal.returns-clause-spelled
 returns-clause-spelled c =
@@ -39,8 +39,8 @@ returns-clause-near c =
     let n = c.args.node.now in
     let sends = sends_after c.args.flood.now c.args.from c.args.m.now in
     subst (AllToNeighbours n.place) (sym (answer-frames c.id-me.result n.place.id c.in_ok-out.out.sends sends
-    c.new-frames.result.items c.frame_floods.new.frames.items
-    c.new-frames.ensures.items c.id-me.ensures c.in_ok-out.ensures.sends c.in_ok-frame_floods.ensures.frames))
+    c.list-frames.result.items c.frame_floods.new.frames.items
+    c.list-frames.ensures c.id-me.ensures c.in_ok-out.ensures.sends c.in_ok-frame_floods.ensures.frames))
     (frames-near n.place n.place.id (floods_to sends)
     (answers-near n.place c.args.flood.now c.args.from c.args.m.now c.requires.fits.neighbours c.requires.from))
 
@@ -49,8 +49,8 @@ returns-clause-few c =
     answer-few c.args.node.now.place.id c.args.flood.now c.args.from c.args.m.now c.frame_floods.new.frames.items
     c.counts.ensures
     (answer-frames c.id-me.result c.args.node.now.place.id c.in_ok-out.out.sends
-    (sends_after c.args.flood.now c.args.from c.args.m.now) c.new-frames.result.items c.frame_floods.new.frames.items
-    c.new-frames.ensures.items c.id-me.ensures c.in_ok-out.ensures.sends c.in_ok-frame_floods.ensures.frames)
+    (sends_after c.args.flood.now c.args.from c.args.m.now) c.list-frames.result.items c.frame_floods.new.frames.items
+    c.list-frames.ensures c.id-me.ensures c.in_ok-out.ensures.sends c.in_ok-frame_floods.ensures.frames)
 
 pub returns-clause-fits : goal.returns-clause-fits
 returns-clause-fits c =
@@ -70,8 +70,8 @@ returns-in-Some-clause-flood c = sym (c.in-Some.ensures.same c.args.from)
 pub returns-in-Some-clause-frames : goal.returns-in-Some-clause-frames
 returns-in-Some-clause-frames c =
     answer-frames c.id-me.result c.args.node.now.place.id ((c.args.from, Ack c.in-Some.number) ∷ [])
-    (sends_after c.args.flood.now c.args.from c.args.m.now) c.new-frames.result.items c.frame_ack.new.frames.items
-    c.new-frames.ensures.items c.id-me.ensures (sym (c.in-Some.ensures.sends c.args.from))
+    (sends_after c.args.flood.now c.args.from c.args.m.now) c.list-frames.result.items c.frame_ack.new.frames.items
+    c.list-frames.ensures c.id-me.ensures (sym (c.in-Some.ensures.sends c.args.from))
     c.in_ok-frame_ack.ensures.frames
 
 pub returns-in-Some-clause-spelled : goal.returns-in-Some-clause-spelled
@@ -85,8 +85,8 @@ returns-in-Some-clause-near c =
     let n = c.args.node.now in
     let sends = sends_after c.args.flood.now c.args.from c.args.m.now in
     subst (AllToNeighbours n.place) (sym (answer-frames c.id-me.result n.place.id
-    ((c.args.from, Ack c.in-Some.number) ∷ []) sends c.new-frames.result.items c.frame_ack.new.frames.items
-    c.new-frames.ensures.items c.id-me.ensures (sym (c.in-Some.ensures.sends c.args.from))
+    ((c.args.from, Ack c.in-Some.number) ∷ []) sends c.list-frames.result.items c.frame_ack.new.frames.items
+    c.list-frames.ensures c.id-me.ensures (sym (c.in-Some.ensures.sends c.args.from))
     c.in_ok-frame_ack.ensures.frames))
     (frames-near n.place n.place.id (floods_to sends)
     (answers-near n.place c.args.flood.now c.args.from c.args.m.now c.requires.fits.neighbours c.requires.from))
@@ -96,6 +96,6 @@ returns-in-Some-clause-few c =
     answer-few c.args.node.now.place.id c.args.flood.now c.args.from c.args.m.now c.frame_ack.new.frames.items
     c.counts.ensures
     (answer-frames c.id-me.result c.args.node.now.place.id ((c.args.from, Ack c.in-Some.number) ∷ [])
-    (sends_after c.args.flood.now c.args.from c.args.m.now) c.new-frames.result.items c.frame_ack.new.frames.items
-    c.new-frames.ensures.items c.id-me.ensures (sym (c.in-Some.ensures.sends c.args.from))
+    (sends_after c.args.flood.now c.args.from c.args.m.now) c.list-frames.result.items c.frame_ack.new.frames.items
+    c.list-frames.ensures c.id-me.ensures (sym (c.in-Some.ensures.sends c.args.from))
     c.in_ok-frame_ack.ensures.frames)

@@ -14,9 +14,9 @@ pub returns-clause-made : goal.returns-clause-made
 returns-clause-made c =
     handled-made c.args.node.now c.give_item.new.node c.args.adjacencies.now c.give_item.new.adjacencies
     c.commit_all.new.adjacencies c.args.item.now c.args.item.now
-    c.new-frames.result.items c.give_item.new.frames.items refl c.in_ok-give_item.ensures.node
+    c.list-frames.result.items c.give_item.new.frames.items refl c.in_ok-give_item.ensures.node
     c.in_ok-give_item.ensures.hops c.in_ok-give_item.ensures.rest
-    c.commit_all.ensures c.new-frames.ensures.items c.in_ok-give_item.ensures.frames c.in_ok-give_item.ensures.spelled
+    c.commit_all.ensures c.list-frames.ensures c.in_ok-give_item.ensures.frames c.in_ok-give_item.ensures.spelled
 
 pub returns-clause-kept : goal.returns-clause-kept
 returns-clause-kept c = λ k kept.
@@ -39,9 +39,9 @@ pub returns-clause-few : goal.returns-clause-few
 returns-clause-few c =
     let n = c.args.node.now in
     frames-few n.place n.place.id [] (hop_at c.args.adjacencies.now) (on_item n.place n.state c.args.item.now)
-    c.new-frames.result.items c.give_item.new.frames.items (omega arith)
+    c.list-frames.result.items c.give_item.new.frames.items (omega arith)
     (item-sent n.place n.state c.args.item.now c.fits.ensures.place c.fits.ensures.state)
-    c.new-frames.ensures.items c.in_ok-give_item.ensures.frames
+    c.list-frames.ensures c.in_ok-give_item.ensures.frames
 
 pub returns-clause-learnt : goal.returns-clause-learnt
 returns-clause-learnt c =

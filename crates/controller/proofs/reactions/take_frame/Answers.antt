@@ -1,6 +1,8 @@
-use Rattle.std.proofs.Common.{◌≡◌, ◌+◌, ◌∙◌, ap, refl, sym, subst, Err, Vec, Global}
+use Rattle.std.proofs.Common.{◌≡◌, ◌+◌, ◌∷◌, ◌∙◌, ap, refl, sym, subst, Err, Vec, Global}
 use Rattle.channel_frames.specs.declared.frames.Content.{Content}
+use Rattle.channel_frames.specs.Bodies.{IsBody}
 use Rattle.channel_frames.specs.Frames.{IsFrame}
+use Rattle.channel_frames.proofs.FrameBodies.{flood_once, message_once, no_message}
 use Rattle.ason_base.proofs.Results.{if_ok, on_ok, on_ok_always}
 use Rattle.channel_frames.specs.declared.frames.Content.TheVariants.{Message, Flood}
 use Rattle.control_channels.specs.declared.frames.Frame.{Frame}
@@ -12,25 +14,21 @@ use Rattle.control_channels.proofs.Keeping.{kept-still}
 use Rattle.control_channels.proofs.Writing.{passed-on}
 use Rattle.controller.proofs.reactions.take_frame.Goals as goal
 
+-- A message
+
 pub taken-requires-clause-body : goal.taken-requires-clause-body
 taken-requires-clause-body c =
-    passed-on c.args.bytes.now c.in-Ok-Message.packet
-    (subst (IsFrame c.args.bytes.now) c.in-Ok-Message.field-0-is c.in-Ok-Message.ensures.found)
+    let behind : c.args.bytes.now ≡ 46 ∷ c.in-Some-Message.body.now =
+    subst (IsBody c.args.bytes.now) c.in-Some-Message.field-0-is c.in-Some-Message.ensures.some in
+    passed-on c.args.bytes.now c.in-Ok.packet (c.in-Some-Message.body.now, behind, c.in-Ok.ensures.found)
 
-pub returns-in-Err-NotMessage-clause-kept : goal.returns-in-Err-NotMessage-clause-kept
-returns-in-Err-NotMessage-clause-kept c = λ k kept. kept-still c.args.node.now.place c.args.adjacencies.now k kept
-
-pub returns-in-Err-NotMessage-clause-content : goal.returns-in-Err-NotMessage-clause-content
-returns-in-Err-NotMessage-clause-content c = λ x f.
-    absurd (c.in-Err-NotMessage.ensures.not_message (ap Err c.in-Err-NotMessage.field-0-is) x f)
-
-pub take_flood-requires-clause-spelled : goal.take_flood-requires-clause-spelled
-take_flood-requires-clause-spelled c =
-    let is = subst (IsFrame c.args.bytes.now) c.in-Ok-Flood.field-0-is c.in-Ok-Flood.ensures.found in (is.0, is.2)
-
-pub returns-in-Ok-Message-clause-content : goal.returns-in-Ok-Message-clause-content
-returns-in-Ok-Message-clause-content c = λ x f.
-    let same : Message c.in-Ok-Message.packet ≡ x = sym c.in-Ok-Message.field-0-is ∙ c.in-Ok-Message.ensures.only x f in
+pub returns-in-Ok-clause-content : goal.returns-in-Ok-clause-content
+returns-in-Ok-clause-content c =
+    let behind : c.args.bytes.now ≡ 46 ∷ c.in-Some-Message.body.now =
+    subst (IsBody c.args.bytes.now) c.in-Some-Message.field-0-is c.in-Some-Message.ensures.some in
+    λ x f. let same : Message c.in-Ok.packet ≡ x =
+    message_once c.in-Some-Message.body.now c.in-Ok.packet c.in-Ok.ensures.only x
+    (subst (λ bs. IsFrame bs x) behind f) in
     if_ok c.taken.result _ _ (λ fs made. subst (λ (y : Content). AreMade
     (parts c.args.node.now c.args.adjacencies.now c.args.flood.now)
     (parts c.taken.new.node c.taken.new.adjacencies c.args.flood.now)
@@ -38,28 +36,81 @@ returns-in-Ok-Message-clause-content c = λ x f.
     (flood_after c.args.flood.now c.args.from y) fs.items) same (record { made = made; flood = refl }))
     c.taken.ensures.made
 
-pub returns-in-Ok-Message-clause-fits : goal.returns-in-Ok-Message-clause-fits
-returns-in-Ok-Message-clause-fits c =
+pub returns-in-Ok-clause-noise : goal.returns-in-Ok-clause-noise
+returns-in-Ok-clause-noise c =
+    let behind : c.args.bytes.now ≡ 46 ∷ c.in-Some-Message.body.now =
+    subst (IsBody c.args.bytes.now) c.in-Some-Message.field-0-is c.in-Some-Message.ensures.some in
+    λ none. absurd (none (Message c.in-Ok.packet) (c.in-Some-Message.body.now, behind, c.in-Ok.ensures.found))
+
+pub returns-in-Ok-clause-one : goal.returns-in-Ok-clause-one
+returns-in-Ok-clause-one c =
+    let behind : c.args.bytes.now ≡ 46 ∷ c.in-Some-Message.body.now =
+    subst (IsBody c.args.bytes.now) c.in-Some-Message.field-0-is c.in-Some-Message.ensures.some in
+    let once = message_once c.in-Some-Message.body.now c.in-Ok.packet c.in-Ok.ensures.only in
+    on_ok_always c.taken.result _ (λ x y f g.
+    sym (once x (subst (λ bs. IsFrame bs x) behind f))
+    ∙ once y (subst (λ bs. IsFrame bs y) behind g))
+
+pub returns-in-Ok-clause-fits : goal.returns-in-Ok-clause-fits
+returns-in-Ok-clause-fits c =
     on_ok c.taken.result _ _
     (λ learnt. fits-kept c.args.node.now c.taken.new.node c.args.flood.now c.taken.ensures.place learnt c.requires.fits)
     c.taken.ensures.learnt
 
-pub returns-in-Ok-Message-clause-noise : goal.returns-in-Ok-Message-clause-noise
-returns-in-Ok-Message-clause-noise c = λ none. absurd (none c.in-Ok-Message.field-0 c.in-Ok-Message.ensures.found)
+pub returns-in-Err-NotMessage-clause-content : goal.returns-in-Err-NotMessage-clause-content
+returns-in-Err-NotMessage-clause-content c =
+    let behind : c.args.bytes.now ≡ 46 ∷ c.in-Some-Message.body.now =
+    subst (IsBody c.args.bytes.now) c.in-Some-Message.field-0-is c.in-Some-Message.ensures.some in
+    λ x f. absurd (no_message c.in-Some-Message.body.now
+    (c.in-Err-NotMessage.ensures.not_message (ap Err c.in-Err-NotMessage.field-0-is)) x
+    (subst (λ bs. IsFrame bs x) behind f))
 
-pub returns-in-Ok-Flood-clause-noise : goal.returns-in-Ok-Flood-clause-noise
-returns-in-Ok-Flood-clause-noise c = λ none. absurd (none c.in-Ok-Flood.field-0 c.in-Ok-Flood.ensures.found)
+pub returns-in-Err-NotMessage-clause-one : goal.returns-in-Err-NotMessage-clause-one
+returns-in-Err-NotMessage-clause-one c =
+    let behind : c.args.bytes.now ≡ 46 ∷ c.in-Some-Message.body.now =
+    subst (IsBody c.args.bytes.now) c.in-Some-Message.field-0-is c.in-Some-Message.ensures.some in
+    λ x y f g. absurd (no_message c.in-Some-Message.body.now
+    (c.in-Err-NotMessage.ensures.not_message (ap Err c.in-Err-NotMessage.field-0-is)) x
+    (subst (λ bs. IsFrame bs x) behind f))
 
-pub returns-in-Ok-Flood-clause-kept : goal.returns-in-Ok-Flood-clause-kept
-returns-in-Ok-Flood-clause-kept c = λ k kept.
+pub returns-in-Err-NotMessage-clause-kept : goal.returns-in-Err-NotMessage-clause-kept
+returns-in-Err-NotMessage-clause-kept c = λ k kept. kept-still c.args.node.now.place c.args.adjacencies.now k kept
+
+-- A flood message
+
+pub take_flood-requires-clause-spelled : goal.take_flood-requires-clause-spelled
+take_flood-requires-clause-spelled c = (c.in-Some-Flood.body.now, c.in-Ok-decode_flood.ensures.found)
+
+pub returns-in-Ok-decode_flood-clause-content : goal.returns-in-Ok-decode_flood-clause-content
+returns-in-Ok-decode_flood-clause-content c =
+    let behind : c.args.bytes.now ≡ 89 ∷ c.in-Some-Flood.body.now =
+    subst (IsBody c.args.bytes.now) c.in-Some-Flood.field-0-is c.in-Some-Flood.ensures.some in
+    λ x f. let same : Flood c.in-Ok-decode_flood.m ≡ x =
+    flood_once c.in-Some-Flood.body.now c.in-Ok-decode_flood.m c.in-Ok-decode_flood.ensures.only x
+    (subst (λ bs. IsFrame bs x) behind f) in
+    flood-made c.take_flood.result (λ (v : Vec Frame Global). v.items) c.args.node.now c.take_flood.new.node
+    c.args.adjacencies.now c.args.flood.now c.take_flood.new.flood c.args.from c.in-Ok-decode_flood.m x same
+    c.requires.ready.rest c.take_flood.ensures.place c.take_flood.ensures.node c.take_flood.ensures.flood
+    c.take_flood.ensures.frames c.take_flood.ensures.spelled
+
+pub returns-in-Ok-decode_flood-clause-noise : goal.returns-in-Ok-decode_flood-clause-noise
+returns-in-Ok-decode_flood-clause-noise c =
+    let behind : c.args.bytes.now ≡ 89 ∷ c.in-Some-Flood.body.now =
+    subst (IsBody c.args.bytes.now) c.in-Some-Flood.field-0-is c.in-Some-Flood.ensures.some in
+    λ none. absurd (none (Flood c.in-Ok-decode_flood.m)
+    (c.in-Some-Flood.body.now, behind, c.in-Ok-decode_flood.ensures.found))
+
+pub returns-in-Ok-decode_flood-clause-one : goal.returns-in-Ok-decode_flood-clause-one
+returns-in-Ok-decode_flood-clause-one c =
+    let behind : c.args.bytes.now ≡ 89 ∷ c.in-Some-Flood.body.now =
+    subst (IsBody c.args.bytes.now) c.in-Some-Flood.field-0-is c.in-Some-Flood.ensures.some in
+    let once = flood_once c.in-Some-Flood.body.now c.in-Ok-decode_flood.m c.in-Ok-decode_flood.ensures.only in
+    on_ok_always c.take_flood.result _ (λ x y f g.
+    sym (once x (subst (λ bs. IsFrame bs x) behind f))
+    ∙ once y (subst (λ bs. IsFrame bs y) behind g))
+
+pub returns-in-Ok-decode_flood-clause-kept : goal.returns-in-Ok-decode_flood-clause-kept
+returns-in-Ok-decode_flood-clause-kept c = λ k kept.
     on_ok_always c.take_flood.result _
     (subst (λ p. IsKept p c.args.adjacencies.now (k + 1)) (sym c.take_flood.ensures.place)
     (kept-still c.args.node.now.place c.args.adjacencies.now k kept))
-
-pub returns-in-Ok-Flood-clause-content : goal.returns-in-Ok-Flood-clause-content
-returns-in-Ok-Flood-clause-content c = λ x f.
-    let same : Flood c.in-Ok-Flood.m ≡ x = sym c.in-Ok-Flood.field-0-is ∙ c.in-Ok-Flood.ensures.only x f in
-    flood-made c.take_flood.result (λ (v : Vec Frame Global). v.items) c.args.node.now c.take_flood.new.node
-    c.args.adjacencies.now c.args.flood.now c.take_flood.new.flood c.args.from c.in-Ok-Flood.m x same
-    c.requires.ready.rest c.take_flood.ensures.place c.take_flood.ensures.node c.take_flood.ensures.flood
-    c.take_flood.ensures.frames c.take_flood.ensures.spelled

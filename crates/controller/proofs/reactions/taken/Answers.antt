@@ -36,12 +36,12 @@ returns-clause-near c =
     let heard = heard_as (hop_at before c.args.from.0) c.args.packet in
     made-near n.place n.place.id (acks_to c.args.from heard c.args.packet)
     (heard_hops (hop_at before) c.args.from c.args.packet)
-    (on_first n.place n.state c.args.from (handed_up_of heard c.args.packet)) c.new-frames.result.items
+    (on_first n.place n.state c.args.from (handed_up_of heard c.args.packet)) c.list-frames.result.items
     c.take_packet.new.frames.items
     (acks-near n.place c.args.from heard c.args.packet c.requires.from)
     (heard-answered n.place n.state c.args.from heard c.args.packet c.fits.ensures.place c.fits.ensures.state
     c.requires.body)
-    c.new-frames.ensures.items c.in_ok-take_packet.ensures.frames
+    c.list-frames.ensures c.in_ok-take_packet.ensures.frames
 
 pub returns-clause-few : goal.returns-clause-few
 returns-clause-few c =
@@ -50,12 +50,12 @@ returns-clause-few c =
     let heard = heard_as (hop_at before c.args.from.0) c.args.packet in
     frames-few n.place n.place.id (acks_to c.args.from heard c.args.packet)
     (heard_hops (hop_at before) c.args.from c.args.packet)
-    (on_first n.place n.state c.args.from (handed_up_of heard c.args.packet)) c.new-frames.result.items
+    (on_first n.place n.state c.args.from (handed_up_of heard c.args.packet)) c.list-frames.result.items
     c.take_packet.new.frames.items
     (acks-few c.args.from heard c.args.packet)
     (heard-answered n.place n.state c.args.from heard c.args.packet c.fits.ensures.place c.fits.ensures.state
     c.requires.body)
-    c.new-frames.ensures.items c.in_ok-take_packet.ensures.frames
+    c.list-frames.ensures c.in_ok-take_packet.ensures.frames
 
 pub returns-clause-learnt : goal.returns-clause-learnt
 returns-clause-learnt c =

@@ -23,9 +23,9 @@ pub returns-clause-made : goal.returns-clause-made
 returns-clause-made c =
     ticked-made c.args.node.now c.give.new.node c.id-me.result c.args.adjacencies.now c.give.new.adjacencies
     c.age_all.new.adjacencies c.commit_all.new.adjacencies c.args.flood.now
-    c.new-frames.result.items c.frame_due.new.frames.items c.frame_floods_due.new.frames.items c.give.new.frames.items
+    c.list-frames.result.items c.frame_due.new.frames.items c.frame_floods_due.new.frames.items c.give.new.frames.items
     c.in_ok-give.ensures.node c.in_ok-give.ensures.hops c.in_ok-give.ensures.rest
-    c.age_all.ensures c.commit_all.ensures c.new-frames.ensures.items c.id-me.ensures c.in_ok-frame_due.ensures.frames
+    c.age_all.ensures c.commit_all.ensures c.list-frames.ensures c.id-me.ensures c.in_ok-frame_due.ensures.frames
     c.in_ok-frame_floods_due.ensures.frames c.in_ok-give.ensures.frames
     c.in_ok-frame_due.ensures.spelled c.in_ok-frame_floods_due.ensures.spelled c.in_ok-give.ensures.spelled
 
