@@ -9,7 +9,7 @@ ghost use Rattle.station_doings.specs.Moves.{ArePeersApart, IsChangedAt, IsSentO
 ghost use Rattle.station.specs.Sending.{BearsAll, IsEmptyAt, IsHeadAt, MaySend, is_to};
 
 use ason_base::NodeId;
-use controller::{Frame, Frames};
+use controller::Frame;
 use station_rings::{Head, Link, send_at};
 use station_sound::Parcel;
 
@@ -54,13 +54,13 @@ fn send_frame(links: &mut Vec<Link>, frame: Frame, stamp: u64)
 }
 
 /// Sends these frames with the stamp of the line that sends them, in order. It takes no memory.
-pub(crate) fn send_frames(links: &mut Vec<Link>, frames: Frames, stamp: u64)
+pub(crate) fn send_frames(links: &mut Vec<Link>, frames: &mut Vec<Frame>, stamp: u64)
     requires apart { ArePeersApart links.old.items }
-    requires may { AllByRecursion (MaySend (length frames) stamp) links.old.items }
-    requires bears { BearsAll frames }
-    ensures { AllZip (IsSentOver stamp frames) links.old.items links.new.items }
+    requires may { AllByRecursion (MaySend (length frames.old.items) stamp) links.old.items }
+    requires bears { BearsAll frames.old.items }
+    ensures { AllZip (IsSentOver stamp frames.old.items) links.old.items links.new.items }
 {
-    for frame in frames.into_vec() {
+    for frame in frames.drain(..) {
         send_frame(links, frame, stamp);
     }
 }

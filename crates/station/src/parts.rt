@@ -8,6 +8,9 @@ ghost use Rattle.station_doings.specs.Entered.{able};
 ghost use Rattle.station.specs.Entering.{Enters, Gives, is_able_for};
 ghost use Rattle.station.specs.Fits.{PartsFit, state_of};
 ghost use Rattle.station.specs.Leads.{IsRead};
+ghost use Rattle.station.specs.Sending.{BearsAll, MaySend};
+ghost use Rattle.station_doings.specs.Moves.{ArePeersApart, IsSentOver};
+ghost use Rattle.std.specs.List.{AllByRecursion, AllZip};
 
 use crate::desks::Desk;
 use crate::halts::Halt;
@@ -91,6 +94,19 @@ fn react<G: Gate>(
     controller.step(input)
 }
 
+// Sends these frames with this stamp. The controller uses the memory of their list again.
+fn send(controller: &mut Controller, links: &mut Vec<Link>, frames: Frames, stamp: u64)
+    requires apart { ArePeersApart links.old.items }
+    requires may { AllByRecursion (MaySend (length frames) stamp) links.old.items }
+    requires bears { BearsAll frames }
+    ensures links { AllZip (IsSentOver stamp frames) links.old.items links.new.items }
+    ensures same { controller.new ≡ controller.old }
+{
+    let mut frames = frames.into_vec();
+    send_frames(links, &mut frames, stamp);
+    controller.recycle_list(frames);
+}
+
 /// The controller takes an input, a line is written with this stamp, and the frames that go out bear it. What needs
 /// memory comes first, so that after a refusal nothing has changed.
 pub(crate) fn enter<G: Gate>(
@@ -113,7 +129,7 @@ pub(crate) fn enter<G: Gate>(
     let Ok(frames) = react(&mut parts.controller, &mut parts.log, me, gate, input) else {
         return Err(Halt::OutOfMemory);
     };
-    send_frames(&mut parts.links, frames, stamp);
+    send(&mut parts.controller, &mut parts.links, frames, stamp);
     parts.clock = stamp;
     let node = Some(me);
     write(&mut parts.log, Entry { stamp, node, event });
@@ -150,4 +166,25 @@ pub(crate) fn enter_frame<G: Gate>(
     };
     let stamp = parts.clock.max(head.stamp);
     enter(parts, gate, input, event, stamp + 1)
+}
+
+/// The same, where the frame isn't delivered again: the controller uses its memory again.
+pub(crate) fn enter_last<G: Gate>(
+    parts: &mut Parts,
+    gate: &G,
+    input: CoreInput,
+    from: NodeId,
+    head: Head,
+) -> Result<(), Halt>
+    requires fit { PartsFit parts.old }
+    requires from { IsFromNeighbour parts.old.controller.node.place input }
+    requires read { IsRead input }
+    requires able { is_able_for head.stamp (state_of parts.old) ≡ true }
+    ensures gives { Gives result head from input (state_of parts.old) (state_of parts.new) }
+    ensures place { parts.new.controller.node.place ≡ parts.old.controller.node.place }
+    ensures fit { PartsFit parts.new }
+{
+    let ended = enter_frame(parts, gate, &input, from, head);
+    parts.controller.recycle(input);
+    ended
 }

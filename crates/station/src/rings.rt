@@ -16,7 +16,7 @@ ghost use Rattle.station.specs.Rings.{GivesTwice, HasTakenAs, HasTakenAt, IsAhea
 use crate::halts::Halt;
 use crate::lines::says;
 use crate::links::{Ahead, head_at, known_at, peer_at, take_at};
-use crate::parts::{Parts, enter_frame, is_able_for};
+use crate::parts::{Parts, enter_frame, enter_last, is_able_for};
 use ason_base::DisturbKind;
 use ason_io::Gate;
 use controller::CoreInput;
@@ -107,7 +107,7 @@ fn deliver<G: Gate>(parts: &mut Parts, gate: &G, ahead: Ahead) -> Result<(), Hal
         return Err(Halt::AtLimit);
     }
     let input = take_input(parts, ahead);
-    enter_frame(parts, gate, &input, ahead.from, ahead.head)
+    enter_last(parts, gate, input, ahead.from, ahead.head)
 }
 
 // The frame that was taken as this input is delivered twice. It is lost where memory is wanting.

@@ -1,16 +1,23 @@
-use Rattle.std.proofs.Common.{◌≡◌, ◌∷◌, [], rules, length, sym, ap, subst, arith}
+use Rattle.std.proofs.Common.{◌≡◌, ◌-◌, ◌∷◌, ◌∙◌, [], List, rules, length, refl, sym, ap, subst, take, arith}
 use Rattle.std.proofs.lemmas.List.{length-append}
+use Rattle.std.specs.Vec.Iter.{drain_items}
 use Rattle.station_doings.specs.Moves.{AreApart}
 use Rattle.station.proofs.Sending.{may-still, sent-more, sent-peers, sent-start}
 use Rattle.station.proofs.links.send_frames.Goals as goal
 
+all-taken : {X : Type 0} (xs : List X) → take (length xs) xs ≡ xs
+all-taken [] = refl
+all-taken (x ∷ xs) = ap (λ ys. x ∷ ys) (all-taken xs)
+
 pub loop-frame-init : goal.loop-frame-init
-loop-frame-init c = record {
-  sent = sent-start c.args.stamp c.args.links.now.items;
-  many =
-      (let all : c.into_iter-frame-iterator.result.rest.items ≡ c.args.frames = search rules in
-      omega (arith, ap length all));
-}
+loop-frame-init c =
+    let items = c.args.frames.now.items in
+    let len : c.args.frames.now.len ≡ length items = search rules in
+    let count : c.args.frames.now.len - 0 ≡ length items = omega (arith, len) in
+    let all : drain_items c.into_iter-frame-iterator.result ≡ items =
+    ap drain_items c.into_iter-frame-iterator.ensures.into_iter_gives ∙ c.drain-frame-items.ensures.rest
+    ∙ ap (λ n. take n items) count ∙ all-taken items in
+    record { sent = sent-start c.args.stamp c.args.links.now.items; many = omega (arith, ap length all) }
 
 pub send_frame-requires-clause-apart : goal.send_frame-requires-clause-apart
 send_frame-requires-clause-apart c =
@@ -20,7 +27,8 @@ send_frame-requires-clause-apart c =
 
 pub send_frame-requires-clause-may : goal.send_frame-requires-clause-may
 send_frame-requires-clause-may c =
-    may-still c.args.stamp (length c.args.frames) c.loop-frame.yielded c.args.links.now.items c.loop-frame.links.items
+    may-still c.args.stamp (length c.args.frames.now.items) c.loop-frame.yielded c.args.links.now.items
+    c.loop-frame.links.items
     (omega (arith, c.loop-frame.invariant.many, ap length c.in-Some.ensures.steps.0)) c.loop-frame.invariant.sent
     c.requires.may
 

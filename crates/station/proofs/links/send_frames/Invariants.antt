@@ -1,10 +1,11 @@
 use Rattle.std.proofs.Common.{◌≡◌, ◌+◌, length}
 use Rattle.std.specs.List.{AllZip}
+use Rattle.std.specs.Vec.Iter.{drain_items}
 use Rattle.station_doings.specs.Moves.{IsSentOver}
 use Rattle.station.proofs.links.send_frames.Given as goal
 
 abbrev pub invariant-loop-frame : goal.invariant-loop-frame
 invariant-loop-frame l = record {
   sent : AllZip (IsSentOver l.stamp l.yielded) l.initial.links.items l.links.items;
-  many : length l.yielded + length l.frame-iterator.rest.items ≡ length l.fn.frames;
+  many : length l.yielded + length (drain_items l.frame-iterator) ≡ length l.fn.frames.items;
 }

@@ -1,5 +1,6 @@
-use Rattle.std.proofs.Common.{◌∷◌, [], ◌++◌, length, refl, ◌∙◌, arith}
+use Rattle.std.proofs.Common.{◌∷◌, [], ◌++◌, length, refl, sym, ap, ◌∙◌, subst, arith}
 use Rattle.std.specs.Prelude.{Some}
+use Rattle.control_channels.specs.Controllers.{ControllerState, IsStep}
 use Rattle.station.specs.Fits.{state_of}
 use Rattle.station.proofs.Fitting.{few-steps, frames-bear, may-send, parts-entered}
 use Rattle.station.proofs.parts.enter.Goals as goal
@@ -13,16 +14,16 @@ pub returns-in_default-clause-enters : goal.returns-in_default-clause-enters
 returns-in_default-clause-enters g c =
     λ i. record (state_of c.args.parts.now) { controller = c.in_default.ensures.err i; log = c.react.ensures.log i }
 
-pub send_frames-requires-clause-may : goal.send_frames-requires-clause-may
-send_frames-requires-clause-may g c =
+pub send-requires-clause-may : goal.send-requires-clause-may
+send-requires-clause-may g c =
     let parts = c.args.parts.now in
     may-send parts.controller.node.place parts.controller.steps parts.clock c.args.stamp
     (length c.in-Ok.frames) parts.links.items
     (few-steps (state_of parts) c.args.stamp c.requires.able c.requires.fit.station) c.in-Ok.ensures.few
     (omega (arith, c.requires.above)) c.requires.fit.station.links
 
-pub send_frames-requires-clause-bears : goal.send_frames-requires-clause-bears
-send_frames-requires-clause-bears g c =
+pub send-requires-clause-bears : goal.send-requires-clause-bears
+send-requires-clause-bears g c =
     frames-bear c.args.parts.now.controller c.react.new.controller c.args.input.now c.in-Ok.frames
     c.requires.read c.in-Ok.ensures.step
 
@@ -30,7 +31,9 @@ pub returns-clause-enters : goal.returns-clause-enters
 returns-clause-enters g c = (
   record {
     frames = c.in-Ok.frames;
-    step = c.in-Ok.ensures.step;
+    step =
+        subst (λ (d : ControllerState). IsStep c.args.parts.now.controller d c.args.input.now c.in-Ok.frames)
+        (sym c.send.ensures.same) c.in-Ok.ensures.step;
     few =
         few-steps (state_of c.args.parts.now) c.args.stamp c.requires.able c.requires.fit.station;
     above = c.requires.above;
@@ -39,7 +42,7 @@ returns-clause-enters g c = (
         c.write.ensures
         ∙ (λ i. c.react.ensures.log i
         ++ record { stamp = c.args.stamp; node = Some (c.requires.fit.me i); event = c.args.event } ∷ []);
-    links = c.send_frames.ensures;
+    links = c.send.ensures.links;
     desk = refl;
     spare = refl;
     held = refl;
@@ -52,4 +55,5 @@ pub returns-clause-fit : goal.returns-clause-fit
 unfolding returns-clause-enters
 returns-clause-fit g c =
     parts-entered c.args.input.now c.args.event c.args.stamp c.args.parts.now _ (returns-clause-enters g c).0
-    c.in-Ok.ensures.few c.react.ensures.place refl c.requires.fit
+    c.in-Ok.ensures.few
+    (ap (λ (d : ControllerState). d.node.place) c.send.ensures.same ∙ c.react.ensures.place) refl c.requires.fit

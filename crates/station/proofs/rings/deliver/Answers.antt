@@ -18,8 +18,8 @@ returns-then-not-is_able_for-clause-on g c =
 pub returns-then-not-is_able_for-clause-moves : goal.returns-then-not-is_able_for-clause-moves
 returns-then-not-is_able_for-clause-moves g c = moving-none (state_of c.args.parts.now)
 
-pub enter_frame-requires-clause-able : goal.enter_frame-requires-clause-able
-enter_frame-requires-clause-able g c =
+pub enter_last-requires-clause-able : goal.enter_last-requires-clause-able
+enter_last-requires-clause-able g c =
     λ κs le.
     ap (is_able_for c.args.ahead.head.stamp) c.take_input-input.ensures.taken.rest ∙ sym c.is_able_for.ensures
     ∙ c.if-not-is_able_for.false
@@ -28,21 +28,21 @@ pub returns-clause-on : goal.returns-clause-on
 returns-clause-on g c =
     let s = state_of c.args.parts.now in
     let a = c.args.ahead in
-    given-goes c.enter_frame.result a _ s (state_of c.take_input-input.new.parts) (state_of c.enter_frame.new.parts)
+    given-goes c.enter_last.result a _ s (state_of c.take_input-input.new.parts) (state_of c.enter_last.new.parts)
     c.requires.fit.station.apart c.take_input-input.ensures.taken
-    (sym c.is_able_for.ensures ∙ c.if-not-is_able_for.false) c.enter_frame.ensures.gives
+    (sym c.is_able_for.ensures ∙ c.if-not-is_able_for.false) c.enter_last.ensures.gives
     (subst (λ n. says s.lines a.from n a.head.number ≡ None) c.requires.fit.me c.requires.says)
 
 pub returns-clause-taken : goal.returns-clause-taken
 returns-clause-taken g c =
-    given-taken c.enter_frame.result c.args.ahead _ (state_of c.args.parts.now)
-    (state_of c.take_input-input.new.parts) (state_of c.enter_frame.new.parts) c.requires.fit.station.apart
+    given-taken c.enter_last.result c.args.ahead _ (state_of c.args.parts.now)
+    (state_of c.take_input-input.new.parts) (state_of c.enter_last.new.parts) c.requires.fit.station.apart
     c.take_input-input.ensures.taken (sym c.is_able_for.ensures ∙ c.if-not-is_able_for.false)
-    c.enter_frame.ensures.gives
+    c.enter_last.ensures.gives
 
 pub returns-clause-moves : goal.returns-clause-moves
 returns-clause-moves g c =
-    given-moves c.enter_frame.result c.args.ahead _ (state_of c.args.parts.now)
-    (state_of c.take_input-input.new.parts) (state_of c.enter_frame.new.parts) c.requires.fit.station.apart
+    given-moves c.enter_last.result c.args.ahead _ (state_of c.args.parts.now)
+    (state_of c.take_input-input.new.parts) (state_of c.enter_last.new.parts) c.requires.fit.station.apart
     c.take_input-input.ensures.taken (sym c.is_able_for.ensures ∙ c.if-not-is_able_for.false)
-    c.enter_frame.ensures.gives
+    c.enter_last.ensures.gives
