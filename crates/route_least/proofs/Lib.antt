@@ -2,6 +2,7 @@ pub mod Added
 pub mod AllMarked
 pub mod Bans
 pub mod BestArc
+pub mod Guesses
 pub mod LeastLaws
 pub mod Listing
 pub mod Lowered

@@ -1,15 +1,15 @@
 -- Places in order of their nodes.
-use Rattle.std.proofs.Common.{◌≡◌, ◌≢◌, ◌⊎◌, inl, inr, ℕ, ◌+◌, ◌<◌, ◌≤◌, true, List, [], ◌∷◌, ◌++◌, Some, length, map, get_or, slice_get, Less, Equal, refl, sym, ◌∙◌, ap, subst, arith, length-append}
-use Rattle.std.specs.BTreeSet.{BTreeSet, IsFromIterResult}
-use Rattle.std.specs.List.{AllPairs, Contains}
-use Rattle.std.specs.List.Sorted.{IsStrictlySortedBy}
+use Rattle.std.proofs.Common.{◌≡◌, ◌≢◌, ◌⊎◌, inl, inr, ℕ, ◌+◌, ◌<◌, ◌≤◌, true, false, List, [], ◌∷◌, ◌++◌, Some, length, map, get_or, slice_get, Less, Equal, refl, sym, ◌∙◌, ap, subst, arith, length-append}
+use Rattle.std.specs.List.{AllPairs, Contains, IsDistinct}
+use Rattle.std.specs.List.Sorted.{IsPermutation, IsSorted, IsStrictlySortedBy}
 use Rattle.std.specs.Bool.{Decides}
-use Rattle.std.specs.Ordering.{eq_by_cmp}
+use Rattle.std.specs.Ordering.{eq_by_cmp, is_lt}
 use Rattle.std.proofs.lemmas.Cmp.{eq_by_cmp_equiv}
 use Rattle.std.proofs.lemmas.List.{get_or-map, length-map}
-use Rattle.std.proofs.lemmas.Map.Keys.{Less-from_sorted}
+use Rattle.std.proofs.lemmas.List.Sorted.{Contains-permutation, IsPermutation-sym}
+use Rattle.std.proofs.lemmas.Map.Keys.{IsDistinct-IsPermutation, Less-from_sorted, apart_from_distinct, sorted_from_all_adjacent}
 use Rattle.std.proofs.lemmas.Map.Made.{IsDistinct-from_AllPairs, length-le_from_is_member}
-use Rattle.std.proofs.lemmas.Map.Views.{Contains-from_any, btree_set_contains_from_list, btree_set_contains_iff, list_any-from_Contains}
+use Rattle.std.proofs.lemmas.Map.Views.{Contains-from_any, list_any-from_Contains}
 use Rattle.std.proofs.lemmas.List.Elements.{Contains-get_or}
 use Rattle.std.proofs.lemmas.Option.{slice_get-get_or, slice_get_cases}
 use Rattle.ason_base.specs.declared.ids.NodeId.{NodeId}
@@ -52,6 +52,9 @@ numbered_more places k d entries within are =
 
 -- The order
 
+no_entry : NodePlace
+no_entry = record { node = record { 0 = 0 }; place = 0 }
+
 cmp-equal : (a b : NodePlace) → ghosts.cmp a b ≡ Equal → a ≡ b
 cmp-equal a b h =
     let e : a.node.0 ≡ b.node.0 = grind arith in
@@ -67,13 +70,44 @@ cmp-less a b h = grind arith
 less_or_same : (a b : ℕ) → a ≤ b → (a < b) ⊎ (a ≡ b)
 less_or_same a b le = grind arith
 
-pub in_order : (places : List Place) (entries order : List NodePlace) (set : BTreeSet NodePlace) → AreOnce places →
-    AreNumbered places (length places) entries → IsFromIterResult ghosts.cmp entries set → order ≡ set.keys →
+-- the order sorts the entries, no two of which are equal
+module _ (entries order : List NodePlace) (apart : AllPairs (λ x y. x ≢ y) entries)
+    (moved : IsPermutation entries order) (sorted : IsSorted ghosts.cmp order) where
+  equal_decides : (x y : NodePlace) → Decides (eq_by_cmp ghosts.cmp x y) (x ≡ y)
+  equal_decides x y = (
+    (λ h. cmp-equal x y (grind arith)),
+    (λ e. subst (λ z. eq_by_cmp ghosts.cmp x z ≡ true) e ((eq_by_cmp_equiv total-law).refl x)),
+  )
+
+  differ : IsDistinct (eq_by_cmp ghosts.cmp) order
+  differ = IsDistinct-IsPermutation (eq_by_cmp ghosts.cmp) (λ x y. (eq_by_cmp_equiv total-law).symm x y) entries order
+      moved (IsDistinct-from_AllPairs equal_decides entries apart)
+
+  less_next : (x y : NodePlace) → is_lt (ghosts.cmp y x) ≡ false → eq_by_cmp ghosts.cmp x y ≡ false →
+      ghosts.cmp x y ≡ Less
+  less_next x y down same = grind arith
+
+  strictly : IsStrictlySortedBy ghosts.cmp order
+  strictly = sorted_from_all_adjacent total-law order no_entry (λ k within.
+      less_next (get_or order k no_entry) (get_or order (k + 1) no_entry)
+      (sorted k no_entry (omega arith) within)
+      (apart_from_distinct (eq_by_cmp ghosts.cmp) order k (k + 1) no_entry differ (omega arith) within))
+
+entries_apart : (places : List Place) (entries : List NodePlace) → AreNumbered places (length places) entries →
+    AllPairs (λ x y. x ≢ y) entries
+entries_apart places entries are i j d lt within same =
+    let inside : i < length entries = omega arith in
+    let first = (are.are i (get_or entries i d) (slice_get-get_or entries i d inside)).0 in
+    let second = (are.are j (get_or entries j d) (slice_get-get_or entries j d within)).0 in
+    let place = ap (λ e. e.place) same in
+    omega (arith, first, second, place)
+
+pub in_order : (places : List Place) (entries order : List NodePlace) → AreOnce places →
+    AreNumbered places (length places) entries → IsPermutation entries order → IsSorted ghosts.cmp order →
     AreInOrder places order
-in_order places entries order set once are from listed =
+in_order places entries order once are moved sorted =
     let there : (e : NodePlace) → Contains order e → Contains entries e =
-    λ e h. (btree_set_contains_from_list total-law cmp-equal entries set from e).0
-    ((btree_set_contains_iff total-law cmp-equal set e).1 (subst (λ xs. Contains xs e) listed h))
+    λ e h. Contains-permutation order entries e (IsPermutation-sym entries order moved) h
     in
     let sound : (e : NodePlace) → Contains order e → HasNode places e.place e.node =
     λ e h. (let known = there e h in
@@ -90,15 +124,12 @@ in_order places entries order set once are from listed =
           let is = are.are p e at in
           let same : e ≡ record { node = n; place = p } =
           (λ i. record { node = one_node places p e.node n is.1 h i; place = is.0 i }) in
-          subst (λ xs. Contains xs (record { node = n; place = p })) (sym listed)
-          ((btree_set_contains_iff total-law cmp-equal set (record { node = n; place = p })).0
-          ((btree_set_contains_from_list total-law cmp-equal entries set from (record { node = n; place = p })).1
-          (p, within, same))));
+          Contains-permutation entries order (record { node = n; place = p }) moved (p, within, same));
       rising = λ i j d lt within.
           (let x = get_or order i d in
           let y = get_or order j d in
           let less : ghosts.cmp x y ≡ Less = Less-from_sorted ghosts.cmp order i j d
-          (subst (IsStrictlySortedBy ghosts.cmp) (sym listed) from.1) lt within in
+          (strictly entries order (entries_apart places entries are) moved sorted) lt within in
           elim (less_or_same x.node.0 y.node.0 (cmp-less x y less)) [
             | inl below ↦ below
             | inr same ↦ absurd

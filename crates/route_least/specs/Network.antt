@@ -1,5 +1,5 @@
 -- Places for the nodes of a network, and arcs between them that stand for its rows.
-use Rattle.std.specs.Prelude.{◌≡◌, ◌⊎◌, ℕ, ◌<◌, ◌≤◌, List, Bool, true, false, Some, length, slice_get, slice_index_or}
+use Rattle.std.specs.Prelude.{◌≡◌, ◌⊎◌, ℕ, ◌<◌, ◌≤◌, ◌%◌, List, Bool, true, false, Some, length, slice_get, slice_index_or}
 use Rattle.std.specs.List.{AllPairs, Contains}
 use Rattle.ason_base.specs.Walks.{HaveDistinctLinks, HaveMetrics, Joins}
 use Rattle.ason_base.specs.declared.ids.LinkId.{LinkId}
@@ -50,6 +50,11 @@ pub record HasRow (places : List Place) (row : TeRow) (index : ℕ) (a b : NodeI
   pub arc : Arc
   pub there : HasArc places place arc
   pub is : IsArc places row index place a b arc
+
+-- a guess for each remainder of 256: where a node has a place, that of its remainder is a place
+pub record AreGuesses (places : List Place) (guesses : List ℕ) : Type 0 where
+  pub len : length guesses ≡ 256
+  pub known : (p : ℕ) (n : NodeId) → HasNode places p n → slice_index_or guesses (n.0 % 256) 0 < length places
 
 -- the places are those of the ends of the first rows, so many, and their arcs those of these rows, both ways
 pub record ArePlaces (rows : List TeRow) (count : ℕ) (places : List Place) : Type 0 where

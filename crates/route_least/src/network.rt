@@ -16,7 +16,7 @@ use crate::costs::least_costs;
 use crate::leading::leading;
 use crate::lists::Potentials;
 use crate::order::{NodePlace, order_of};
-use crate::places::{GUESSES, Place, add_row, place_of};
+use crate::places::{GUESSES, Place, add_row, end_counts, place_of};
 use crate::potentials::potentials_of;
 use crate::trace::follow;
 use ason_base::ids::{NodeId, OutOfMemory};
@@ -76,13 +76,25 @@ impl Drop for RouteNetwork {
     }
 }
 
+// Room for so many places is taken at once.
+const PLACES: usize = 64;
+
+// Each place has room for the arcs that it gets.
 fn places_of(alloc: Global, rows: &[TeRow]) -> Result<Vec<Place>, OutOfMemory>
     ensures { IfOk result (λ places. ArePlaces rows.now (length rows.now) places.items) }
 {
-    let mut places = Vec::new(alloc);
-    let mut guesses: Vec<usize> = vec![in alloc; 0; GUESSES as usize]?;
+    let counts = end_counts(alloc, rows)?;
+    let mut places = Vec::with_capacity(alloc, PLACES)?;
+    let mut guesses: Vec<usize> = vec![in alloc; usize::MAX; GUESSES as usize]?;
     for index in 0..rows.len() {
-        add_row(alloc, &mut places, &mut guesses, &rows[index], index)?;
+        add_row(
+            alloc,
+            &mut places,
+            &mut guesses,
+            &counts,
+            &rows[index],
+            index,
+        )?;
     }
     Ok(places)
 }

@@ -1,7 +1,7 @@
 //! The nodes of a network, each in its place, with the rows that have it as an end.
 
-ghost use Rattle.std.specs.Prelude.{◌≡◌, ◌<◌, ℕ, IfOk, IsTrue, MatchOption, OnOk, length};
-ghost use Rattle.route_least.specs.Network.{AreOnce, HasAdded, HasGained, HasNode, HasSeated};
+ghost use Rattle.std.specs.Prelude.{◌≡◌, ◌<◌, ◌%◌, ◌≤◌, ℕ, IfOk, IsTrue, MatchOption, OnOk, length, slice_index_or};
+ghost use Rattle.route_least.specs.Network.{AreGuesses, AreOnce, HasAdded, HasGained, HasNode, HasSeated};
 ghost use Rattle.route_least.specs.declared.places.Arc.{Arc};
 
 use ason_base::ids::{LinkId, NodeId, OutOfMemory};
@@ -32,8 +32,25 @@ impl Drop for Place {
 /// How many guesses there are of where a node is, by the remainder of its number.
 pub(crate) const GUESSES: u32 = 256;
 
-// Room for so many arcs at a node is taken at once.
-const ARCS: usize = 16;
+/// How many ends of rows have each remainder; 255 stands for more too.
+pub(crate) fn end_counts(alloc: Global, rows: &[TeRow]) -> Result<Vec<u8>, OutOfMemory>
+    ensures { IfOk result (λ counts. length counts.items ≡ 256) }
+{
+    let mut counts: Vec<u8> = vec![in alloc; 0; GUESSES as usize]?;
+    for row in rows {
+        count_end(&mut counts, row.low);
+        count_end(&mut counts, row.high);
+    }
+    Ok(counts)
+}
+
+fn count_end(counts: &mut [u8], node: NodeId)
+    requires { length counts.old ≡ 256 }
+    ensures { length counts.new ≡ 256 }
+{
+    let remainder = (node.0 % GUESSES) as usize;
+    counts[remainder] = counts[remainder].saturating_add(1);
+}
 
 /// The place of a node.
 pub(crate) fn place_of(places: &[Place], node: NodeId) -> Option<usize>
@@ -54,37 +71,83 @@ fn is_at(places: &[Place], place: usize, node: NodeId) -> bool
     place < places.len() && places[place].node == node
 }
 
+// The place that a node gets which has none, with room for so many arcs.
+fn new_seat(
+    alloc: Global,
+    places: &mut Vec<Place>,
+    node: NodeId,
+    room: usize,
+) -> Result<usize, OutOfMemory>
+    requires once { AreOnce places.old.items }
+    requires absent { (p : ℕ) → ¬ HasNode places.old.items p node }
+    ensures { IfOk result (HasSeated places.old.items places.new.items node) }
+{
+    let place = places.len();
+    let arcs = Vec::with_capacity(alloc, room)?;
+    places.push(Place { node, arcs })?;
+    Ok(place)
+}
+
 // The place of a node, which gets one if it has none.
-fn seat(alloc: Global, places: &mut Vec<Place>, node: NodeId) -> Result<usize, OutOfMemory>
+fn seat(
+    alloc: Global,
+    places: &mut Vec<Place>,
+    node: NodeId,
+    room: usize,
+) -> Result<usize, OutOfMemory>
     requires { AreOnce places.old.items }
     ensures { IfOk result (HasSeated places.old.items places.new.items node) }
 {
     if let Some(place) = place_of(places, node) {
         return Ok(place);
     }
-    let place = places.len();
-    let arcs = Vec::with_capacity(alloc, ARCS)?;
-    places.push(Place { node, arcs })?;
-    Ok(place)
+    new_seat(alloc, places, node, room)
 }
 
-// The same, tried first at the place where a node with this remainder was found last.
+// The same by the guesses: a node whose remainder has no guess has no place.
 fn guessed_seat(
     alloc: Global,
     places: &mut Vec<Place>,
     guesses: &mut [usize],
+    counts: &[u8],
     node: NodeId,
 ) -> Result<usize, OutOfMemory>
     requires once { AreOnce places.old.items }
-    requires guesses { length guesses.old ≡ 256 }
-    ensures { IfOk result (HasSeated places.old.items places.new.items node) }
+    requires guesses { AreGuesses places.old.items guesses.old }
+    requires counts { length counts.now ≡ 256 }
+    ensures seated { IfOk result (HasSeated places.old.items places.new.items node) }
+    ensures guesses { OnOk result (AreGuesses places.new.items guesses.new) }
 {
-    let guess = (node.0 % GUESSES) as usize;
-    if is_at(places, guesses[guess], node) {
-        return Ok(guesses[guess]);
+    let guess = guesses[(node.0 % GUESSES) as usize];
+    if is_at(places, guess, node) {
+        return Ok(guess);
     }
-    let place = seat(alloc, places, node)?;
-    guesses[guess] = place;
+    next_guess(alloc, places, guesses, counts, node)
+}
+
+// The same where the node isn't at its guess, which becomes a new one. It is out of line: most nodes are where they are guessed.
+#[inline(never)]
+fn next_guess(
+    alloc: Global,
+    places: &mut Vec<Place>,
+    guesses: &mut [usize],
+    counts: &[u8],
+    node: NodeId,
+) -> Result<usize, OutOfMemory>
+    requires once { AreOnce places.old.items }
+    requires guesses { AreGuesses places.old.items guesses.old }
+    requires counts { length counts.now ≡ 256 }
+    ensures seated { IfOk result (HasSeated places.old.items places.new.items node) }
+    ensures guesses { OnOk result (AreGuesses places.new.items guesses.new) }
+{
+    let remainder = (node.0 % GUESSES) as usize;
+    let room = usize::from(counts[remainder]);
+    let place = if guesses[remainder] < places.len() {
+        seat(alloc, places, node, room)?
+    } else {
+        new_seat(alloc, places, node, room)?
+    };
+    guesses[remainder] = place;
     Ok(place)
 }
 
@@ -101,15 +164,18 @@ pub(crate) fn add_row(
     alloc: Global,
     places: &mut Vec<Place>,
     guesses: &mut [usize],
+    counts: &[u8],
     row: &TeRow,
     index: usize,
 ) -> Result<(), OutOfMemory>
     requires once { AreOnce places.old.items }
-    requires guesses { length guesses.old ≡ 256 }
-    ensures { OnOk result (HasAdded places.old.items places.new.items row.now index) }
+    requires guesses { AreGuesses places.old.items guesses.old }
+    requires counts { length counts.now ≡ 256 }
+    ensures added { OnOk result (HasAdded places.old.items places.new.items row.now index) }
+    ensures guesses { OnOk result (AreGuesses places.new.items guesses.new) }
 {
-    let low = guessed_seat(alloc, places, guesses, row.low)?;
-    let high = guessed_seat(alloc, places, guesses, row.high)?;
+    let low = guessed_seat(alloc, places, guesses, counts, row.low)?;
+    let high = guessed_seat(alloc, places, guesses, counts, row.high)?;
     push_arc(places, low, arc_of(row, index, high))?;
     push_arc(places, high, arc_of(row, index, low))?;
     Ok(())

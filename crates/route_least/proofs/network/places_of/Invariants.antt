@@ -1,9 +1,8 @@
-use Rattle.std.proofs.Common.{◌≡◌, length}
-use Rattle.route_least.specs.Network.{ArePlaces}
+use Rattle.route_least.specs.Network.{AreGuesses, ArePlaces}
 use Rattle.route_least.proofs.network.places_of.Given as goal
 
 abbrev pub invariant-loop-index : goal.invariant-loop-index
 invariant-loop-index l = record {
   places : ArePlaces l.rows l.index l.places.items;
-  guesses : length l.guesses.items ≡ 256;
+  guesses : AreGuesses l.places.items l.guesses.items;
 }
