@@ -1,16 +1,17 @@
 -- Rows closed one after the other, and what they share with a route.
-use Rattle.std.proofs.Common.{◌≡◌, ◌⊎◌, ◌↔◌, inl, inr, ℕ, ◌+◌, ◌<◌, ◌≤◌, Bool, true, false, List, [], ◌∷◌, ◌++◌, Some, length, length-set, map, get_or, set, slice_get, refl, sym, ◌∙◌, ap, subst, arith}
+use Rattle.std.proofs.Common.{◌≡◌, ◌⊎◌, ◌↔◌, inl, inr, ℕ, ◌+◌, ◌<◌, ◌≤◌, Bool, true, false, List, [], ◌∷◌, ◌++◌, Some, length, length-set, map, get_or, set, slice_get, refl, sym, ◌∙◌, ap, subst, arith, zero, suc, replicate}
 use Rattle.std.specs.List.{Contains}
-use Rattle.std.proofs.lemmas.List.{get_or-map, get_or_default, length-map}
+use Rattle.std.proofs.lemmas.List.{get_or-map, get_or_default, length-map, length-replicate}
 use Rattle.std.proofs.lemmas.List.Elements.{Contains-append_cases, Contains-append_left, Contains-append_right, Contains-push, Contains-push_cases}
 use Rattle.std.proofs.lemmas.Option.{get_or_from_slice_get, slice_get-get_or, slice_get_within}
-use Rattle.ason_base.specs.Risks.{HasRisk, risks_of}
+use Rattle.ason_base.specs.Risks.{risks_of}
 use Rattle.ason_base.specs.Walks.{SharesRisk}
 use Rattle.ason_base.specs.declared.ids.LinkId.{LinkId}
 use Rattle.ason_base.specs.declared.network.TeRow.{TeRow}
 use Rattle.ason_base.specs.declared.risks.Risk.{Risk}
 use Rattle.ason_base.specs.declared.risks.Risk.TheVariants.{Srlg, Link}
 use Rattle.ason_base.specs.declared.steps.Step.{Step}
+use Rattle.route_least.specs.Bans.{AreRowsWith}
 use Rattle.route_least.specs.Costs.{is_marked}
 use Rattle.route_least.specs.Network.{IsClosed}
 use Rattle.route_least.proofs.Lowered.{marked_other, marked_same}
@@ -64,11 +65,16 @@ no_srlgs rows used srlgs none x = (
 
 -- Closed rows
 
-pub none_closed : (rows : List TeRow) (srlgs : List ℕ) (old : List Bool) → AreClosedToo rows srlgs 0 old old
-none_closed rows srlgs old = record { len = refl; are = λ k row below at. absurd (omega arith); rest = λ k from. refl }
+pub none_marked : (n k : ℕ) → is_marked (replicate n false) k ≡ false
+none_marked zero k = refl
+none_marked (suc n) zero = refl
+none_marked (suc n) (suc k) = none_marked n k
 
-module _ (rows : List TeRow) (srlgs : List ℕ) (k : ℕ) (d : TeRow) (old new : List Bool) (within : k < length rows)
-    (are : AreClosedToo rows srlgs k old new) where
+pub none_closed : (rows : List TeRow) (Holds : TeRow → Type 0) (old : List Bool) → AreClosedToo rows Holds 0 old old
+none_closed rows Holds old = record { len = refl; are = λ k row below at. absurd (omega arith); rest = λ k from. refl }
+
+module _ (rows : List TeRow) (Holds : TeRow → Type 0) (k : ℕ) (d : TeRow) (old new : List Bool)
+    (within : k < length rows) (are : AreClosedToo rows Holds k old new) where
   at_here : (i : ℕ) (row : TeRow) → i ≡ k → slice_get rows i ≡ Some row → get_or rows k d ≡ row
   at_here i row e at = some_same (sym (slice_get-get_or rows k d within) ∙
       subst (λ j. slice_get rows j ≡ Some row) e at)
@@ -76,22 +82,22 @@ module _ (rows : List TeRow) (srlgs : List ℕ) (k : ℕ) (d : TeRow) (old new :
   below_apart : (i : ℕ) → i < k → (i ≡ k → ⊥)
   below_apart i less e = absurd (omega arith)
 
-  pub closed_more : k < length new → HasOne (get_or rows k d) srlgs →
-      AreClosedToo rows srlgs (k + 1) old (set new k true)
+  pub closed_more : k < length new → Holds (get_or rows k d) →
+      AreClosedToo rows Holds (k + 1) old (set new k true)
   closed_more inside has = record {
     len = length-set new k true ∙ are.len;
     are = λ i row below at. elim (before_or_last i k below) [
-      | inl before ↦ subst (λ b. (b ≡ true) ↔ ((is_marked old i ≡ true) ⊎ HasOne row srlgs))
+      | inl before ↦ subst (λ b. (b ≡ true) ↔ ((is_marked old i ≡ true) ⊎ Holds row))
           (sym (marked_other new k i true (below_apart i before))) (are.are i row before at)
       | inr e ↦ (
-        (λ on. inr (subst (λ r. HasOne r srlgs) (at_here i row e at) has)),
+        (λ on. inr (subst Holds (at_here i row e at) has)),
         (λ h. subst (λ j. is_marked (set new k true) j ≡ true) (sym e) (marked_same new k true inside)),
       )
     ];
     rest = λ i from. marked_other new k i true (λ e. absurd (omega arith)) ∙ are.rest i (omega arith);
   }
 
-  pub closed_same : ¬ HasOne (get_or rows k d) srlgs → AreClosedToo rows srlgs (k + 1) old new
+  pub closed_same : ¬ Holds (get_or rows k d) → AreClosedToo rows Holds (k + 1) old new
   closed_same none = record {
     len = are.len;
     are = λ i row below at. elim (before_or_last i k below) [
@@ -102,12 +108,29 @@ module _ (rows : List TeRow) (srlgs : List ℕ) (k : ℕ) (d : TeRow) (old new :
             (λ h. elim h [
               | inl on ↦ same ∙ on
               | inr one ↦ absurd
-                  (none (subst (λ r. HasOne r srlgs) (sym (at_here i row e at)) one))
+                  (none (subst Holds (sym (at_here i row e at)) one))
             ]),
           ))
     ];
     rest = λ i from. are.rest i (omega arith);
   }
+
+-- where no row was marked, just those are of which it holds, in whichever words
+pub closed_alone : (rows : List TeRow) (Holds Means : TeRow → Type 0) (old new : List Bool) →
+    ((row : TeRow) → Holds row ↔ Means row) → old ≡ replicate (length rows) false →
+    AreClosedToo rows Holds (length rows) old new → AreRowsWith Means rows (length rows) new
+closed_alone rows Holds Means old new same none too = record {
+  len = too.len ∙ ap length none ∙ length-replicate (length rows) false;
+  are = λ k row below at. (
+    (λ on. elim ((too.are k row below at).0 on) [
+      | inl before ↦ absurd
+          (let off = none_marked (length rows) k in
+          let was = subst (λ marks. is_marked marks k ≡ true) none before in cc (off, was))
+      | inr holds ↦ (same row).0 holds
+    ]),
+    (λ means. (too.are k row below at).1 (inr ((same row).1 means))),
+  );
+}
 
 -- Risks of rows
 
@@ -158,7 +181,7 @@ known_row rows k row at = (k, slice_get_within rows k row at, get_or_from_slice_
 
 module _ (rows : List TeRow) (route : List Step) (used closed : List Bool) (srlgs : List ℕ)
     (on_route : AreUsed rows route (length rows) used) (are : AreSrlgsOf rows used (length rows) srlgs)
-    (too : AreClosedToo rows srlgs (length rows) used closed) where
+    (too : AreClosedToo rows (λ row. HasOne row srlgs) (length rows) used closed) where
   shares : (l : LinkId) → IsClosed rows closed l → SharesRisk rows route l
   shares l shut =
       let row = shut.1 in

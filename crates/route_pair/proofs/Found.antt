@@ -1,7 +1,7 @@
 -- What a least route in a network is where rows are closed and nodes banned: a primary route, or a backup.
-use Rattle.std.proofs.Common.{◌≡◌, ◌↔◌, ℕ, zero, suc, Bool, true, false, List, [], length, replicate, refl, sym, subst}
+use Rattle.std.proofs.Common.{◌≡◌, ◌↔◌, ℕ, Bool, true, false, List, [], length, replicate, sym, subst}
 use Rattle.std.specs.List.{Contains}
-use Rattle.ason_base.specs.Walks.{IsBackup, IsInner, IsLeast, IsWalk, NoLink, NoNode, SharesRisk}
+use Rattle.ason_base.specs.Walks.{IsBackup, IsInner, IsWalk, NoLink, NoNode, SharesRisk}
 use Rattle.ason_base.specs.declared.ids.LinkId.{LinkId}
 use Rattle.ason_base.specs.declared.ids.NodeId.{NodeId}
 use Rattle.ason_base.specs.declared.network.TeRow.{TeRow}
@@ -15,12 +15,8 @@ use Rattle.route_least.specs.declared.answers.RouteFault.TheVariants.{NoRoute, O
 use Rattle.route_least.proofs.Bans.{same_certify, same_least, same_none, same_potentials, same_walks}
 use Rattle.route_pair.specs.Pairs.{AreBans, IsBackupFound, IsFault, IsPrimary, IsUnsharedFault}
 use Rattle.route_pair.specs.declared.bans.Bans.{Bans}
+use Rattle.route_pair.proofs.Closing.{none_marked}
 use Rattle.route_pair.proofs.WalkBans.{backup_of, none_in, walk_of}
-
-none_marked : (n k : ℕ) → is_marked (replicate n false) k ≡ false
-none_marked zero k = refl
-none_marked (suc n) zero = refl
-none_marked (suc n) (suc k) = none_marked n k
 
 module _ (rows : List TeRow) (from to : NodeId) (closed : List Bool) (banned : List NodeId) (n : ℕ)
     (no_rows : closed ≡ replicate n false) (no_nodes : banned ≡ []) where

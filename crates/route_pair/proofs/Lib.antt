@@ -1,5 +1,6 @@
 mod BanLists
 mod Closing
+mod Flags
 mod Found
 pub mod TestRows
 mod WalkBans

@@ -4,12 +4,11 @@ use Rattle.std.specs.List.{Contains}
 use Rattle.std.proofs.lemmas.Bool.{eq-eqb}
 use Rattle.std.proofs.lemmas.List.Folds.{list_any_at}
 use Rattle.std.proofs.lemmas.List.Elements.{Contains-append_cases, Contains-append_left, Contains-append_right, Contains-push, Contains-push_cases}
-use Rattle.ason_base.specs.Risks.{HasRisk, has_row, unknown_link}
-use Rattle.ason_base.specs.Walks.{ArePotentials, Certify, Hop, IsBackup, IsInner, IsLeast, IsWalk, NoLink, NoNode, SharesRisk}
+use Rattle.ason_base.specs.Risks.{has_row, unknown_link}
+use Rattle.ason_base.specs.Walks.{IsBackup, IsInner, IsWalk, NoLink, NoNode, SharesRisk}
 use Rattle.ason_base.specs.declared.ids.LinkId.{LinkId}
 use Rattle.ason_base.specs.declared.ids.NodeId.{NodeId}
 use Rattle.ason_base.specs.declared.network.TeRow.{TeRow}
-use Rattle.ason_base.specs.declared.risks.Risk.{Risk}
 use Rattle.ason_base.specs.declared.steps.Step.{Step}
 use Rattle.route_least.proofs.Bans.{fewer_walk}
 

@@ -1,5 +1,5 @@
 -- Rows that are closed to a backup, as they are found.
-use Rattle.std.specs.Prelude.{◌≡◌, ◌<◌, ◌≤◌, ◌↔◌, ◌⊎◌, ℕ, List, Bool, true, Some, length, slice_get}
+use Rattle.std.specs.Prelude.{◌≡◌, ◌%◌, ◌<◌, ◌≤◌, ◌↔◌, ◌⊎◌, ℕ, List, Bool, true, Some, length, slice_get}
 use Rattle.std.specs.List.{Contains}
 use Rattle.ason_base.specs.declared.network.TeRow.{TeRow}
 use Rattle.ason_base.specs.declared.steps.Step.{Step}
@@ -26,9 +26,18 @@ AreSrlgsOf rows used count srlgs = (x : ℕ) → Contains srlgs x ↔ IsSrlgOf r
 abbrev pub HasOne : TeRow → List ℕ → Type 0
 HasOne row srlgs = (x : ℕ) × Contains row.srlgs x × Contains srlgs x
 
--- of the first rows, so many, those that have one of the SRLGs are marked too
-pub record AreClosedToo (rows : List TeRow) (srlgs : List ℕ) (count : ℕ) (old new : List Bool) : Type 0 where
+-- a flag for each remainder of 256: that of each number is up
+pub record AreFlagged (numbers : List ℕ) (flags : List Bool) : Type 0 where
+  pub len : length flags ≡ 256
+  pub up : (x : ℕ) → Contains numbers x → is_marked flags (x % 256) ≡ true
+
+-- the row's link has one of the numbers
+abbrev pub HasLink : List ℕ → TeRow → Type 0
+HasLink links row = Contains links row.link.0
+
+-- of the first rows, so many, those of which it holds are marked too
+pub record AreClosedToo (rows : List TeRow) (Holds : TeRow → Type 0) (count : ℕ) (old new : List Bool) : Type 0 where
   pub len : length new ≡ length old
   pub are : (k : ℕ) (row : TeRow) → k < count → slice_get rows k ≡ Some row →
-      (is_marked new k ≡ true) ↔ ((is_marked old k ≡ true) ⊎ HasOne row srlgs)
+      (is_marked new k ≡ true) ↔ ((is_marked old k ≡ true) ⊎ Holds row)
   pub rest : (k : ℕ) → count ≤ k → is_marked new k ≡ is_marked old k

@@ -1,18 +1,20 @@
 //! What a backup must keep off.
 
-ghost use Rattle.std.specs.Prelude.{◌≡◌, ◌≢◌, ◌↔◌, IfOk, IsTrue, OnOk, length};
+ghost use Rattle.std.specs.Prelude.{◌≡◌, ◌≢◌, ◌↔◌, false, IfOk, IsTrue, OnOk, length, map, replicate};
 ghost use Rattle.std.specs.List.{Contains};
 ghost use Rattle.ason_base.specs.Walks.{IsInner};
 ghost use Rattle.ason_base.specs.declared.ids.NodeId.{NodeId};
-ghost use Rattle.ason_base.specs.declared.steps.Step.{Step};
-ghost use Rattle.route_pair.specs.Closed.{AreClosedToo, AreSrlgsOf, AreUsed, HasOne};
+ghost use Rattle.route_pair.specs.Closed.{AreClosedToo, AreFlagged, AreSrlgsOf, AreUsed, HasLink, HasOne};
 ghost use Rattle.route_pair.specs.Pairs.{AreBans};
 
-use ason_base::ids::{LinkId, NodeId, OutOfMemory};
+use ason_base::ids::{NodeId, OutOfMemory};
 use ason_base::network::TeRow;
 use ason_base::steps::Steps;
 use route_least::NodeIds;
 use std::alloc::Global;
+
+// How many remainders numbers are told apart by.
+const FLAGS: u32 = 256;
 
 /// The rows that are closed to a backup, by their place in the list, and the nodes that it mustn't visit after its start.
 pub(crate) struct Bans {
@@ -41,7 +43,8 @@ pub(crate) fn bans_of(
 {
     let mut closed = used_rows(alloc, rows, primary)?;
     let srlgs = srlgs_of(alloc, rows, &closed)?;
-    close(rows, &srlgs, &mut closed);
+    let flags = flags_of(alloc, &srlgs)?;
+    close(rows, &srlgs, &flags, &mut closed);
     let nodes = inner_nodes(alloc, primary, from, to)?;
     Ok(Bans { closed, nodes })
 }
@@ -50,17 +53,57 @@ pub(crate) fn bans_of(
 fn used_rows(alloc: Global, rows: &[TeRow], route: &Steps) -> Result<Vec<bool>, OutOfMemory>
     ensures { IfOk result (λ used. AreUsed rows.now route.now (length rows.now) used.items) }
 {
-    let mut used = Vec::with_capacity(alloc, rows.len())?;
-    for row in rows {
-        used.push(has_link(route, row.link))?;
-    }
+    let links = links_of(alloc, route)?;
+    let flags = flags_of(alloc, &links)?;
+    let mut used = no_rows(alloc, rows.len())?;
+    close_links(rows, &links, &flags, &mut used);
     Ok(used)
 }
 
-fn has_link(route: &Steps, link: LinkId) -> bool
-    ensures { IsTrue result ↔ ((s : Step) × Contains route.now s × (link ≡ s.link)) }
+/// No mark at any of so many rows.
+pub(crate) fn no_rows(alloc: Global, count: usize) -> Result<Vec<bool>, OutOfMemory>
+    ensures { IfOk result (λ closed. closed.items ≡ replicate count false) }
 {
-    route.items().iter().any(|step| step.link == link)
+    let closed: Vec<bool> = vec![in alloc; false; count]?;
+    Ok(closed)
+}
+
+// Marks the rows that have one of the links.
+fn close_links(rows: &[TeRow], links: &[u32], flags: &[bool], closed: &mut [bool])
+    requires closed { length closed.old ≡ length rows.now }
+    requires flags { AreFlagged links.now flags.now }
+    ensures { AreClosedToo rows.now (HasLink links.now) (length rows.now) closed.old closed.new }
+{
+    for place in 0..rows.len() {
+        if is_among(links, flags, rows[place].link.0) {
+            closed[place] = true;
+        }
+    }
+}
+
+fn links_of(alloc: Global, route: &Steps) -> Result<Vec<u32>, OutOfMemory>
+    ensures { IfOk result (λ links. links.items ≡ map (λ s. s.link.0) route.now) }
+{
+    let links = route.items().iter().map(|step| step.link.0).collect(alloc)?;
+    Ok(links)
+}
+
+// For each remainder whether one of the numbers has it.
+fn flags_of(alloc: Global, numbers: &[u32]) -> Result<Vec<bool>, OutOfMemory>
+    ensures { IfOk result (λ flags. AreFlagged numbers.now flags.items) }
+{
+    let mut flags: Vec<bool> = vec![in alloc; false; FLAGS as usize]?;
+    flag(numbers, &mut flags);
+    Ok(flags)
+}
+
+fn flag(numbers: &[u32], flags: &mut [bool])
+    requires { length flags.old ≡ 256 }
+    ensures { AreFlagged numbers.now flags.new }
+{
+    for number in numbers {
+        flags[(*number % FLAGS) as usize] = true;
+    }
 }
 
 // The SRLGs of the rows that are marked.
@@ -78,32 +121,44 @@ fn srlgs_of(alloc: Global, rows: &[TeRow], used: &[bool]) -> Result<Vec<u32>, Ou
 }
 
 // Marks the rows that have one of the SRLGs.
-fn close(rows: &[TeRow], srlgs: &[u32], closed: &mut [bool])
-    requires { length closed.old ≡ length rows.now }
-    ensures { AreClosedToo rows.now srlgs.now (length rows.now) closed.old closed.new }
+fn close(rows: &[TeRow], srlgs: &[u32], flags: &[bool], closed: &mut [bool])
+    requires closed { length closed.old ≡ length rows.now }
+    requires flags { AreFlagged srlgs.now flags.now }
+    ensures { AreClosedToo rows.now (λ row. HasOne row srlgs.now) (length rows.now) closed.old closed.new }
 {
     for place in 0..rows.len() {
-        if has_one(&rows[place], srlgs) {
+        if has_one(&rows[place], srlgs, flags) {
             closed[place] = true;
         }
     }
 }
 
-fn has_one(row: &TeRow, srlgs: &[u32]) -> bool
+fn has_one(row: &TeRow, srlgs: &[u32], flags: &[bool]) -> bool
+    requires { AreFlagged srlgs.now flags.now }
     ensures { IsTrue result ↔ HasOne row.now srlgs.now }
 {
     for srlg in row.srlgs.items() {
-        if is_among(srlgs, *srlg) {
+        if is_among(srlgs, flags, *srlg) {
             return true;
         }
     }
     false
 }
 
-fn is_among(srlgs: &[u32], srlg: u32) -> bool
-    ensures { IsTrue result ↔ Contains srlgs.now srlg }
+// Whether the number is in the list. Most that aren't have a remainder that isn't flagged.
+fn is_among(numbers: &[u32], flags: &[bool], number: u32) -> bool
+    requires { AreFlagged numbers.now flags.now }
+    ensures { IsTrue result ↔ Contains numbers.now number }
 {
-    srlgs.contains(&srlg)
+    flags[(number % FLAGS) as usize] && is_in(numbers, number)
+}
+
+// Out of line, since it is seldom asked.
+#[inline(never)]
+fn is_in(numbers: &[u32], number: u32) -> bool
+    ensures { IsTrue result ↔ Contains numbers.now number }
+{
+    numbers.contains(&number)
 }
 
 // The nodes that the route visits besides its two ends.

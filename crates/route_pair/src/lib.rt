@@ -2,7 +2,7 @@
 //! from it and shares no inner node with it.
 #![tactic(auto)]
 
-ghost use Rattle.std.specs.Prelude.{◌≡◌, None, false, IfErr, IfOk, OnOk, replicate};
+ghost use Rattle.std.specs.Prelude.{◌≡◌, None, IfErr, IfOk, OnOk};
 ghost use Rattle.ason_base.specs.Risks.{unknown_link};
 ghost use Rattle.ason_base.specs.Walks.{HaveDistinctLinks, HaveFewEnds, HaveMetrics};
 ghost use Rattle.route_least.specs.Network.{IsNetworkOf};
@@ -16,7 +16,7 @@ use ason_base::ids::{NodeId, OutOfMemory};
 use ason_base::network::TeRow;
 use ason_base::risks::{RiskFault, RiskSet};
 use ason_base::steps::Steps;
-use bans::bans_of;
+use bans::{bans_of, no_rows};
 use route_least::{Found, RouteFault, RouteNetwork};
 use std::alloc::Global;
 
@@ -76,13 +76,6 @@ fn primary_of(
 {
     let closed = no_rows(alloc, rows.len())?;
     network.least(alloc, ends.0, ends.1, &closed, &[])
-}
-
-fn no_rows(alloc: Global, count: usize) -> Result<Vec<bool>, OutOfMemory>
-    ensures { IfOk result (λ closed. closed.items ≡ replicate count false) }
-{
-    let closed: Vec<bool> = vec![in alloc; false; count]?;
-    Ok(closed)
 }
 
 // The least route that is risk-disjoint from the primary one and shares no inner node with it.

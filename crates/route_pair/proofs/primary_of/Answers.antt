@@ -1,4 +1,4 @@
-use Rattle.std.proofs.Common.{◌≡◌, ◌∙◌, [], length, refl}
+use Rattle.std.proofs.Common.{◌∙◌, [], length, refl}
 use Rattle.std.specs.List.{Contains}
 use Rattle.route_least.specs.Answers.{IsLeastFound, IsRefusal}
 use Rattle.route_least.specs.Network.{IsClosed}

@@ -1,8 +1,6 @@
-use Rattle.std.proofs.Common.{◌≡◌, ◌∙◌, ◌++◌, ap, length, sym, subst, take, drop}
-use Rattle.ason_base.specs.Walks.{SharesRisk}
-use Rattle.ason_base.specs.declared.ids.LinkId.{LinkId}
+use Rattle.std.proofs.Common.{◌∙◌, length, subst}
 use Rattle.route_least.proofs.Passed.{written_back}
-use Rattle.route_pair.specs.Closed.{AreClosedToo, AreSrlgsOf}
+use Rattle.route_pair.specs.Closed.{AreClosedToo, AreSrlgsOf, HasOne}
 use Rattle.route_pair.proofs.Closing.{shares_iff}
 use Rattle.route_pair.proofs.Found.{bans_back}
 use Rattle.route_pair.proofs.bans.bans_of.Goals as goal
@@ -16,9 +14,10 @@ returns c =
     let n = length rows in
     let listed : AreSrlgsOf rows used n srlgs = subst
     (λ u. AreSrlgsOf rows u n srlgs) c.deref.ensures.value c.in_ok-srlgs.ensures in
-    let too : AreClosedToo rows srlgs n used c.close.new.closed =
-    subst (λ old. AreClosedToo rows srlgs n old c.close.new.closed) c.deref_mut.ensures.value
-    (subst (λ xs. AreClosedToo rows xs n c.deref_mut.result.now c.close.new.closed) c.deref-2.ensures.value
+    let too : AreClosedToo rows (λ row. HasOne row srlgs) n used c.close.new.closed =
+    subst (λ old. AreClosedToo rows (λ row. HasOne row srlgs) n old c.close.new.closed) c.deref_mut.ensures.value
+    (subst (λ xs. AreClosedToo rows (λ row. HasOne row xs) n c.deref_mut.result.now c.close.new.closed)
+    c.deref-3.ensures.value
     c.close.ensures)
     in
     let back = written_back c.in_ok-closed.closed.len c.close.new.closed used

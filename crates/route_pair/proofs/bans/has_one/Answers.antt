@@ -1,6 +1,4 @@
-use Rattle.std.proofs.Common.{◌≡◌, ◌≤◌, ◌<◌, ℕ, length, get_or, ap, sym, ◌∙◌, subst, arith, below_more, below_none}
-use Rattle.std.specs.List.{Contains}
-use Rattle.route_pair.specs.Closed.{HasOne}
+use Rattle.std.proofs.Common.{arith, below_more}
 use Rattle.route_pair.proofs.Closing.{no_one}
 use Rattle.route_pair.proofs.bans.has_one.Goals as goal
 

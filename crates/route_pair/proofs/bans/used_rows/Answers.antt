@@ -1,20 +1,23 @@
-use Rattle.std.proofs.Common.{◌≡◌, ◌≤◌, ◌+◌, length, sym, subst, arith}
-use Rattle.route_least.proofs.Bans.{all_rows, no_rows, row_more}
-use Rattle.route_pair.specs.Closed.{AreUsed, IsOnRoute}
+use Rattle.std.proofs.Common.{◌∙◌, length, sym, subst}
+use Rattle.route_least.specs.Bans.{AreRowsWith}
+use Rattle.route_least.proofs.Passed.{written_back}
+use Rattle.route_pair.specs.Closed.{AreClosedToo, HasLink, IsOnRoute}
+use Rattle.route_pair.proofs.Closing.{closed_alone}
+use Rattle.route_pair.proofs.Flags.{on_route}
 use Rattle.route_pair.proofs.bans.used_rows.Goals as goal
-
-pub loop-row-init : goal.loop-row-init
-loop-row-init c = no_rows (IsOnRoute c.args.route.now) c.args.rows.now _ c.in_ok-used.ensures.items
-
-pub loop-row-preserved : goal.loop-row-preserved
-loop-row-preserved c =
-    subst (AreUsed c.args.rows.now c.args.route.now (c.loop-row.row-index + 1)) (sym c.in_ok-push.ensures.items)
-    (row_more (IsOnRoute c.args.route.now) c.args.rows.now c.loop-row.row-index c.row-item.result
-    c.loop-row.used.items c.has_link.result c.row-item.is c.has_link.ensures c.loop-row.invariant)
 
 pub returns : goal.returns
 returns c =
-    let past : length c.args.rows.now ≤ c.loop-row.row-index = c.loop-row-test.false in
-    let inside : c.loop-row.row-index ≤ length c.args.rows.now = c.loop-row.auto.row-index-end in
-    all_rows (IsOnRoute c.args.route.now) c.args.rows.now c.loop-row.row-index c.loop-row.used.items
-    (omega arith) c.loop-row.invariant
+    let rows = c.args.rows.now in
+    let route = c.args.route.now in
+    let links = c.in_ok-links.links.items in
+    let old = c.deref_mut.result.now in
+    let new = c.close_links.new.closed in
+    let too : AreClosedToo rows (HasLink links) (length rows) old new =
+    subst (λ xs. AreClosedToo rows (HasLink xs) (length rows) old new) c.deref-2.ensures.value c.close_links.ensures in
+    let back = written_back c.in_ok-used.used.len new c.in_ok-used.used.items
+    (c.close_links.ensures.len ∙ c.deref_mut.ensures.len) in
+    subst (AreRowsWith (IsOnRoute route) rows (length rows)) (sym back)
+    (closed_alone rows (HasLink links) (IsOnRoute route) old new
+    (λ row. on_route route row links c.in_ok-links.ensures)
+    (c.deref_mut.ensures.value ∙ c.in_ok-used.ensures) too)
