@@ -62,7 +62,8 @@ pub(crate) fn no_marks(alloc: Global, count: usize) -> Result<Vec<bool>, OutOfMe
     Ok(marks)
 }
 
-// Visits each place whose cost was lowered. Whether any cost was lowered then.
+// Visits each place whose cost was lowered. Whether any cost was lowered then. It is out of line, so that its loop stays short.
+#[inline(never)]
 fn pass(
     places: &[Place],
     closed: &[bool],

@@ -32,11 +32,11 @@ impl Drop for Place {
 /// How many guesses there are of where a node is, by the remainder of its number.
 pub(crate) const GUESSES: u32 = 256;
 
-/// How many ends of rows have each remainder; 255 stands for more too.
-pub(crate) fn end_counts(alloc: Global, rows: &[TeRow]) -> Result<Vec<u8>, OutOfMemory>
+/// How many ends of rows have each remainder.
+pub(crate) fn end_counts(alloc: Global, rows: &[TeRow]) -> Result<Vec<u32>, OutOfMemory>
     ensures { IfOk result (λ counts. length counts.items ≡ 256) }
 {
-    let mut counts: Vec<u8> = vec![in alloc; 0; GUESSES as usize]?;
+    let mut counts: Vec<u32> = vec![in alloc; 0; GUESSES as usize]?;
     for row in rows {
         count_end(&mut counts, row.low);
         count_end(&mut counts, row.high);
@@ -44,12 +44,12 @@ pub(crate) fn end_counts(alloc: Global, rows: &[TeRow]) -> Result<Vec<u8>, OutOf
     Ok(counts)
 }
 
-fn count_end(counts: &mut [u8], node: NodeId)
+fn count_end(counts: &mut [u32], node: NodeId)
     requires { length counts.old ≡ 256 }
     ensures { length counts.new ≡ 256 }
 {
     let remainder = (node.0 % GUESSES) as usize;
-    counts[remainder] = counts[remainder].saturating_add(1);
+    counts[remainder] = counts[remainder].wrapping_add(1);
 }
 
 /// The place of a node.
@@ -109,7 +109,7 @@ fn guessed_seat(
     alloc: Global,
     places: &mut Vec<Place>,
     guesses: &mut [usize],
-    counts: &[u8],
+    counts: &[u32],
     node: NodeId,
 ) -> Result<usize, OutOfMemory>
     requires once { AreOnce places.old.items }
@@ -131,7 +131,7 @@ fn next_guess(
     alloc: Global,
     places: &mut Vec<Place>,
     guesses: &mut [usize],
-    counts: &[u8],
+    counts: &[u32],
     node: NodeId,
 ) -> Result<usize, OutOfMemory>
     requires once { AreOnce places.old.items }
@@ -141,7 +141,7 @@ fn next_guess(
     ensures guesses { OnOk result (AreGuesses places.new.items guesses.new) }
 {
     let remainder = (node.0 % GUESSES) as usize;
-    let room = usize::from(counts[remainder]);
+    let room = counts[remainder] as usize;
     let place = if guesses[remainder] < places.len() {
         seat(alloc, places, node, room)?
     } else {
@@ -164,7 +164,7 @@ pub(crate) fn add_row(
     alloc: Global,
     places: &mut Vec<Place>,
     guesses: &mut [usize],
-    counts: &[u8],
+    counts: &[u32],
     row: &TeRow,
     index: usize,
 ) -> Result<(), OutOfMemory>
