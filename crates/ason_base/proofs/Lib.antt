@@ -2,6 +2,8 @@ pub mod Bridges
 pub mod Inserted
 pub mod KeyOrder
 pub mod KeyedLists
+pub mod KeySearch
+pub mod LinkOrder
 pub mod LspOrder
 pub mod MaskMembers
 pub mod MaskCounts

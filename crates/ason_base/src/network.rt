@@ -206,7 +206,10 @@ impl Topology {
     pub fn link(&self, id: LinkId) -> Option<&LinkSpec>
         ensures { option_copied result ≡ find_link self.now id }
     {
-        self.links.iter().find(|link| link.id == id)
+        match self.links.binary_search_by_key(&id.0, |link| link.id.0) {
+            Ok(place) => Some(&self.links[place]),
+            Err(_) => None,
+        }
     }
 
     /// The node that sends on this fibre: none exactly where there is no such link.

@@ -10,6 +10,7 @@ use Rattle.std.proofs.lemmas.List.Elements.{All-filter, All-map, All-push}
 use Rattle.std.proofs.lemmas.List.Kept.{AllPairs-filter}
 use Rattle.std.proofs.lemmas.List.Quantifiers.{all_pairs_push}
 use Rattle.std.proofs.lemmas.Cmp.{ranked}
+use Rattle.ason_base.proofs.KeySearch.{differ, found-key, no-key}
 use Rattle.ason_base.specs.declared.ids.NodeId.{NodeId}
 use Rattle.ason_base.specs.declared.network.TeRow.{TeRow}
 use Rattle.flood.specs.declared.due.Due.{Due}
@@ -18,32 +19,7 @@ use Rattle.flood.specs.State.{IsInOrder, NeighbourState, is_first, is_from, olde
 abbrev pub Rises : List Due → Type 0
 Rises due = AllPairs (λ d e. d.number < e.number) due
 
-comparisons_rise : (due : List Due) (number : ℕ) → Rises due
-    → IsNonDecreasingBy (λ d. ordering_index (nat_cmp d.number number)) due
-comparisons_rise due number rising i j d below within = by_place (by_order i j below)
-  where
-    by_order : (a b : ℕ) → a ≤ b → (a ≡ b) ⊎ (a < b)
-    by_order a b h = grind arith
-
-    ranks : (m n : ℕ) → m < n → ordering_index (nat_cmp m number) ≤ ordering_index (nat_cmp n number)
-    ranks m n less = grind (arith, nat_tests)
-
-    by_place : (i ≡ j) ⊎ (i < j) → ordering_index (nat_cmp (get_or due i d).number number) ≤ ordering_index
-        (nat_cmp (get_or due j d).number number)
-    by_place p = elim p [
-      | inl same ↦ subst (λ k. ordering_index (nat_cmp (get_or due i d).number number) ≤ ordering_index
-          (nat_cmp (get_or due k d).number number)) same (omega arith)
-      | inr before ↦ ranks (get_or due i d).number (get_or due j d).number (rising i j d before within)
-    ]
-
 -- Without a number
-
-differ : (a b : ℕ) → a ≢ b → (a == b) ≡ false
-differ a b apart = by_test (a == b) refl
-  where
-    by_test : (c : Bool) → (a == b) ≡ c → (a == b) ≡ false
-    by_test true e = absurd (apart (grind arith))
-    by_test false e = e
 
 without : ℕ → List Due → List Due
 without number due = filter (λ (d : Due). not (d.number == number)) due
@@ -99,29 +75,13 @@ pub found_goes : (number : ℕ) (due : List Due) (i : ℕ) → Rises due → i <
     → remove due i ≡ filter (λ (d : Due). not (d.number == number)) due
 unfolding without
 found_goes number due i rising within found =
-    one_goes number due i rising within (λ d. ranked (get_or due i d).number number _ (sym (found d)))
+    one_goes number due i rising within (found-key (λ (d : Due). d.number) due number i found)
 
 pub none_goes : (number : ℕ) (due : List Due) (i : ℕ) → Rises due → IsFoundBy number due (Err i)
     → due ≡ filter (λ (d : Due). not (d.number == number)) due
 unfolding without
-none_goes number due i rising absent = sym (all_stay number due other)
-  where
-    parted : IsPartitionPoint (λ (d : Due). nat_cmp d.number number ≡ Less)
-        (λ (d : Due). nat_cmp d.number number ≡ Greater) due i
-    parted = absent (comparisons_rise due number rising)
-
-    by_order : (a b : ℕ) → (a < b) ⊎ (b ≤ a)
-    by_order a b = grind arith
-
-    other : (k : ℕ) (d : Due) → k < length due → (get_or due k d).number ≢ number
-    other k d within equal = elim (by_order k i) [
-      | inl before ↦ (let less : (get_or due k d).number < number =
-          ranked (get_or due k d).number number _
-          (sym (parted.0 k d (omega arith) before)) in absurd (omega arith))
-      | inr after ↦ (let more : number < (get_or due k d).number =
-          ranked (get_or due k d).number number _ (sym (parted.1 k d after within)) in absurd
-          (omega arith))
-    ]
+none_goes number due i rising absent =
+    sym (all_stay number due (no-key (λ (d : Due). d.number) due number i rising absent))
 
 -- The order stays.
 

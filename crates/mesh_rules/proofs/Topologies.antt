@@ -7,50 +7,11 @@ use Rattle.std.proofs.lemmas.Option.{slice_get-get_or}
 use Rattle.ason_base.specs.declared.network.LinkSpec.{LinkSpec}
 use Rattle.ason_base.specs.declared.network.NodeSpec.{NodeSpec}
 use Rattle.ason_base.specs.Network.{IsTopology, Network, is_after, is_distinct, is_link, is_link_here, link_number}
+use Rattle.ason_base.proofs.LinkOrder.{Rises, links-rise}
 use Rattle.mesh_rules.specs.Commands.{has_metric, is_searchable}
 use Rattle.mesh_rules.proofs.Conjunctions.{and_first, and_second}
 
 -- Numbers
-
--- each link's number is above n, and above those of all earlier ones
-abbrev pub Rises : ℕ → List LinkSpec → Type 0
-Rises n [] = Unit {0}
-Rises n (l ∷ links) = (n < l.id.0) × Rises l.id.0 links
-
--- the link at this place has a number above that of the one before, the first above n
-abbrev is_above : ℕ → List LinkSpec → ℕ → Bool
-is_above n links k = nat_lt (cond (nat_eq k 0) n (link_number (slice_get links (k - 1))))
-    (link_number (slice_get links k))
-
-without_first : (n : ℕ) (l : LinkSpec) (links : List LinkSpec) (k : ℕ) → is_above n (l ∷ links) (suc k) ≡ true →
-    is_above l.id.0 links k ≡ true
-without_first n l links zero e = e
-without_first n l links (suc k) e =
-    let here : suc (suc k) - 1 ≡ suc k = omega arith in
-    let before : suc k - 1 ≡ k = omega arith in
-    let first : nat_eq (suc (suc k)) 0 ≡ false = grind arith in
-    let later : nat_eq (suc k) 0 ≡ false = grind arith in
-    let at : nat_lt (link_number (slice_get (l ∷ links) (suc k))) (link_number (slice_get links (suc k))) ≡ true =
-    sym (ap (λ b. nat_lt (cond b n (link_number (slice_get (l ∷ links) (suc (suc k) - 1))))
-    (link_number (slice_get links (suc k)))) first
-    ∙ ap (λ j. nat_lt (link_number (slice_get (l ∷ links) j)) (link_number (slice_get links (suc k)))) here) ∙ e
-    in
-    ap (λ b. nat_lt (cond b l.id.0 (link_number (slice_get links (suc k - 1))))
-    (link_number (slice_get links (suc k)))) later
-    ∙ ap (λ j. nat_lt (link_number (slice_get links j)) (link_number (slice_get links (suc k)))) before ∙ at
-
-less : (a b : ℕ) → nat_lt a b ≡ true → a < b
-less a b e = grind arith
-
-rises : (n : ℕ) (links : List LinkSpec) → ((k : ℕ) → k < length links → is_above n links k ≡ true) → Rises n links
-rises n [] each = tt
-rises n (l ∷ links) each = (
-  less n l.id.0 (each 0 (omega arith)),
-  rises l.id.0 links (λ k below. without_first n l links k (each (suc k) (omega arith))),
-)
-
-pub links-rise : (t : Network) → IsTopology t → Rises 0 t.links
-links-rise t valid = rises 0 t.links (λ k below. and_first (is_after t.links k) _ (valid.links k below))
 
 none_equal : (n m : ℕ) (links : List LinkSpec) → n ≤ m → Rises m links →
     list_any (λ y. nat_eq y n) (map (λ l. l.id.0) links) ≡ false

@@ -13,9 +13,10 @@ use Rattle.ason_base.specs.declared.network.NodeSpec.{NodeSpec}
 use Rattle.ason_base.specs.declared.network.TeRow.{TeRow}
 use Rattle.ason_base.proofs.Bridges.{same_node}
 use Rattle.ason_base.proofs.Ordered.{any-there}
+use Rattle.ason_base.proofs.LinkOrder.{Rises, links-rise}
 use Rattle.mesh_rules.specs.Commands.{has_metric}
 use Rattle.mesh_rules.proofs.Conjunctions.{and_first, and_second}
-use Rattle.mesh_rules.proofs.Topologies.{Rises, each-link, link-metric, links-rise}
+use Rattle.mesh_rules.proofs.Topologies.{each-link, link-metric}
 use Rattle.mesh_nodes.specs.Routes.{AreSearchable}
 use Rattle.mesh_nodes.proofs.routes.Lists.{contains-map}
 

@@ -14,6 +14,7 @@ use Rattle.ason_base.specs.declared.messages.Msg.{Msg}
 use Rattle.ason_base.specs.declared.network.LinkSpec.{LinkSpec}
 use Rattle.ason_base.specs.declared.tables.CallRec.{CallRec}
 use Rattle.ason_base.specs.declared.tables.Leg.{Leg}
+use Rattle.ason_base.proofs.LinkOrder.{Rises, links-rise}
 use Rattle.mesh_rules.specs.declared.events.MeshEvent.{MeshEvent}
 use Rattle.mesh_rules.specs.declared.events.MeshEvent.TheVariants.{Take, Desk, Tick, Learn, Post}
 use Rattle.mesh_rules.specs.Alarms.{enters}
@@ -30,7 +31,6 @@ use Rattle.mesh_rules.specs.Orders.{on_item}
 use Rattle.mesh_rules.specs.State.{NodeState}
 use Rattle.mesh_rules.specs.Turns.{go_back, has_any}
 use Rattle.mesh_rules.specs.Waits.{all_ticked, on_tick, ticked}
-use Rattle.mesh_rules.proofs.Topologies.{Rises, links-rise}
 use Rattle.mesh_nodes.proofs.Cases.{if_cases}
 use Rattle.mesh_nodes.proofs.LearnsNothing.{message-keeps_down, order-keeps_down}
 use Rattle.lsp_laws.specs.ReportLaw.{DesksTell, EveryDeskTellsFailures, after_item, after_items}

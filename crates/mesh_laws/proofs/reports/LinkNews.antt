@@ -9,9 +9,9 @@ use Rattle.ason_base.specs.declared.ids.Fibre.{Fibre}
 use Rattle.ason_base.specs.declared.ids.NodeId.{NodeId}
 use Rattle.ason_base.specs.declared.network.LinkSpec.{LinkSpec}
 use Rattle.ason_base.proofs.Ordered.{contains-cases, contains-none}
+use Rattle.ason_base.proofs.LinkOrder.{Rises}
 use Rattle.mesh_rules.specs.Failures.{changed_news, is_cut, link_news, news, news_at}
 use Rattle.mesh_rules.specs.LocalNodes.{fibre_in}
-use Rattle.mesh_rules.proofs.Topologies.{Rises}
 use Rattle.mesh_nodes.proofs.Cases.{if_cases}
 use Rattle.lsp_laws.specs.ReportLaw.{after_item, after_items}
 use Rattle.mesh_laws.proofs.reports.KnownFibres.{same_bool-is}

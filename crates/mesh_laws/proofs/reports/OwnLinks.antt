@@ -5,7 +5,7 @@ use Rattle.ason_base.specs.Network.{touches}
 use Rattle.ason_base.specs.declared.ids.NodeId.{NodeId}
 use Rattle.ason_base.specs.declared.network.LinkSpec.{LinkSpec}
 use Rattle.ason_base.proofs.Ordered.{contains-cases, contains-none}
-use Rattle.mesh_rules.proofs.Topologies.{Rises}
+use Rattle.ason_base.proofs.LinkOrder.{Rises}
 
 pub above-all : (m : ℕ) (links : List LinkSpec) (l : LinkSpec) → Rises m links → Contains links l → m < l.id.0
 above-all m [] l rise there = absurd (contains-none l there)
