@@ -1,7 +1,7 @@
 //! Labels, and sets of labels (RFC 3471, section 3).
 
 ghost use Rattle.std.specs.Prelude.{◌≡◌, ◌≤◌, [], SomeIff, filter, length};
-ghost use Rattle.ason_base.specs.Labels.{has, least, meet, up_to, with_label, without};
+ghost use Rattle.ason_base.specs.Labels.{has, least, meet, members, up_to, with_label, without};
 
 use std::marker::Model;
 
@@ -135,6 +135,13 @@ impl LabelSet {
         LabelSet {
             mask: self.mask & !(1u128 << l.number()),
         }
+    }
+
+    /// The set as bits: bit n stands for label n. Those that stand for no label say nothing.
+    pub fn bits(&self) -> u128
+        ensures { members result ≡ self.now }
+    {
+        self.mask
     }
 
     /// Law: a set is the rising list of the labels of 1 to 80 that it has.

@@ -1,13 +1,15 @@
 -- The labels of a set one by one, as a LABEL_SET is counted and written, and read again.
 use Rattle.std.proofs.Common.{◌≡◌, ℕ, zero, suc, ◌+◌, ◌-◌, ◌*◌, ◌<◌, ◌≤◌, ◌^◌, ◌||◌, List, [], ◌∷◌, ◌++◌, length}
 use Rattle.std.proofs.Common.{drop, filter, replicate, set, take, max, All, Bool, true, false, cond, refl, ap, sym, ◌∙◌}
-use Rattle.std.proofs.Common.{arith, append_assoc, length-append, inl, inr}
+use Rattle.std.proofs.Common.{arith, append_assoc, length-append, inl, inr, ◌/◌, ◌==◌, bit_and}
 use Rattle.std.proofs.lemmas.List.{append-nil, length-replicate, set-append_right, take_at}
 use Rattle.std.proofs.lemmas.List.Elements.{filter-append, All-filter, All-nil, All-cons}
 use Rattle.std.proofs.lemmas.List.Concat.{flat_map-append}
 use Rattle.std.proofs.lemmas.List.Sums.{length-filter, count_by-le-length}
-use Rattle.ason_base.specs.Labels.{has, up_to, numbers_from}
-use Rattle.ason_base.proofs.MaskMembers.{filter-agree}
+use Rattle.std.proofs.lemmas.Nat.{shr-shr}
+use Rattle.std.proofs.lemmas.Nat.Bits.{shr_and_one}
+use Rattle.ason_base.specs.Labels.{has, members, up_to, numbers_from}
+use Rattle.ason_base.proofs.MaskMembers.{filter-agree, has-members}
 use Rattle.byteorder.specs.Endian.{big_number, big_bytes}
 use Rattle.wire_buf.specs.Objects.{numbers, object}
 use Rattle.wire_buf.proofs.Numbers.{numbers-length, numbers_again}
@@ -41,6 +43,16 @@ below_with s n h e = below_more s n h ∙ ap (λ (b : Bool). labels_below s n ++
 pub below_without : (s : List ℕ) (n : ℕ) → 1 ≤ n → has s n ≡ false → labels_below s (n + 1) ≡ labels_below s n
 below_without s n h e =
     below_more s n h ∙ ap (λ (b : Bool). labels_below s n ++ cond b (n ∷ []) []) e ∙ append-nil (labels_below s n)
+
+-- the bit of a label tells whether the set has it, and shifted by one more it is the next one's
+pub bit_tells : (s : List ℕ) (all bits n : ℕ) → members all ≡ s → bits ≡ all / 2 ^ n → 1 ≤ n → n ≤ 80
+    → has s n ≡ (bit_and bits 1 == 1)
+bit_tells s all bits n is at low high =
+    ap (λ (l : List ℕ). has l n) (sym is) ∙ has-members all n low high
+    ∙ ap (λ (b : ℕ). b == 1) (sym (ap (λ (x : ℕ). bit_and x 1) at ∙ shr_and_one all n))
+
+pub next_bits : (all bits n : ℕ) → bits ≡ all / 2 ^ n → bits / 2 ^ 1 ≡ all / 2 ^ (n + 1)
+next_bits all bits n at = ap (λ (x : ℕ). x / 2 ^ 1) at ∙ shr-shr all n 1
 
 length-numbers_from : (k first : ℕ) → length (numbers_from first k) ≡ k
 unfolding numbers_from

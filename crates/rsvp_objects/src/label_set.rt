@@ -106,17 +106,6 @@ pub fn read_label_set(body: &[u8]) -> Option<LabelSetObject>
     }
 }
 
-fn holds(set: &LabelSet, n: u8) -> bool
-    requires some { 1 ≤ n }
-    requires few { n ≤ 80 }
-    ensures { result ≡ has set.now n }
-{
-    match Label::new(n) {
-        Some(label) => set.has(label),
-        None => false,
-    }
-}
-
 // Writes the labels over zeros behind the first eight bytes, each in four, and tells where they end.
 fn lay_labels(bytes: &mut [u8], set: &LabelSet) -> usize
     requires { bytes.old ≡ replicate 328 0 }
@@ -124,11 +113,14 @@ fn lay_labels(bytes: &mut [u8], set: &LabelSet) -> usize
     ensures laid { bytes.new ≡ laid (among set.now) result }
 {
     let mut at = 8;
+    let all = set.bits();
+    let mut bits = all >> 1;
     'labels: for n in 1..81u8 {
-        if holds(set, n) {
+        if bits & 1 == 1 {
             bytes[at + 3] = n;
             at += 4;
         }
+        bits >>= 1;
     }
     at
 }
