@@ -49,18 +49,20 @@ pub fn read_steps(alloc: Global, body: &[u8]) -> Result<Steps, DecodeError>
     if body.is_empty() || body.len() > MOST_STEPS * STEP {
         return Err(DecodeError::NotMessage);
     }
+    let Ok(mut steps) = Vec::with_capacity(alloc, body.len() / STEP) else {
+        return Err(DecodeError::OutOfMemory);
+    };
     let mut cursor = Cursor::new(body);
-    let mut steps = Steps::new(alloc);
     'steps: while !cursor.is_empty() {
         let Some(step) = next_step(&mut cursor) else {
             return Err(DecodeError::NotMessage);
         };
         match steps.push(step) {
             Ok(()) => {}
-            Err(OutOfMemory) => return Err(DecodeError::OutOfMemory),
+            Err(_) => return Err(DecodeError::OutOfMemory),
         }
     }
-    Ok(steps)
+    Ok(Steps::from_vec(steps))
 }
 
 /// Law: what is written of a route is read as that route again.

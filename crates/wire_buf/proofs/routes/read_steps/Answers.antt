@@ -15,14 +15,14 @@ returns-then-is_empty c = decodes_none (λ steps route.
       | then-is_empty-via-else-is_empty+then-body w ↦ absurd (omega (arith, o.1))
     ])
 
-pub returns-in_default : goal.returns-in_default
-returns-in_default c = decodes_none (λ steps route.
+pub returns-in_default-next_step : goal.returns-in_default-next_step
+returns-in_default-next_step c = decodes_none (λ steps route.
     stops _ _ _ (not_empty _ _ c.is_empty-in-steps.ensures c.steps-test.true)
-    (λ s is. c.in_default.not-Some s (c.next_step.ensures.step.only s is)) c.steps.invariant steps route.2)
+    (λ s is. c.in_default-next_step.not-Some s (c.next_step.ensures.step.only s is)) c.steps.invariant steps route.2)
 
 pub steps-preserved : goal.steps-preserved
 steps-preserved c =
-    rw c.in-Ok.ensures.ok
+    rw c.in-Ok-push.ensures.items
     (goes_on steps_once _ _ _ _ _ c.in-Some.ensures.step.found c.in-Some.ensures.left c.steps.invariant)
 
 pub returns : goal.returns
@@ -30,4 +30,4 @@ returns c =
     let route =
     is_route _ _ _ (is_empty _ _ c.is_empty-in-steps.ensures c.steps-test.false)
     (not_empty _ _ c.is_empty.ensures c.if-is_empty.false) (omega arith) c.steps.invariant in
-    decodes_some _ route.0 route.1
+    rw c.from_vec.ensures (decodes_some _ route.0 route.1)
