@@ -1,3 +1,5 @@
+pub mod KeyRemoved
+pub mod Acknowledged
 pub mod Again
 pub mod Aged
 pub mod Members

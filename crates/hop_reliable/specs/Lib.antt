@@ -1,4 +1,5 @@
 pub mod Ages
 pub mod Hop
+pub mod Order
 pub mod Room
 pub mod Schedules

@@ -23,6 +23,7 @@ pub struct Hop {
 impl Model for Hop {
     ghost use Rattle.std.specs.Prelude.{vec_capacity, vec_len};
     ghost use Rattle.hop_reliable.specs.Hop.{PreparedHop};
+    ghost use Rattle.hop_reliable.specs.Order.{AreNumberedAfter, AreSentInOrder};
     ghost use Rattle.hop_reliable.specs.Room.{HasRoom};
 
     ghost Value = { PreparedHop };
@@ -32,7 +33,8 @@ impl Model for Hop {
       prepared = h.prepared.items;
     } };
 
-    ghost invariant = { λ h. HasRoom h.sent (vec_len h.unacked) (vec_len h.prepared) (vec_capacity h.unacked) };
+    ghost invariant = { λ h. HasRoom h.sent (vec_len h.unacked) (vec_len h.prepared) (vec_capacity h.unacked) ×
+        AreSentInOrder h.sent h.unacked.items × AreNumberedAfter h.sent h.prepared.items };
 }
 
 impl Hop {

@@ -1,9 +1,10 @@
 //! Messages that wait for their acknowledgement.
 
-ghost use Rattle.std.specs.Prelude.{◌≡◌, ◌≤◌, ◌∷◌, ◌++◌, IfOk, length, map, vec_capacity, vec_len};
-ghost use Rattle.std.specs.List.{list_any};
+ghost use Rattle.std.specs.Prelude.{◌≡◌, ◌≤◌, ◌==◌, ◌∷◌, ◌++◌, IfOk, filter, length, map, not, vec_capacity, vec_len};
+ghost use Rattle.std.specs.List.{remove};
 ghost use Rattle.hop_reliable.specs.Ages.{is_due, older_age};
-ghost use Rattle.hop_reliable.specs.Hop.{again, is_ack_of, numbered, older, still_unacked};
+ghost use Rattle.hop_reliable.specs.Hop.{again, numbered, older, still_unacked};
+ghost use Rattle.hop_reliable.specs.Order.{NumbersRise};
 
 use crate::ages::{is_due, older_age};
 use crate::heard::EPOCH;
@@ -95,18 +96,56 @@ pub(crate) fn age_all(unacked: &mut [Unacked])
 
 /// Takes off each message that is acknowledged in epoch 1.
 pub(crate) fn take_off(unacked: &mut Vec<Unacked>, acks: &[MsgId])
+    requires { NumbersRise unacked.old.items }
     ensures left { unacked.new.items ≡ still_unacked acks.now unacked.old.items }
     ensures less { vec_len unacked.new ≤ vec_len unacked.old }
     ensures capacity { vec_capacity unacked.new ≡ vec_capacity unacked.old }
 {
-    if !acks.is_empty() {
-        unacked.retain(|w| !is_acked(acks, w.number));
+    if unacked.is_empty() {
+        return;
+    }
+    for ack in acks {
+        if ack.epoch == EPOCH {
+            take_off_number(unacked, ack.number);
+        }
     }
 }
 
-fn is_acked(acks: &[MsgId], number: u32) -> bool
-    ensures { result ≡ list_any (is_ack_of number) acks.now }
+// Takes off the message of this number. Most often it is the first one, or was taken off before. The numbers rise, so any
+// other is looked up.
+fn take_off_number(unacked: &mut Vec<Unacked>, number: u32)
+    requires { NumbersRise unacked.old.items }
+    ensures left { unacked.new.items ≡
+        filter (λ w. not (w.number == number)) unacked.old.items }
+    ensures less { vec_len unacked.new ≤ vec_len unacked.old }
+    ensures capacity { vec_capacity unacked.new ≡ vec_capacity unacked.old }
 {
-    acks.iter()
-        .any(|ack| ack.epoch == EPOCH && ack.number == number)
+    if unacked.is_empty() {
+        return;
+    }
+    let first = unacked[0].number;
+    if number < first {
+        return;
+    }
+    if number == first {
+        take_off_first(unacked);
+        return;
+    }
+    if let Ok(place) = unacked.binary_search_by_key(&number, |w| w.number) {
+        unacked.remove(place);
+    }
+}
+
+// Takes off the first message. Where it is the only one, nothing is moved.
+fn take_off_first(unacked: &mut Vec<Unacked>)
+    requires { 1 ≤ vec_len unacked.old }
+    ensures left { unacked.new.items ≡ remove unacked.old.items 0 }
+    ensures less { vec_len unacked.new ≤ vec_len unacked.old }
+    ensures capacity { vec_capacity unacked.new ≡ vec_capacity unacked.old }
+{
+    if unacked.len() == 1 {
+        unacked.clear();
+    } else {
+        unacked.remove(0);
+    }
 }

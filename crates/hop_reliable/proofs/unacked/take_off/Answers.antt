@@ -1,11 +1,34 @@
-use Rattle.std.proofs.Common.{rules, sym, ◌∙◌}
-use Rattle.std.proofs.lemmas.Fn.{filter_same}
-use Rattle.hop_reliable.proofs.Aged.{none_acked}
+use Rattle.std.proofs.Common.{◌<◌, not, refl, rules, subst, sym, take, ◌∙◌}
+use Rattle.std.proofs.lemmas.List.Kept.{AllPairs-filter}
+use Rattle.hop_reliable.specs.Hop.{is_acked}
+use Rattle.hop_reliable.specs.Order.{NumbersRise}
+use Rattle.hop_reliable.proofs.Aged.{still_unacked-nil}
+use Rattle.hop_reliable.proofs.Acknowledged.{number-goes, nothing-goes}
+use Rattle.hop_reliable.proofs.unacked.take_off.Goals.{then-ack-eq-EPOCH, else-ack-eq-EPOCH}
 use Rattle.hop_reliable.proofs.unacked.take_off.Goals as goal
 
-pub returns-then-not-is_empty-clause-left : goal.returns-then-not-is_empty-clause-left
-returns-then-not-is_empty-clause-left c = filter_same _ _ _ (λ w b f k. search rules) _ _ c.retain.ensures.filtered
+pub loop-ack-init : goal.loop-ack-init
+loop-ack-init c = (sym (still_unacked-nil c.args.unacked.now.items), search rules, refl)
 
-pub returns-else-not-is_empty-clause-left : goal.returns-else-not-is_empty-clause-left
-returns-else-not-is_empty-clause-left c = none_acked c.args.acks.now c.args.unacked.now.items
-    (sym c.is_empty.ensures ∙ c.if-not-is_empty.false)
+pub take_off_number-requires : goal.take_off_number-requires
+take_off_number-requires c =
+    subst NumbersRise (sym c.loop-ack.invariant.0)
+    (AllPairs-filter (λ v w. v.number < w.number) (λ w. not (is_acked (take c.loop-ack.ack-index c.args.acks.now) w))
+    c.args.unacked.now.items c.requires)
+
+pub loop-ack-preserved : goal.loop-ack-preserved
+loop-ack-preserved c = elim c.if-ack-eq-EPOCH.branch [
+  | then-ack-eq-EPOCH w ↦ rw w.unacked-is (
+    w.take_off_number.ensures.left
+        ∙ number-goes c.args.acks.now c.loop-ack.ack-index _ c.args.unacked.now.items c.loop-ack.unacked.items
+        c.loop-ack-test.true w.if-ack-eq-EPOCH.true c.loop-ack.invariant.0,
+    search rules,
+    search rules,
+  )
+  | else-ack-eq-EPOCH w ↦ rw w.unacked-is (
+    nothing-goes c.args.acks.now c.loop-ack.ack-index _ c.args.unacked.now.items _
+        c.loop-ack-test.true w.if-ack-eq-EPOCH.false c.loop-ack.invariant.0,
+    c.loop-ack.invariant.1,
+    c.loop-ack.invariant.2,
+  )
+]
