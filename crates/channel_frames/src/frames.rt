@@ -13,7 +13,7 @@ ghost use Rattle.flood.specs.Messages.{flood_bytes};
 use crate::content_ref::{ContentRef, Parts};
 use ason_base::{DecodeError, NodeId, OutOfMemory, Packet};
 use flood::{FloodMsg, FloodRef, append_flood_ref, decode_flood};
-use rsvp_messages::{PacketRef, decode, encode_ref_into};
+use rsvp_messages::{PacketRef, decode, encode_ref_into, room_for_ref};
 use std::alloc::Global;
 
 /// The first byte of a frame that bears an RSVP message: RSVP's number among the protocols over IP.
@@ -90,6 +90,7 @@ fn write_message(out: &mut Vec<u8>, me: NodeId, p: &PacketRef<'_>) -> Result<(),
     ensures written { OnOk result (out.new.items ≡ out.old.items ++ 46 ∷ written me p.now) }
     ensures spelled { OnOk result (IsFrame (46 ∷ written me p.now) (Content.Message p.now)) }
 {
+    out.reserve(1 + room_for_ref(p))?;
     out.push(RSVP)?;
     encode_ref_into(out, me, p)
 }

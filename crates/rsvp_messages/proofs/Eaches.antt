@@ -122,3 +122,10 @@ breaks class ctype Means raws i d within same none zs are =
     (subst (λ (os : List Object). AreEach ctype Means os zs) apart are) in
     let s = splits ctype Means (of_class class (all_seen (take i raws))) (seen (get_or raws i d)) front.0 front.1 in
     none s.last s.typed s.means
+
+-- the only object means nothing
+pub alone_breaks : {X : Type 0} (ctype : ℕ) (Means : List ℕ → X → Type 0) (os : List Object) (o : Object) →
+    os ≡ o ∷ [] → ((x : X) → Means o.body x → ⊥) → (zs : List X) → AreEach ctype Means os zs → ⊥
+alone_breaks ctype Means os o alone none zs are =
+    let s = splits ctype Means [] o zs (subst (λ (l : List Object). AreEach ctype Means l zs) alone are) in
+    none s.last s.means

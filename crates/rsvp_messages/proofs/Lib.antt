@@ -1,5 +1,6 @@
 pub mod Scanning
 pub mod Lookups
+pub mod Placed
 pub mod Subjects
 pub mod Eaches
 pub mod Sets

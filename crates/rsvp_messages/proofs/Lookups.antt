@@ -10,7 +10,7 @@ use Rattle.rsvp_messages.specs.Objects.{Object, of_class}
 use Rattle.rsvp_messages.specs.Parts.{HasAtMostOne, HasOne}
 use Rattle.rsvp_messages.specs.Seen.{all_seen, seen}
 
-test_same : (a b : ℕ) → a ≡ b → (a == b) ≡ true
+pub test_same : (a b : ℕ) → a ≡ b → (a == b) ≡ true
 test_same a b e = grind arith
 
 pub test_other : (a b : ℕ) → a ≢ b → (a == b) ≡ false

@@ -1,6 +1,6 @@
 -- Reading objects one after the other.
 use Rattle.std.proofs.Common.{◌≡◌, ℕ, ◌<◌, ◌≤◌, List, [], ◌∷◌, ◌++◌, length, take, drop, ap, sym, subst, ◌∙◌, arith}
-use Rattle.std.proofs.Common.{length-drop, All, ◌^◌}
+use Rattle.std.proofs.Common.{length-append, length-drop, All, ◌^◌, ◌+◌, ◌*◌}
 use Rattle.std.proofs.lemmas.List.{map-append}
 use Rattle.std.proofs.lemmas.List.Elements.{All-from_recursion, All-weaker}
 use Rattle.wire_buf.proofs.Sequences.{BeginsOnce, ReadItems, all_within}
@@ -26,6 +26,20 @@ pub goes_on : (bytes left after : List ℕ) (raws more : List RawObject) (o : Ra
 goes_on bytes left after raws more o is e pushed so_far =
     subst (ReadItems BeginsWith size_of bytes after) (sym (ap all_seen pushed ∙ map-append seen raws (o ∷ [])))
     (items.goes_on objects_once bytes left after (all_seen raws) (seen o) is e so_far)
+
+-- each object takes four bytes at least
+pub few_go_on : (bytes left after : List ℕ) (raws more : List RawObject) (o : RawObject) → BeginsWith left (seen o) →
+    after ≡ drop (size_of (seen o)) left → more ≡ raws ++ o ∷ [] → 4 * length raws + length left ≤ length bytes →
+    4 * length more + length after ≤ length bytes
+few_go_on bytes left after raws more o is e pushed few =
+    omega (
+      arith,
+      ap length pushed,
+      length-append raws (o ∷ []),
+      ap length e,
+      length-drop (size_of (seen o)) left,
+      is.within,
+    )
 
 -- no object is longer than all
 pub all_shorter : (bytes : List ℕ) (raws : List RawObject) → AreObjects bytes (all_seen raws) →

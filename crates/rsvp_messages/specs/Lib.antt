@@ -8,3 +8,4 @@ pub mod Written
 pub mod Writable
 pub mod Damage
 pub mod Seen
+pub mod Places

@@ -13,7 +13,7 @@ ghost use Rattle.rsvp_messages.specs.Written.{path_err_objects};
 use crate::classes::{ERROR_SPEC, SENDER_TEMPLATE};
 use crate::fields::{read_subject, write_lsp_sender, write_lsp_session};
 use crate::lookup::one;
-use crate::raw::RawObject;
+use crate::object_table::Objects;
 use ason_base::{ErrCode, LinkId, Lsp, Msg, NodeId, OutOfMemory};
 use rsvp_objects::{ErrorSpec, read_error, read_error_ipv4, write_error};
 
@@ -26,14 +26,14 @@ const IF_ID: u8 = 3;
 const PATH_STATE_REMOVED: u8 = 0x04;
 
 // The error of an ERROR_SPEC with an interface.
-fn error_with_interface(objects: &[RawObject]) -> Option<ErrorSpec>
+fn error_with_interface(objects: &Objects) -> Option<ErrorSpec>
     ensures { Reads (λ e. HasOne 6 3 (λ body. IsError body e) (all_seen objects.now)) result }
 {
     let body = one(objects, ERROR_SPEC, IF_ID)?;
     read_error(body)
 }
 
-fn error(objects: &[RawObject]) -> Option<ErrorSpec>
+fn error(objects: &Objects) -> Option<ErrorSpec>
     ensures { Reads (HasError (all_seen objects.now)) result }
 {
     match one(objects, ERROR_SPEC, IPV4) {
@@ -49,7 +49,7 @@ fn is_removed(e: &ErrorSpec) -> bool
 }
 
 /// The PathErr that the objects spell. None exactly where they spell none.
-pub(crate) fn read_path_err(objects: &[RawObject]) -> Option<Msg>
+pub(crate) fn read_path_err(objects: &Objects) -> Option<Msg>
     ensures { Reads (SpellsTyped 3 (all_seen objects.now)) result }
 {
     let subject = read_subject(objects, SENDER_TEMPLATE)?;
@@ -64,7 +64,7 @@ pub(crate) fn read_path_err(objects: &[RawObject]) -> Option<Msg>
 }
 
 /// The Notify that the objects spell. None exactly where they spell none.
-pub(crate) fn read_notify(objects: &[RawObject]) -> Option<Msg>
+pub(crate) fn read_notify(objects: &Objects) -> Option<Msg>
     ensures { Reads (SpellsTyped 21 (all_seen objects.now)) result }
 {
     let subject = read_subject(objects, SENDER_TEMPLATE)?;

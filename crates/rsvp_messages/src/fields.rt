@@ -10,7 +10,7 @@ ghost use Rattle.rsvp_messages.specs.Written.{bytes_of, hop_object, sender_objec
 
 use crate::classes::{FILTER_SPEC, RSVP_HOP, SESSION};
 use crate::lookup::one;
-use crate::raw::RawObject;
+use crate::object_table::Objects;
 use ason_base::{LinkId, Lsp, NodeId, OutOfMemory};
 use rsvp_objects::{
     HopObject, SenderRef, Session, read_filter, read_hop, read_sender, read_session, write_filter,
@@ -30,7 +30,7 @@ pub(crate) struct Subject {
     pub egress: NodeId,
 }
 
-fn session(objects: &[RawObject]) -> Option<Session>
+fn session(objects: &Objects) -> Option<Session>
     ensures { Reads (λ s. HasOne 1 7 (λ body. IsSession body s) (all_seen objects.now)) result }
 {
     let body = one(objects, SESSION, LSP_TUNNEL)?;
@@ -38,7 +38,7 @@ fn session(objects: &[RawObject]) -> Option<Session>
 }
 
 // The sender by its SENDER_TEMPLATE or FILTER_SPEC.
-fn sender(objects: &[RawObject], class: u8) -> Option<SenderRef>
+fn sender(objects: &Objects, class: u8) -> Option<SenderRef>
     ensures { Reads (λ s. HasOne class 7 (λ body. IsSenderRef body s)
         (all_seen objects.now)) result }
 {
@@ -51,7 +51,7 @@ fn sender(objects: &[RawObject], class: u8) -> Option<SenderRef>
 }
 
 /// The LSP by its SESSION and the object of this class.
-pub(crate) fn read_subject(objects: &[RawObject], class: u8) -> Option<Subject>
+pub(crate) fn read_subject(objects: &Objects, class: u8) -> Option<Subject>
     ensures { Reads (λ n. NamesLsp class (all_seen objects.now) n.lsp n.egress) result }
 {
     let session = session(objects)?;
@@ -67,7 +67,7 @@ pub(crate) fn read_subject(objects: &[RawObject], class: u8) -> Option<Subject>
 }
 
 /// The link of the RSVP_HOP.
-pub(crate) fn link(objects: &[RawObject]) -> Option<LinkId>
+pub(crate) fn link(objects: &Objects) -> Option<LinkId>
     ensures { Reads (ComesOver (all_seen objects.now)) result }
 {
     let body = one(objects, RSVP_HOP, IF_ID)?;

@@ -11,6 +11,7 @@ ghost use Rattle.rsvp_messages.specs.Written.{ack_object, all_bytes, id_objects}
 
 use crate::classes::{MESSAGE_ID, MESSAGE_ID_ACK};
 use crate::lookup::optional;
+use crate::object_table::Objects;
 use crate::raw::RawObject;
 use ason_base::{DecodeError, Ids, MsgId, OutOfMemory};
 use rsvp_objects::{read_ack, read_id, write_ack, write_id};
@@ -23,7 +24,7 @@ const NUMBER: u8 = 1;
 const MOST_ACKS: usize = 64;
 
 /// The message's number, if it has one. None exactly where its MESSAGE_IDs spell none.
-pub(crate) fn message_id(objects: &[RawObject]) -> Option<Option<MsgId>>
+pub(crate) fn message_id(objects: &Objects) -> Option<Option<MsgId>>
     ensures { Reads (HasAtMostOne 23 1 IsMsgId (all_seen objects.now)) result }
 {
     match optional(objects, MESSAGE_ID, NUMBER)? {

@@ -11,6 +11,8 @@ ghost use Rattle.std.specs.List.{list_any};
 ghost use Rattle.wire_buf.specs.Codecs.{Decodes};
 
 use crate::classes::LABEL_SET;
+use crate::lookup::one;
+use crate::object_table::Objects;
 use crate::raw::RawObject;
 use ason_base::{DecodeError, Label, LabelSet};
 use rsvp_objects::{LabelSetObject, read_label_set};
@@ -94,9 +96,15 @@ fn allowed(sets: &[LabelSetObject]) -> LabelSet
 }
 
 /// The labels that the LABEL_SETs allow. NotMessage exactly where one of them has no meaning.
-pub(crate) fn label_set(alloc: Global, objects: &[RawObject]) -> Result<LabelSet, DecodeError>
+pub(crate) fn label_set(alloc: Global, objects: &Objects) -> Result<LabelSet, DecodeError>
     ensures { Decodes (HasSet (all_seen objects.now)) result }
 {
-    let sets = label_sets(alloc, objects)?;
+    if let Some(body) = one(objects, LABEL_SET, GENERALIZED) {
+        let Some(set) = read_label_set(body) else {
+            return Err(DecodeError::NotMessage);
+        };
+        return Ok(allowed(&[set]));
+    }
+    let sets = label_sets(alloc, objects.items())?;
     Ok(allowed(&sets))
 }

@@ -5,35 +5,16 @@ ghost use Rattle.std.specs.Option.{option_map, option_to_list};
 ghost use Rattle.rsvp_messages.specs.Objects.{of_class};
 ghost use Rattle.rsvp_messages.specs.Seen.{all_seen, seen};
 
-use crate::raw::RawObject;
-
-// The object of a class, if there is one. None exactly where there are two.
-fn at_most_one<'a>(objects: &[RawObject<'a>], class: u8) -> Option<Option<RawObject<'a>>>
-    ensures found { IfSome result (λ found. of_class class (all_seen objects.now) ≡ option_to_list
-        (option_map seen found)) }
-    ensures many { IfNone result (2 ≤ length (of_class class (all_seen objects.now))) }
-{
-    let mut found = None;
-    'objects: for object in objects {
-        if object.class != class {
-            continue;
-        }
-        if found.is_some() {
-            return None;
-        }
-        found = Some(*object);
-    }
-    Some(found)
-}
+use crate::object_table::Objects;
 
 /// The body of the one object of a class. None exactly where there isn't one, or it has another C-Type.
-pub(crate) fn one<'a>(objects: &[RawObject<'a>], class: u8, ctype: u8) -> Option<&'a [u8]>
+pub(crate) fn one<'a>(objects: &Objects<'a, '_>, class: u8, ctype: u8) -> Option<&'a [u8]>
     ensures found { IfSome result (λ body. of_class class (all_seen objects.now)
         ≡ record { class = class; ctype = ctype; body = body.now } ∷ []) }
     ensures only { (body : List ℕ) → of_class class (all_seen objects.now)
         ≡ record { class = class; ctype = ctype; body = body } ∷ [] → IsSome result }
 {
-    match at_most_one(objects, class) {
+    match objects.at_most_one(class) {
         Some(Some(object)) if object.ctype == ctype => Some(object.body),
         _ => None,
     }
@@ -41,7 +22,7 @@ pub(crate) fn one<'a>(objects: &[RawObject<'a>], class: u8, ctype: u8) -> Option
 
 /// The body of the object of a class, if there is one. None exactly where there are two, or one has another C-Type.
 pub(crate) fn optional<'a>(
-    objects: &[RawObject<'a>],
+    objects: &Objects<'a, '_>,
     class: u8,
     ctype: u8,
 ) -> Option<Option<&'a [u8]>>
@@ -52,7 +33,7 @@ pub(crate) fn optional<'a>(
         (option_map (λ body. record { class = class; ctype = ctype; body = body }) found)
         → IsSome result }
 {
-    match at_most_one(objects, class)? {
+    match objects.at_most_one(class)? {
         None => Some(None),
         Some(object) if object.ctype == ctype => Some(Some(object.body)),
         Some(_) => None,

@@ -15,7 +15,7 @@ use crate::fields::{Subject, link, read_subject, write_link, write_lsp_sender, w
 use crate::fixed::{write_sender_tspec, write_time_values};
 use crate::label_sets::label_set;
 use crate::lookup::{one, optional};
-use crate::raw::RawObject;
+use crate::object_table::Objects;
 use crate::roles::{protection_of, role};
 use ason_base::{
     DecodeError, Label, LabelSet, LinkId, Lsp, Msg, NodeId, OutOfMemory, PathRole, Steps,
@@ -36,7 +36,7 @@ const GENERALIZED: u8 = 2;
 /// The C-Type of an EXPLICIT_ROUTE.
 const EXPLICIT: u8 = 1;
 
-fn requests(objects: &[RawObject]) -> bool
+fn requests(objects: &Objects) -> bool
     ensures yes { IsTrue result → HasOne 19 4 IsRequest (all_seen objects.now) }
     ensures no { result ≡ false → ¬ HasOne 19 4 IsRequest (all_seen objects.now) }
 {
@@ -46,7 +46,7 @@ fn requests(objects: &[RawObject]) -> bool
     }
 }
 
-fn upstream(objects: &[RawObject]) -> Option<Option<Label>>
+fn upstream(objects: &Objects) -> Option<Option<Label>>
     ensures { Reads (HasAtMostOne 35 2 IsLabel (all_seen objects.now)) result }
 {
     match optional(objects, UPSTREAM_LABEL, GENERALIZED)? {
@@ -55,7 +55,7 @@ fn upstream(objects: &[RawObject]) -> Option<Option<Label>>
     }
 }
 
-fn route(alloc: Global, objects: &[RawObject]) -> Result<Steps, DecodeError>
+fn route(alloc: Global, objects: &Objects) -> Result<Steps, DecodeError>
     ensures { Decodes (HasRoute (all_seen objects.now)) result }
 {
     match optional(objects, EXPLICIT_ROUTE, EXPLICIT) {
@@ -73,7 +73,7 @@ struct Head {
     upstream: Option<Label>,
 }
 
-fn read_head(objects: &[RawObject]) -> Option<Head>
+fn read_head(objects: &Objects) -> Option<Head>
     ensures { Reads
         (λ h. SpellsHead
         (all_seen objects.now) h.subject.lsp h.subject.egress h.link h.upstream) result }
@@ -92,7 +92,7 @@ fn read_head(objects: &[RawObject]) -> Option<Head>
 }
 
 /// The Path that the objects spell. NotMessage exactly where they spell none.
-pub(crate) fn read_path(alloc: Global, objects: &[RawObject]) -> Result<Msg, DecodeError>
+pub(crate) fn read_path(alloc: Global, objects: &Objects) -> Result<Msg, DecodeError>
     ensures { Decodes (SpellsTyped 1 (all_seen objects.now)) result }
 {
     let Some(head) = read_head(objects) else {

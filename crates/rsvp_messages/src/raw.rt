@@ -1,6 +1,6 @@
 //! Objects one after the other (RFC 2205, section 3.1.2).
 
-ghost use Rattle.std.specs.Prelude.{◌≡◌, ◌≤◌, List, length, drop, All, IfOk, IfSome, IsErrOf, IsSome};
+ghost use Rattle.std.specs.Prelude.{◌≡◌, ◌≤◌, ◌*◌, List, length, drop, All, IfOk, IfSome, IsErrOf, IsSome};
 ghost use Rattle.rsvp_messages.specs.Objects.{AreObjects, BeginsWith, Object, is_among, may_stand, size_of};
 ghost use Rattle.rsvp_messages.specs.Seen.{all_seen, seen};
 
@@ -55,6 +55,7 @@ pub(crate) fn read_objects<'a>(
 ) -> Result<Vec<RawObject<'a>>, DecodeError>
     ensures found { IfOk result (λ os. AreObjects bytes.now (all_seen os.items)) }
     ensures short { IfOk result (λ os. All (λ o. size_of (seen o) ≤ length bytes.now) os.items) }
+    ensures few { IfOk result (λ os. 4 * length os.items ≤ length bytes.now) }
     ensures only { (os : List Object) → AreObjects bytes.now os
         → IfOk result (λ read. all_seen read.items ≡ os) }
     ensures not_message { IsErrOf result DecodeError.NotMessage → (os : List Object)

@@ -1,6 +1,6 @@
 //! Reading whole messages: header, numbers and what the objects spell.
 
-ghost use Rattle.std.specs.Prelude.{◌≡◌, ◌≢◌, ◌<◌, ◌^◌, List, Some, All, IfOk, IsErrOf};
+ghost use Rattle.std.specs.Prelude.{◌≡◌, ◌≢◌, ◌<◌, ◌^◌, length, List, Some, All, IfOk, IsErrOf};
 ghost use Rattle.ason_base.specs.declared.messages.Packet.{Packet};
 ghost use Rattle.wire_buf.specs.Codecs.{Decodes, Reads};
 ghost use Rattle.rsvp_messages.specs.Objects.{Object, size_of};
@@ -11,6 +11,7 @@ use crate::errors::{read_notify, read_path_err};
 use crate::header::{HEADER, read_header};
 use crate::ids::{acks, message_id};
 use crate::kinds::{ACK, NOTIFY, PATH, PATH_ERR, PATH_TEAR, RESV};
+use crate::object_table::Objects;
 use crate::path::read_path;
 use crate::raw::{RawObject, read_objects};
 use crate::resv::read_resv;
@@ -19,7 +20,7 @@ use ason_base::{DecodeError, Msg, Packet};
 use std::alloc::Global;
 
 // The message of another type than Path that the objects spell.
-fn read_other(kind: u8, objects: &[RawObject]) -> Option<Msg>
+fn read_other(kind: u8, objects: &Objects) -> Option<Msg>
     requires { kind ≢ 1 }
     ensures { Reads (SpellsTyped kind (all_seen objects.now)) result }
 {
@@ -32,7 +33,7 @@ fn read_other(kind: u8, objects: &[RawObject]) -> Option<Msg>
     }
 }
 
-fn read_msg(alloc: Global, kind: u8, objects: &[RawObject]) -> Result<Msg, DecodeError>
+fn read_msg(alloc: Global, kind: u8, objects: &Objects) -> Result<Msg, DecodeError>
     ensures { Decodes (SpellsTyped kind (all_seen objects.now)) result }
 {
     if kind == PATH {
@@ -59,14 +60,14 @@ fn read_ack_message(alloc: Global, objects: &[RawObject]) -> Result<Packet, Deco
 }
 
 // What the objects of a message of this type, with a body, spell.
-fn read_body(alloc: Global, kind: u8, objects: &[RawObject]) -> Result<Packet, DecodeError>
+fn read_body(alloc: Global, kind: u8, objects: &Objects) -> Result<Packet, DecodeError>
     requires { kind ≢ 13 }
     ensures { Decodes (SpellsTypedPacket kind (all_seen objects.now)) result }
 {
     let Some(id) = message_id(objects) else {
         return Err(DecodeError::NotMessage);
     };
-    let acks = acks(alloc, objects)?;
+    let acks = acks(alloc, objects.items())?;
     let msg = read_msg(alloc, kind, objects)?;
     Ok(Packet {
         id,
@@ -76,12 +77,13 @@ fn read_body(alloc: Global, kind: u8, objects: &[RawObject]) -> Result<Packet, D
 }
 
 fn read_packet(alloc: Global, kind: u8, objects: &[RawObject]) -> Result<Packet, DecodeError>
+    requires { length objects.now < 2 ^ 14 }
     ensures { Decodes (SpellsTypedPacket kind (all_seen objects.now)) result }
 {
     if kind == ACK {
         read_ack_message(alloc, objects)
     } else {
-        read_body(alloc, kind, objects)
+        read_body(alloc, kind, &Objects::of(objects))
     }
 }
 

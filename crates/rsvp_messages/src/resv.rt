@@ -13,14 +13,14 @@ use crate::classes::{FILTER_SPEC, LABEL};
 use crate::fields::{link, read_subject, write_link, write_lsp_filter, write_lsp_session};
 use crate::fixed::{write_flowspec, write_style, write_time_values};
 use crate::lookup::one;
-use crate::raw::RawObject;
+use crate::object_table::Objects;
 use ason_base::{Label, LinkId, Lsp, Msg, NodeId, OutOfMemory};
 use rsvp_objects::{read_label, write_label};
 
 /// The C-Type of a generalized label.
 const GENERALIZED: u8 = 2;
 
-fn label(objects: &[RawObject]) -> Option<Label>
+fn label(objects: &Objects) -> Option<Label>
     ensures { Reads (λ l. HasOne 16 2 (λ body. IsLabel body l) (all_seen objects.now)) result }
 {
     let body = one(objects, LABEL, GENERALIZED)?;
@@ -28,7 +28,7 @@ fn label(objects: &[RawObject]) -> Option<Label>
 }
 
 /// The Resv that the objects spell. None exactly where they spell none.
-pub(crate) fn read_resv(objects: &[RawObject]) -> Option<Msg>
+pub(crate) fn read_resv(objects: &Objects) -> Option<Msg>
     ensures { Reads (SpellsTyped 2 (all_seen objects.now)) result }
 {
     let subject = read_subject(objects, FILTER_SPEC)?;

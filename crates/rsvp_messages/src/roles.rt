@@ -11,7 +11,7 @@ ghost use Rattle.rsvp_messages.specs.Written.{all_bytes, protection_of, role_obj
 
 use crate::classes::{ASSOCIATION, PRIMARY_PATH_ROUTE, PROTECTION};
 use crate::lookup::{one, optional};
-use crate::raw::RawObject;
+use crate::object_table::Objects;
 use ason_base::{DecodeError, Lsp, OutOfMemory, PathRole, Steps};
 use rsvp_recovery::{
     Association, Protection, read_association, read_primary, read_protection, write_association,
@@ -28,7 +28,7 @@ const IPV4: u8 = 1;
 /// The type of an association of recovery.
 const RECOVERY: u16 = 1;
 
-fn protection(objects: &[RawObject]) -> Option<Protection>
+fn protection(objects: &Objects) -> Option<Protection>
     ensures { Reads (HasProtection (all_seen objects.now)) result }
 {
     match optional(objects, PROTECTION, LSP_FLAGS)? {
@@ -38,7 +38,7 @@ fn protection(objects: &[RawObject]) -> Option<Protection>
 }
 
 // The number of the LSP that the backup is for.
-fn tied(objects: &[RawObject]) -> Option<u16>
+fn tied(objects: &Objects) -> Option<u16>
     ensures { Reads (λ work. HasOne 199 1 (Ties work) (all_seen objects.now)) result }
 {
     let body = one(objects, ASSOCIATION, IPV4)?;
@@ -50,7 +50,7 @@ fn tied(objects: &[RawObject]) -> Option<u16>
     }
 }
 
-fn primary(alloc: Global, objects: &[RawObject]) -> Result<Steps, DecodeError>
+fn primary(alloc: Global, objects: &Objects) -> Result<Steps, DecodeError>
     ensures { Decodes (λ route. HasOne 38 1 (λ body. IsRoute body route)
         (all_seen objects.now)) result }
 {
@@ -61,7 +61,7 @@ fn primary(alloc: Global, objects: &[RawObject]) -> Result<Steps, DecodeError>
 }
 
 /// What the LSP is for. NotMessage exactly where the objects tell nothing.
-pub(crate) fn role(alloc: Global, objects: &[RawObject]) -> Result<PathRole, DecodeError>
+pub(crate) fn role(alloc: Global, objects: &Objects) -> Result<PathRole, DecodeError>
     ensures { Decodes (HasRole (all_seen objects.now)) result }
 {
     let active = match protection(objects) {

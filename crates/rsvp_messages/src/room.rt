@@ -1,12 +1,14 @@
 //! How much room the written form of a packet takes.
 
 ghost use Rattle.std.specs.Prelude.{◌≤◌, length, IfSome};
+ghost use Rattle.std.specs.Option.{option_copied};
 ghost use Rattle.ason_base.specs.Writable.{IsWritableMsg, IsWritableRole};
 ghost use Rattle.ason_base.specs.declared.ids.Lsp.{Lsp};
 ghost use Rattle.ason_base.specs.declared.ids.NodeId.{NodeId};
 ghost use Rattle.rsvp_messages.specs.Writable.{IsWritable};
 ghost use Rattle.rsvp_messages.specs.Written.{all_bytes, body_objects, msg_objects, role_objects, written};
 
+use crate::packet_ref::PacketRef;
 use ason_base::{Msg, Packet, PathRole};
 
 /// The header and a MESSAGE_ID.
@@ -47,9 +49,10 @@ fn room_for_msg(msg: &Msg) -> usize
     }
 }
 
-fn room_for_body(body: &Option<Msg>) -> usize
-    requires { IfSome body.now IsWritableMsg }
-    ensures enough { (sender : NodeId) → length (all_bytes (body_objects sender body.now)) ≤ result }
+fn room_for_body(body: Option<&Msg>) -> usize
+    requires { IfSome (option_copied body) IsWritableMsg }
+    ensures enough { (sender : NodeId) →
+        length (all_bytes (body_objects sender (option_copied body.entry))) ≤ result }
     ensures few { result ≤ 2012 }
 {
     match body {
@@ -58,11 +61,20 @@ fn room_for_body(body: &Option<Msg>) -> usize
     }
 }
 
+/// Room for the written form of the packet that these parts make, in bytes, whoever sends it.
+pub fn room_for_ref(p: &PacketRef<'_>) -> usize
+    requires { IsWritable p.now }
+    ensures enough { (sender : NodeId) → length (written sender p.now) ≤ result }
+    ensures few { result ≤ 4096 }
+{
+    HEAD + ACK * p.acks.len() + room_for_body(p.body)
+}
+
 /// Room for the written form of a packet, in bytes, whoever sends it.
 pub fn room_for(p: &Packet) -> usize
     requires { IsWritable p.now }
     ensures enough { (sender : NodeId) → length (written sender p.now) ≤ result }
     ensures few { result ≤ 4096 }
 {
-    HEAD + ACK * p.acks.items().len() + room_for_body(&p.body)
+    room_for_ref(&PacketRef::of(p))
 }

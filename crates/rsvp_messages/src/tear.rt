@@ -9,11 +9,11 @@ ghost use Rattle.rsvp_messages.specs.Written.{all_bytes, msg_objects};
 
 use crate::classes::SENDER_TEMPLATE;
 use crate::fields::{Subject, link, read_subject, write_link, write_lsp_sender, write_lsp_session};
-use crate::raw::RawObject;
+use crate::object_table::Objects;
 use ason_base::{LinkId, Lsp, Msg, NodeId, OutOfMemory};
 
 /// The PathTear that the objects spell. None exactly where they spell none.
-pub(crate) fn read_tear(objects: &[RawObject]) -> Option<Msg>
+pub(crate) fn read_tear(objects: &Objects) -> Option<Msg>
     ensures { Reads (SpellsTyped 5 (all_seen objects.now)) result }
 {
     let Subject { lsp, egress } = read_subject(objects, SENDER_TEMPLATE)?;

@@ -1,5 +1,5 @@
 use Rattle.rsvp_messages.proofs.Lookups.{many}
-use Rattle.rsvp_messages.proofs.lookup.at_most_one.Goals as goal
+use Rattle.rsvp_messages.proofs.object_table.at_most_one.Goals as goal
 
 pub returns-then-is_some-clause-many : goal.returns-then-is_some-clause-many
 returns-then-is_some-clause-many c =
