@@ -2,6 +2,7 @@ pub mod Beginning
 pub mod Changing
 pub mod Counting
 pub mod DueRows
+pub mod FirstSendings
 pub mod Framing
 pub mod Keeping
 pub mod Later

@@ -1,5 +1,5 @@
 -- A node's answer is prepared.
-use Rattle.std.proofs.Common.{◌≡◌, ◌≤◌, ◌++◌, ℕ, List, length, map, sym, ap, ◌∙◌, subst}
+use Rattle.std.proofs.Common.{◌≡◌, ◌≤◌, ◌++◌, ℕ, List, [], length, map, sym, ap, ◌∙◌, subst}
 use Rattle.std.specs.Prelude.{Option, None}
 use Rattle.ason_base.specs.declared.messages.Msg.{Msg}
 use Rattle.node_rules.specs.Nodes.{NodeView}
@@ -42,9 +42,13 @@ answer-framed me id before sent outs first last rest e same are =
     ∙ ap (λ os. first ++ frames_to me (packets_on (hop_at before) os)) e
     ∙ ap (λ n. first ++ frames_to n (packets_on (hop_at before) sent)) same
 
+-- nothing is sent
+pub none-prepared : (sent : List Out) (xs : List Adjacency) → sent ≡ [] → map rested xs ≡ xs → ArePrepared xs sent xs
+none-prepared sent xs none rest = subst (λ (os : List Out). ArePrepared xs os xs) (sym none) (λ d. next-is xs rest d)
+
 -- nothing is handed up
 pub nothing-prepared : (n : NodeView) (u : NodeId) (body : Option Msg) (xs : List Adjacency) → body ≡ None →
     map rested xs ≡ xs →
     ArePrepared xs (body_answer n u body).sent xs
-nothing-prepared n u body xs none rest = subst (λ b. ArePrepared xs (body_answer n u b).sent xs) (sym none)
-    (λ d. next-is xs rest d)
+nothing-prepared n u body xs none rest =
+    none-prepared (body_answer n u body).sent xs (ap (λ b. (body_answer n u b).sent) none) rest

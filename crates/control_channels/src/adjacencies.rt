@@ -6,6 +6,7 @@ ghost use Rattle.std.specs.List.{AllByRecursion, flat_map};
 ghost use Rattle.ason_base.specs.Writable.{IsWritableMsg};
 ghost use Rattle.channel_frames.specs.declared.frames.Content.{Content};
 ghost use Rattle.channel_frames.specs.Frames.{IsFrame, frame_bytes};
+ghost use Rattle.hop_reliable.specs.Ages.{is_due, older_age};
 ghost use Rattle.hop_reliable.specs.Hop.{again, heard_as, last_number, numbered, older, with_next};
 ghost use Rattle.rsvp_messages.specs.Writable.{IsWritable};
 ghost use Rattle.control_channels.specs.declared.adjacencies.Adjacency.{Adjacency};
@@ -249,16 +250,14 @@ fn frame_waiting(
     waiting: &Unacked,
     frames: &mut Vec<Frame>,
 ) -> Result<(), OutOfMemory>
-    requires { IsWritableMsg waiting.now.msg }
+    requires due { IsTrue (is_due (older_age waiting.now.age)) }
+    requires writable { IsWritableMsg waiting.now.msg }
     ensures frames { OnOk result
         (frames.new.items ≡ frames.old.items ++ frames_to me
         (sendings_to to (again (older waiting.now ∷ [])))) }
     ensures spelled { OnOk result
         (AllSpelled me (sendings_to to (again (older waiting.now ∷ [])))) }
 {
-    if !waiting.goes_next() {
-        return Ok(());
-    }
     let packet = PacketRef {
         id: Some(waiting.id()),
         acks: &[],
@@ -281,7 +280,9 @@ fn frame_again(
 {
     let all = adjacency.hop.waiting();
     for waiting in all {
-        frame_waiting(maker, me, adjacency.peer, waiting, frames)?;
+        if waiting.goes_next() {
+            frame_waiting(maker, me, adjacency.peer, waiting, frames)?;
+        }
     }
     Ok(())
 }

@@ -1,12 +1,12 @@
 //! What a node floods: the rows of its own links, and those that are due.
 
-ghost use Rattle.std.specs.Prelude.{◌≡◌, ◌++◌, ◌∷◌, [], IfOk, OnOk, map};
+ghost use Rattle.std.specs.Prelude.{◌≡◌, ◌<◌, ◌+◌, ◌^◌, ◌++◌, ◌∷◌, [], IfOk, IsTrue, OnOk, Some, map};
 ghost use Rattle.std.specs.List.{AllByRecursion};
 ghost use Rattle.ason_base.specs.Network.{row_of};
-ghost use Rattle.flood.specs.Messages.{CanBeWritten};
 ghost use Rattle.flood.specs.NetworkLaws.{AreRowsOfLinks};
 ghost use Rattle.flood.specs.Networks.{begun_node, new_flood, nodes_beside};
-ghost use Rattle.flood.specs.State.{due_to, sent_at_tick, sent_to};
+ghost use Rattle.flood.specs.State.{age_after_tick, due_to, first_sending, first_sendings, goes_at, is_from, sent_at_tick, sent_to};
+ghost use Rattle.te_tlv.specs.Written.{IsWritable};
 ghost use Rattle.mesh_rules.specs.LocalNodes.{local_node};
 ghost use Rattle.mesh_rules.specs.State.{new_node};
 ghost use Rattle.control_channels.specs.Controllers.{floods_to};
@@ -18,7 +18,7 @@ use crate::peers::{other_ends, touches};
 use ason_base::{LinkSpec, NodeId, OutOfMemory, TeRow, Topology};
 use channel_frames::ContentRef;
 use flood::laws::every_start;
-use flood::{Due, Flood, FloodNeighbour, FloodRef, FloodSends};
+use flood::{Due, Flood, FloodNeighbour, FloodRef};
 use std::alloc::Global;
 
 // Declares the rows of those of these links that the node is an end of, in order of link.
@@ -55,26 +55,68 @@ pub fn begun(alloc: Global, t: &Topology, n: NodeId) -> Result<Flood, OutOfMemor
     Ok(flood)
 }
 
-/// The frames of these flood messages go to the end of the list.
-pub fn frame_floods(
+/// A row that is new to a node, the neighbour that it came from and the node that gave it first.
+#[derive(Clone, Copy, Drop)]
+pub struct NewRow<'a> {
+    pub from: NodeId,
+    pub origin: NodeId,
+    pub row: &'a TeRow,
+}
+
+fn is_from(neighbour: &FloodNeighbour, from: NodeId) -> bool
+    ensures { result ≡ is_from (Some from) neighbour.now }
+{
+    neighbour.id().0 == from.0
+}
+
+// The frame of the row as it goes out first to a neighbour goes to the end of the list.
+fn frame_first(
     maker: &mut FrameMaker,
     me: NodeId,
-    sends: FloodSends,
+    neighbour: &FloodNeighbour,
+    new: NewRow<'_>,
     frames: &mut Vec<Frame>,
 ) -> Result<(), OutOfMemory>
-    requires { AllByRecursion (λ s. CanBeWritten s.1) sends }
-    ensures frames { OnOk result
-        (frames.new.items ≡ frames.old.items ++ frames_to me (floods_to sends)) }
-    ensures spelled { OnOk result (AllSpelled me (floods_to sends)) }
+    requires left { neighbour.now.sent + 1 < 2 ^ 32 }
+    requires can { IsWritable new.origin new.row.now }
+    ensures frames { OnOk result (frames.new.items ≡ frames.old.items ++ frames_to me
+        (floods_to (first_sending new.entry.origin new.entry.row.now neighbour.now ∷ []))) }
+    ensures spelled { OnOk result (AllSpelled me
+        (floods_to (first_sending new.entry.origin new.entry.row.now neighbour.now ∷ []))) }
 {
-    for (to, m) in sends.into_vec() {
-        let frame = maker.frame(me, to, &ContentRef::flood(FloodRef::of(&m)))?;
-        frames.push(frame)?;
+    let row = FloodRef::row(neighbour.next_number(), new.origin, new.row);
+    let frame = maker.frame(me, neighbour.id(), &ContentRef::flood(row))?;
+    frames.push(frame)?;
+    Ok(())
+}
+
+/// The frames of a new row as it goes out first, to each neighbour but the one that it came from, go to the end of the list.
+pub fn frame_first_sendings(
+    maker: &mut FrameMaker,
+    me: NodeId,
+    flood: &Flood,
+    new: NewRow<'_>,
+    frames: &mut Vec<Frame>,
+) -> Result<(), OutOfMemory>
+    requires { IsWritable new.origin new.row.now }
+    ensures frames { OnOk result (frames.new.items ≡ frames.old.items ++ frames_to me
+        (floods_to (first_sendings new.entry.from new.entry.origin new.entry.row.now
+        flood.now.neighbours))) }
+    ensures spelled { OnOk result (AllSpelled me
+        (floods_to (first_sendings new.entry.from new.entry.origin new.entry.row.now
+        flood.now.neighbours))) }
+{
+    flood.counts();
+    let neighbours = flood.neighbours();
+    for neighbour in neighbours {
+        if !is_from(neighbour, new.from) {
+            frame_first(maker, me, neighbour, new, frames)?;
+        }
     }
     Ok(())
 }
 
-// The frame of a row, where the next tick sends it, goes to the end of the list.
+// The frame of a row that the next tick sends goes to the end of the list.
 fn frame_row(
     maker: &mut FrameMaker,
     me: NodeId,
@@ -82,14 +124,12 @@ fn frame_row(
     due: &Due,
     frames: &mut Vec<Frame>,
 ) -> Result<(), OutOfMemory>
-    requires { CanGo due.now }
+    requires can { CanGo due.now }
+    requires due { IsTrue (goes_at (age_after_tick due.now.age)) }
     ensures frames { OnOk result (frames.new.items ≡ frames.old.items ++ frames_to me
         (floods_to (due_to to (due.now ∷ [])))) }
     ensures spelled { OnOk result (AllSpelled me (floods_to (due_to to (due.now ∷ [])))) }
 {
-    if !due.goes_next() {
-        return Ok(());
-    }
     let row = FloodRef::row(due.number, due.origin, &due.row);
     let frame = maker.frame(me, to, &ContentRef::flood(row))?;
     frames.push(frame)?;
@@ -110,7 +150,9 @@ fn frame_rows(
     ensures spelled { OnOk result (AllSpelled me (floods_to (due_to to due.now))) }
 {
     for row in due {
-        frame_row(maker, me, to, row, frames)?;
+        if row.goes_next() {
+            frame_row(maker, me, to, row, frames)?;
+        }
     }
     Ok(())
 }
@@ -146,7 +188,9 @@ pub fn frame_floods_due(
 {
     let neighbours = flood.neighbours();
     for neighbour in neighbours {
-        frame_rows_to(maker, me, neighbour, frames)?;
+        if !neighbour.has_all() {
+            frame_rows_to(maker, me, neighbour, frames)?;
+        }
     }
     Ok(())
 }

@@ -20,7 +20,10 @@ pub struct Frame {
 pub type Frames = Items<Frame>;
 
 /// How many buffers a maker keeps for frames to come.
-const MOST_SPARE: usize = 256;
+const MOST_SPARE: usize = 2048;
+
+/// Room for so many bytes is taken at once: that of the frame of a row with an SRLG.
+const ROOM: usize = 64;
 
 /// What makes frames. It takes back the lists and the bytes of frames that came to their end, and uses their memory
 /// again.
@@ -63,15 +66,15 @@ impl FrameMaker {
     }
 
     // A buffer without bytes.
-    fn buffer(&mut self) -> Vec<u8>
-        ensures { result.items ≡ [] }
+    fn buffer(&mut self) -> Result<Vec<u8>, OutOfMemory>
+        ensures { IfOk result (λ buffer. buffer.items ≡ []) }
     {
         match self.spare.pop() {
             Some(mut buffer) => {
                 buffer.clear();
-                buffer
+                Ok(buffer)
             }
-            None => Vec::new(self.alloc),
+            None => Ok(Vec::with_capacity(self.alloc, ROOM)?),
         }
     }
 
@@ -86,7 +89,7 @@ impl FrameMaker {
         ensures frame { IfOk result (λ f. f ≡ sent_frame me to content.now) }
         ensures spelled { IfOk result (λ f. IsFrame f.bytes content.now) }
     {
-        let mut bytes = self.buffer();
+        let mut bytes = self.buffer()?;
         write_frame(&mut bytes, me, content)?;
         Ok(Frame {
             to,

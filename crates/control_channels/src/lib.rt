@@ -11,6 +11,6 @@ pub mod peers;
 
 pub use acks::acknowledge;
 pub use adjacencies::Adjacency;
-pub use floods::{begun, frame_floods, frame_floods_due};
+pub use floods::{NewRow, begun, frame_first_sendings, frame_floods_due};
 pub use frames::{Frame, FrameMaker, Frames};
 pub use inputs::{CoreInput, Pending};

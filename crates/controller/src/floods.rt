@@ -14,10 +14,10 @@ ghost use Rattle.control_channels.specs.Controllers.{floods_to, with_learnt};
 ghost use Rattle.control_channels.specs.Frames.{AllSpelled, frames_to};
 ghost use Rattle.control_channels.specs.ReadyControllers.{AllToNeighbours, FloodFits};
 
-use ason_base::{NodeId, OutOfMemory, TeRow};
+use ason_base::{Copied, NodeId, OutOfMemory, TeRow};
 use channel_frames::ContentRef;
-use control_channels::{Frame, FrameMaker, frame_floods};
-use flood::{Flood, FloodMsg, FloodOut, FloodRef};
+use control_channels::{Frame, FrameMaker, NewRow, frame_first_sendings};
+use flood::{Flood, FloodMsg, FloodRef};
 use node_core::{Input, Node};
 use std::alloc::Global;
 
@@ -117,6 +117,40 @@ fn frame_ack(
     Ok(())
 }
 
+// What a flood message comes to. The frames of its acknowledgement and, where the row is new, of the row to the other
+// neighbours go to the end of the list; the row that is new is handed back.
+fn answer(
+    maker: &mut FrameMaker,
+    me: NodeId,
+    flood: &Flood,
+    from: NodeId,
+    m: &FloodMsg,
+    frames: &mut Vec<Frame>,
+) -> Result<Option<TeRow>, OutOfMemory>
+    requires { (bytes : List ℕ) × SpellsFlood bytes m.now }
+    ensures learnt { IfOk result (λ learnt. learnt ≡ learnt_of flood.now m.now) }
+    ensures frames { OnOk result (frames.new.items ≡ frames.old.items ++
+        frames_to me (floods_to (sends_after flood.now from m.now))) }
+    ensures spelled { OnOk result (AllSpelled me (floods_to (sends_after flood.now from m.now))) }
+{
+    let FloodMsg::Row {
+        number,
+        origin,
+        row,
+    } = m
+    else {
+        return Ok(None);
+    };
+    frame_ack(maker, me, from, *number, frames)?;
+    if !flood.is_new(row) {
+        return Ok(None);
+    }
+    let origin = *origin;
+    frame_first_sendings(maker, me, flood, NewRow { from, origin, row }, frames)?;
+    let learnt = row.copy(maker.alloc)?;
+    Ok(Some(learnt))
+}
+
 /// A flood message of a neighbour: its acknowledgement, then the row, where it is new, to the other neighbours. Most
 /// rows are known: then nothing else goes out, and nothing changes.
 pub(crate) fn take_flood(
@@ -150,9 +184,7 @@ pub(crate) fn take_flood(
         frame_ack(maker, me, from, number, &mut frames)?;
         return Ok(frames);
     }
-    let out = flood.answer(maker.alloc, from, m)?;
-    let FloodOut { learnt, sends } = out;
-    frame_floods(maker, me, sends, &mut frames)?;
+    let learnt = answer(maker, me, flood, from, m, &mut frames)?;
     take(maker, node, flood, from, m, learnt)?;
     Ok(frames)
 }

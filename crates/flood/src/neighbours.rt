@@ -1,6 +1,6 @@
 //! What a node keeps of each neighbour.
 
-ghost use Rattle.std.specs.Prelude.{◌≡◌, ℕ, ◌↔◌, Contains, ◌<◌, ◌≤◌, ◌+◌, ◌^◌, ◌∷◌, ◌++◌, IfOk, OnErr, OnOk, map, take, drop, All, length, Some, slice_index, sum_by};
+ghost use Rattle.std.specs.Prelude.{◌≡◌, ◌==◌, ℕ, ◌↔◌, Contains, ◌<◌, ◌≤◌, ◌+◌, ◌^◌, ◌∷◌, ◌++◌, IfOk, OnErr, OnOk, map, take, drop, All, length, Some, slice_index, sum_by};
 ghost use Rattle.std.specs.List.{flat_map};
 ghost use Rattle.std.specs.List.Sorted.{IsStrictlyIncreasing};
 ghost use Rattle.flood.specs.State.{acked_by, due_to, first_sending, first_sendings, fresh, is_from, older_neighbour, queued, queued_unless, sent_to, unqueued, unqueued_unless};
@@ -62,6 +62,13 @@ impl FloodNeighbour {
         ensures { result.0.now ++ result.1.now ≡ self.now.due }
     {
         self.due.as_slices()
+    }
+
+    /// Whether it has acknowledged every row.
+    pub fn has_all(&self) -> bool
+        ensures { result ≡ (length self.now.due == 0) }
+    {
+        self.due.is_empty()
     }
 
     /// Makes the row due to it with the next number.
@@ -167,7 +174,7 @@ impl FloodNeighbour {
     fn push_sent(&self, alloc: Global, sends: &mut FloodSends) -> Result<(), OutOfMemory>
         ensures { OnOk result (sends.new ≡ sends.old ++ sent_to self.now) }
     {
-        if self.due.is_empty() {
+        if self.has_all() {
             return Ok(());
         }
         let (first, others) = self.due();
@@ -178,7 +185,7 @@ impl FloodNeighbour {
     fn age(&mut self)
         ensures { self.new ≡ older_neighbour self.old }
     {
-        if !self.due.is_empty() {
+        if !self.has_all() {
             age_all(self.due.make_contiguous());
         }
     }
