@@ -6,7 +6,7 @@ ghost use Rattle.std.specs.Option.{option_to_list};
 ghost use Rattle.wire_buf.specs.Codecs.{HasOneMeaning};
 ghost use Rattle.ason_base.specs.declared.messages.Packet.{Packet};
 ghost use Rattle.mesh_nodes.specs.LocalNodes.{is_neighbour};
-ghost use Rattle.mesh_rules.specs.Changes.{changed};
+ghost use Rattle.mesh_rules.specs.Changes.{changed, nothing};
 ghost use Rattle.node_rules.specs.Nodes.{IsWritableInput, MayTake, answer_to, stepped};
 ghost use Rattle.node_rules.specs.declared.inputs.Input.TheVariants as inputs;
 ghost use Rattle.control_channels.specs.Adjacencies.{AllCanGo, ArePrepared, next_at, packets_on, reaches, rested, sent_on};
@@ -104,6 +104,16 @@ fn carry_out(
     Ok(())
 }
 
+// Whether the input is a tick at a node that counts none: it changes nothing.
+fn is_idle(node: &Node, input: &Input) -> bool
+    ensures { IsTrue result → answer_to node.now input.now ≡ nothing }
+{
+    match input {
+        Input::Tick => !node.counts_ticks(),
+        Input::Message { .. } | Input::Desk(_) | Input::Learn(_) => false,
+    }
+}
+
 // The node takes an input, and its messages are prepared. After want of memory none is.
 fn give(
     maker: &mut FrameMaker,
@@ -127,6 +137,9 @@ fn give(
     ensures spelled { OnOk result
         (AnswerIsSpelled node.old adjacencies.old (answer_to node.old input.now)) }
 {
+    if is_idle(node, input) {
+        return Ok(());
+    }
     match carry_out(maker, node, adjacencies, frames, input) {
         Ok(()) => Ok(()),
         Err(e) => {

@@ -1,7 +1,7 @@
 //! The node.
 
-ghost use Rattle.std.specs.Prelude.{◌≡◌, ◌≤◌, IfOk, OnErr, OnOk, length};
-ghost use Rattle.mesh_rules.specs.Changes.{changed};
+ghost use Rattle.std.specs.Prelude.{◌≡◌, ◌≤◌, IfOk, IsFalse, OnErr, OnOk, length};
+ghost use Rattle.mesh_rules.specs.Changes.{changed, nothing};
 ghost use Rattle.mesh_rules.specs.KnownRows.{has_row, known_rows};
 ghost use Rattle.mesh_rules.specs.LocalNodes.{local_node};
 ghost use Rattle.mesh_rules.specs.Rows.{call_rows, leg_rows};
@@ -12,6 +12,7 @@ ghost use Rattle.mesh_nodes.specs.Order.{CallRowsRise, LegRowsRise};
 ghost use Rattle.mesh_nodes.specs.Routes.{RowsFit};
 ghost use Rattle.mesh_nodes.specs.Sent.{AllToNeighbours, AllWritable};
 ghost use Rattle.node_rules.specs.Nodes.{IsAnswerOf, IsNode, IsWritableInput, MayTake, answer_to, stepped, without_last};
+ghost use Rattle.node_rules.specs.declared.inputs.Input.TheVariants as inputs;
 
 use crate::rows::{call_rows, leg_rows};
 use crate::rules::{NodeParts, on_input};
@@ -87,6 +88,13 @@ impl Node {
         ensures { result ≡ has_row (known_rows self.now.place self.now.state) link }
     {
         self.tables.knows(link)
+    }
+
+    /// Whether a tick may change the node: none does where calls are restored by command alone.
+    pub fn counts_ticks(&self) -> bool
+        ensures { IsFalse result → answer_to self.now inputs.Tick ≡ nothing }
+    {
+        self.tables.wait() != 0
     }
 
     /// What the rule of an input would change and send. It changes nothing.
