@@ -139,7 +139,7 @@ fn refill(out: &mut Out, backlog: &mut Parcels)
     }
 }
 
-// A look at both ends of a ring: what stood there came out of it, and what waited stands there.
+// A look at both ends of a ring: what stood there came out of it, and what waited stands there. Most often nothing did.
 fn hand_over(out: &mut Out, backlog: &mut Parcels, into: &mut Into, early: &mut Parcels)
     requires pair { IsPair out.old into.old }
     requires few { length early.old + length (sent out.old ++ backlog.old) ≤ 256 + length (received into.old) }
@@ -157,7 +157,10 @@ fn hand_over(out: &mut Out, backlog: &mut Parcels, into: &mut Into, early: &mut 
     ensures early { (more : List Parcel) × (early.new ≡ early.old ++ more) ×
         (received into.old ++ more ≡ received into.new) }
 {
-    into.slots_beside(out);
+    let slots = into.slots_beside(out);
+    if slots == 0 && backlog.is_empty() {
+        return;
+    }
     take_in(into, early);
     if backlog.is_empty() {
         return;
