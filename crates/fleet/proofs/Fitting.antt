@@ -31,7 +31,7 @@ use Rattle.fleet_rounds.specs.Fleets.{IsStationAt}
 use Rattle.fleet_rounds.specs.Looks.{HasLinks}
 use Rattle.fleet_rounds.proofs.Numbers.{same_number}
 use Rattle.fleet.specs.declared.seats.Seat.{Seat}
-use Rattle.fleet.specs.Connections.{HaveSeats}
+use Rattle.fleet.specs.Connections.{AreSettled}
 use Rattle.fleet.specs.Posting.{news_for, order_for}
 use Rattle.fleet.specs.Standing.{FleetState, StandsFor}
 use Rattle.fleet.proofs.Places.{zip-length}
@@ -116,11 +116,11 @@ sum-fits f (x ∷ xs) all = subst (λ k. k ≤ length (x ∷ xs) * 2 ^ 40) (sym 
     more a b n h k = omega arith
 
 -- a fleet has at most 64 stations
-pub few-stations : (seats : List Seat) (xs : List StationState) → HaveSeats seats xs → length xs ≤ 64
+pub few-stations : (seats : List Seat) (xs : List StationState) → AreSettled seats xs → length xs ≤ 64
 few-stations seats xs are =
     within (length xs) (length are.0.nodes)
-    (zip-length (HasLinks are.0 are.1.wires) (ids_of are.0) xs are.1.wired.links
-    ∙ length-map are.0.nodes (λ (n : NodeSpec). n.id)) (few-nodes are.0 are.1.valid)
+    (zip-length (HasLinks are.0 are.1.wires) (ids_of are.0) xs are.1.links
+    ∙ length-map are.0.nodes (λ (n : NodeSpec). n.id)) (few-nodes are.0 are.1.connected.valid)
   where
     within : (a b : ℕ) → a ≡ b → b ≤ 64 → a ≤ 64
     within a b p q = omega arith

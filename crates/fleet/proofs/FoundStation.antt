@@ -6,14 +6,14 @@ use Rattle.ason_base.specs.declared.ids.NodeId.{NodeId}
 use Rattle.station_doings.specs.States.{StationState}
 use Rattle.fleet.specs.declared.seats.Seat.{Seat}
 use Rattle.fleet.specs.Commands.{is_seat, station_of, station_in}
-use Rattle.fleet.specs.Connections.{HaveSeats}
+use Rattle.fleet.specs.Connections.{AreSettled}
 use Rattle.fleet.specs.Standing.{FleetState}
 use Rattle.fleet.proofs.Finding.{place-within}
-use Rattle.fleet.proofs.KeptSeats.{lent-same, seats-count, seats-kept, set-links, set-same}
+use Rattle.fleet.proofs.KeptSeats.{lent-same, seats-count, set-links, set-same, settled-kept}
 
 -- There is a station at the place of the seat.
 pub station-within : {seen seats : List Seat} {stations : List StationState} {place len : ℕ} (n : NodeId) →
-    HaveSeats seats stations → seen ≡ seats → Some place ≡ position (is_seat n) seen →
+    AreSettled seats stations → seen ≡ seats → Some place ≡ position (is_seat n) seen →
     len ≡ length stations → place < len
 station-within {seen = seen} {seats = seats} {stations = stations} {place = place} n have same at count =
     omega (
@@ -27,14 +27,14 @@ station-within {seen = seen} {seats = seats} {stations = stations} {place = plac
 -- the station at this place is that of the node, in what the parts of the fleet show and in the fleet
 pub record IsFound (parts value : FleetState) (n : NodeId) (place : ℕ) (s : StationState) : Type 0 where
   pub is : parts ≡ value
-  pub have : HaveSeats parts.seats parts.stations
+  pub have : AreSettled parts.seats parts.stations
   pub at : slice_get parts.stations place ≡ Some s
   pub there : slice_get value.stations place ≡ Some s
   pub found : position (is_seat n) value.seats ≡ Some place
 
 -- What is read at the place of the seat is the station.
 pub station-found : {parts value : FleetState} {seen : List Seat} {place : ℕ} {s : StationState} (n : NodeId) →
-    parts ≡ value → HaveSeats parts.seats parts.stations → seen ≡ parts.seats →
+    parts ≡ value → AreSettled parts.seats parts.stations → seen ≡ parts.seats →
     Some place ≡ position (is_seat n) seen → s ≡ get_or parts.stations place s → IsFound parts value n place s
 station-found {parts = parts} {place = place} {s = s} n is have same at read =
     let here : slice_get parts.stations place ≡ Some s =
@@ -53,11 +53,11 @@ module _ {parts value : FleetState} {n : NodeId} {place : ℕ} {s : StationState
   pub found-station : station_of value n ≡ Some s
   found-station = ap (station_in value) is.found ∙ is.there
 
-  -- Where it keeps its links the fleet stays connected.
+  -- Where it keeps its links the fleet stays settled.
   pub found-kept : (new : StationState) → new.links ≡ s.links →
-      HaveSeats parts.seats (slice_set parts.stations place new)
+      AreSettled parts.seats (slice_set parts.stations place new)
   found-kept new same =
-      seats-kept parts.seats parts.stations (slice_set parts.stations place new) is.have
+      settled-kept parts.seats parts.stations (slice_set parts.stations place new) is.have
       (set-links parts.stations place s new is.at same)
 
   -- Where it is as it was so is the fleet.

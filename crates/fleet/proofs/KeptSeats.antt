@@ -1,9 +1,10 @@
--- Where links and seats stay a fleet stays connected, and with more room on desks it stands for the same records.
-use Rattle.std.proofs.Common.{◌≡◌, ◌≤◌, ◌<◌, ◌^◌, ℕ, List, [], ◌∷◌, ◌++◌, length, map, refl, sym, ap, ◌∙◌}
+-- Where links and seats stay a fleet stays settled, and with more room on desks it stands for the same records.
+use Rattle.std.proofs.Common.{◌≡◌, ◌≤◌, ◌<◌, ◌^◌, ℕ, List, [], ◌∷◌, ◌++◌, get_or, length, map, refl, sym, ap, ◌∙◌}
 use Rattle.std.proofs.Common.{subst}
 use Rattle.std.specs.Prelude.{Err, Ok, OnErr, Result, Some, slice_get, slice_set}
 use Rattle.std.specs.List.{AllZip}
 use Rattle.std.proofs.lemmas.List.{length-map}
+use Rattle.std.proofs.lemmas.Option.{slice_get-get_or}
 use Rattle.ason_base.specs.declared.ids.NodeId.{NodeId}
 use Rattle.ason_base.specs.declared.commands.DeskItem.{DeskItem}
 use Rattle.ason_base.specs.declared.commands.Disturb.{Disturb}
@@ -17,7 +18,7 @@ use Rattle.fleet_rounds.specs.Fleets.{IsStationAt, Wires}
 use Rattle.fleet_rounds.specs.Looks.{HasLinks}
 use Rattle.fleet.specs.declared.seats.Seat.{Seat}
 use Rattle.fleet.specs.Commands.{IsAsBefore, StandsOn, but_room}
-use Rattle.fleet.specs.Connections.{HaveSeats}
+use Rattle.fleet.specs.Connections.{AreConnected, AreSettled}
 use Rattle.fleet.specs.Noises.{HasLine}
 use Rattle.fleet.specs.Posting.{TakeItems, TakesOrder, with_clock}
 use Rattle.fleet.specs.Standing.{AreSeats, FleetState, KeepsRest}
@@ -39,27 +40,49 @@ zip_links t w (n ∷ ns) (x ∷ xs) (y ∷ ys) same all =
     let rest : map links_of ys ≡ map links_of xs = cc (same) in
     (first ∙ all.0, zip_links t w ns xs ys rest all.1)
 
--- seats and stations stay connected where each link is as it was
-pub seats-kept : (seats : List Seat) (xs ys : List StationState) → HaveSeats seats xs →
-    map links_of ys ≡ map links_of xs → HaveSeats seats ys
-seats-kept seats xs ys are same = (
+connected_kept : (t : Network) (seats : List Seat) (xs ys : List StationState) → AreConnected t seats xs →
+    map links_of ys ≡ map links_of xs → AreConnected t seats ys
+connected_kept t seats xs ys are same = record {
+  valid = are.valid;
+  seated = are.seated;
+  wires = are.wires;
+  wired = record {
+    links = zip_links t are.wires (ids_of t) xs ys same are.wired.links;
+    rings = are.wired.rings;
+  };
+}
+
+-- seats and stations stay settled where each link is as it was
+pub settled-kept : (seats : List Seat) (xs ys : List StationState) → AreSettled seats xs →
+    map links_of ys ≡ map links_of xs → AreSettled seats ys
+settled-kept seats xs ys are same = (
   are.0,
   record {
-    valid = are.1.valid;
-    seated = are.1.seated;
+    connected = connected_kept are.0 seats xs ys are.1.connected same;
     wires = are.1.wires;
-    wired = record {
-      links = zip_links are.0 are.1.wires (ids_of are.0) xs ys same are.1.wired.links;
-      rings = are.1.wired.rings;
-    };
+    links = zip_links are.0 are.1.wires (ids_of are.0) xs ys same are.1.links;
+    looked = are.1.looked;
   },
 )
 
 -- a seat for each station
-pub seats-count : (seats : List Seat) (xs : List StationState) → HaveSeats seats xs → length xs ≡ length seats
-seats-count seats xs are =
-    zip-length (HasLinks are.0 are.1.wires) (ids_of are.0) xs are.1.wired.links
-    ∙ ap length (sym are.1.seated.ids) ∙ length-map seats (λ (s : Seat). s.id)
+pub connected-count : (t : Network) (seats : List Seat) (xs : List StationState) → AreConnected t seats xs →
+    length xs ≡ length seats
+connected-count t seats xs are =
+    zip-length (HasLinks t are.wires) (ids_of t) xs are.wired.links
+    ∙ ap length (sym are.seated.ids) ∙ length-map seats (λ (s : Seat). s.id)
+
+pub seats-count : (seats : List Seat) (xs : List StationState) → AreSettled seats xs → length xs ≡ length seats
+seats-count seats xs are = connected-count are.0 seats xs are.1.connected
+
+-- so there is a station at the place of a seat
+pub seated-within : (seats : List Seat) (xs : List StationState) (place : ℕ) → AreSettled seats xs →
+    place < length seats → place < length xs
+seated-within seats xs place are below = subst (λ k. place < k) (sym (seats-count seats xs are)) below
+
+pub seated-read : (seats : List Seat) (xs : List StationState) (place : ℕ) (d : StationState) →
+    AreSettled seats xs → place < length seats → slice_get xs place ≡ Some (get_or xs place d)
+seated-read seats xs place d are below = slice_get-get_or xs place d (seated-within seats xs place are below)
 
 map_map : {X Y Z : Type 0} (f : X → Y) (g : Y → Z) (xs : List X) → map g (map f xs) ≡ map (λ x. g (f x)) xs
 map_map f g [] = refl
@@ -78,14 +101,14 @@ items-links items stamp seats xs ys count take =
     ap links_of (take.each place n.0 x y n.1 was is).station))
 
 -- stations that were lent, and came back with more room
-pub seats-roomed : (seats : List Seat) (xs lent mid now : List StationState) → HaveSeats seats xs → lent ≡ xs →
-    map but_room mid ≡ map but_room lent → now ≡ mid → HaveSeats seats now
-seats-roomed seats xs lent mid now are was same is =
-    subst (HaveSeats seats) (sym is)
-    (seats-kept seats lent mid (subst (HaveSeats seats) (sym was) are) (room-links lent mid same))
+pub settled-roomed : (seats : List Seat) (xs lent mid now : List StationState) → AreSettled seats xs → lent ≡ xs →
+    map but_room mid ≡ map but_room lent → now ≡ mid → AreSettled seats now
+settled-roomed seats xs lent mid now are was same is =
+    subst (AreSettled seats) (sym is)
+    (settled-kept seats lent mid (subst (AreSettled seats) (sym was) are) (room-links lent mid same))
 
 -- a seat for each of them
-pub roomed-count : {seen seats : List Seat} {xs lent mid again : List StationState} → HaveSeats seats xs →
+pub roomed-count : {seen seats : List Seat} {xs lent mid again : List StationState} → AreSettled seats xs →
     seen ≡ seats → lent ≡ xs → map but_room mid ≡ map but_room lent → again ≡ mid → length again ≡ length seen
 roomed-count {seats = seats} {xs = xs} {lent = lent} {mid = mid} are seen was same is =
     ap length is ∙ sym (length-map mid but_room) ∙ ap length same ∙ length-map lent but_room ∙ ap length was
@@ -97,10 +120,10 @@ on-any-err (Ok x) P p = tt
 on-any-err (Err e) P p = p
 
 -- and came back with the same links
-pub seats-back : (seats : List Seat) (xs lent mid now : List StationState) → HaveSeats seats xs → lent ≡ xs →
-    map links_of mid ≡ map links_of lent → now ≡ mid → HaveSeats seats now
-seats-back seats xs lent mid now are was same is =
-    subst (HaveSeats seats) (sym is) (seats-kept seats lent mid (subst (HaveSeats seats) (sym was) are) same)
+pub settled-back : (seats : List Seat) (xs lent mid now : List StationState) → AreSettled seats xs → lent ≡ xs →
+    map links_of mid ≡ map links_of lent → now ≡ mid → AreSettled seats now
+settled-back seats xs lent mid now are was same is =
+    subst (AreSettled seats) (sym is) (settled-kept seats lent mid (subst (AreSettled seats) (sym was) are) same)
 
 -- where one station is another with the same links
 pub set-links : (xs : List StationState) (place : ℕ) (x y : StationState) → slice_get xs place ≡ Some x →

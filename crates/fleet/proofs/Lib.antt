@@ -39,6 +39,7 @@ pub mod Published
 pub mod Quiet
 pub mod Rewired
 pub mod Seated
+pub mod Settled
 pub mod Splitting
 pub mod Sums
 pub mod Taking

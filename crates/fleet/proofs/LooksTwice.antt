@@ -46,8 +46,8 @@ looks-twice w v z u d p q = record {
 abbrev Way : Wires → Wires → NodeId → NodeId → Type 0
 Way w v u d = AreStill w v u d ⊎ AreLooked w v u d
 
-looked_still : (w v z : Wires) (u d : NodeId) → AreLooked w v u d → AreStill v z u d → AreLooked w z u d
-looked_still w v z u d p q =
+pub looked-still : (w v z : Wires) (u d : NodeId) → AreLooked w v u d → AreStill v z u d → AreLooked w z u d
+looked-still w v z u d p q =
     rename (z u.0 d.0) (z d.0 u.0) q.there q.back
   where
     rename : (x y : LinkState) → x ≡ v u.0 d.0 → y ≡ v d.0 u.0 → AreLooked w z u d
@@ -61,8 +61,8 @@ looked_still w v z u d p q =
         subst2 P h =
             subst (λ a. P a (z d.0 u.0)) (sym q.there) (subst (λ b. P (v u.0 d.0) b) (sym q.back) h)
 
-still_looked : (w v z : Wires) (u d : NodeId) → AreStill w v u d → AreLooked v z u d → AreLooked w z u d
-still_looked w v z u d p q = record {
+pub still-looked : (w v z : Wires) (u d : NodeId) → AreStill w v u d → AreLooked v z u d → AreLooked w z u d
+still-looked w v z u d p q = record {
   ends = q.ends;
   there = subst2 (λ a b. IsLooked a (z u.0 d.0) b (z d.0 u.0)) q.there;
   back = subst2 (λ a b. IsLooked b (z d.0 u.0) a (z u.0 d.0)) q.back;
@@ -72,16 +72,16 @@ still_looked w v z u d p q = record {
     subst2 P h = subst (λ a. P a (w d.0 u.0)) p.there (subst (λ b. P (v u.0 d.0) b) p.back h)
 
 way_looked : (w v z : Wires) (u d : NodeId) → Way w v u d → AreLooked v z u d → AreLooked w z u d
-way_looked w v z u d (inl still) q = still_looked w v z u d still q
+way_looked w v z u d (inl still) q = still-looked w v z u d still q
 way_looked w v z u d (inr looked) q = looks-twice w v z u d looked q
 
 looked_way : (w v z : Wires) (u d : NodeId) → AreLooked w v u d → Way v z u d → AreLooked w z u d
-looked_way w v z u d p (inl still) = looked_still w v z u d p still
+looked_way w v z u d p (inl still) = looked-still w v z u d p still
 looked_way w v z u d p (inr looked) = looks-twice w v z u d p looked
 
 ways : (w v z : Wires) (u d : NodeId) → Way w v u d → Way v z u d → Way w z u d
 ways w v z u d (inl p) (inl q) = inl (record { there = q.there ∙ p.there; back = q.back ∙ p.back })
-ways w v z u d (inl p) (inr q) = inr (still_looked w v z u d p q)
+ways w v z u d (inl p) (inr q) = inr (still-looked w v z u d p q)
 ways w v z u d (inr p) q = inr (looked_way w v z u d p q)
 
 -- Looks at a fleet

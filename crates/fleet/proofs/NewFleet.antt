@@ -10,12 +10,14 @@ use Rattle.station_rings.specs.LinkStates.{gone_of}
 use Rattle.station_doings.specs.States.{StationState}
 use Rattle.fleet_rounds.specs.Commands.{BeginsAsNew, IsNewAt, IsNewRing, NewStationsStand}
 use Rattle.fleet_rounds.specs.Fleets.{Wires}
-use Rattle.fleet_rounds.specs.Looks.{HasLinks}
+use Rattle.fleet_rounds.specs.Looks.{HasLinks, KnownHaveBegun, LooksStand, LooksTell}
 use Rattle.fleet_rounds.proofs.Nodes.{channel-back}
 use Rattle.fleet.specs.declared.seats.Seat.{Seat}
-use Rattle.fleet.specs.Connections.{AreConnected, IsRing}
+use Rattle.fleet.specs.Connections.{AreConnected, AreSettled, HaveSeats, IsRing}
 use Rattle.fleet.specs.Joining.{AreNew}
+use Rattle.fleet.specs.Looks.{HaveLooked, IsAny, LooksOver}
 use Rattle.fleet.specs.Standing.{AreSeats, FleetState, StandsFor}
+use Rattle.fleet.proofs.Connected.{standing-links}
 
 zip_links : (t : Network) (w : Wires) (ns : List NodeId) (xs : List StationState) → AllZip (IsNewAt t w) ns xs →
     AllZip (HasLinks t w) ns xs
@@ -54,14 +56,38 @@ new-connected t seats xs seated new = record {
   };
 }
 
--- They stand for the record in which nothing was done.
-pub new-stands : NewStationsStand → (t : Network) (f : FleetState) → AreSeats t f.seats →
-    AreNew t f.stations → f.posts ≡ [] → f.network ≡ t → f.failed ≡ [] → StandsFor t [] f new_record
-new-stands start t f seated new posts network failed = record {
+-- They may have been lent.
+pub new-lent : (t : Network) (ss seats : List Seat) (lent xs : List StationState) → ss ≡ seats → lent ≡ xs →
+    AreSeats t seats → AreNew t xs → HaveSeats ss lent
+new-lent t ss seats lent xs same was seated new = (
+  t,
+  subst (λ ks. AreConnected t ks lent) (sym same)
+      (subst (AreConnected t seats) (sym was) (new-connected t seats xs seated new)),
+)
+
+-- what was looked at, of the stations that were lent and came back
+pub looks-back : (ss seats : List Seat) (lent xs now zs : List StationState) → ss ≡ seats → lent ≡ xs → now ≡ zs →
+    LooksOver ss IsAny lent now → LooksOver seats IsAny xs zs
+looks-back ss seats lent xs now zs same was is looks =
+    subst (LooksOver seats IsAny xs) is
+    (subst (λ ks. LooksOver seats IsAny ks now) was (subst (λ ks. LooksOver ks IsAny lent now) same looks))
+
+pub settled-new : (ss seats : List Seat) (now zs : List StationState) → ss ≡ seats → now ≡ zs → AreSettled ss now →
+    AreSettled seats zs
+settled-new ss seats now zs same is all =
+    subst (AreSettled seats) is (subst (λ ks. AreSettled ks now) same all)
+
+-- After a look at all rings they stand for the record in which nothing was done.
+pub new-stands : NewStationsStand → LooksStand → LooksTell → KnownHaveBegun → (t : Network) (f : FleetState)
+    (xs : List StationState) → AreSeats t f.seats → AreNew t xs → LooksOver f.seats IsAny xs f.stations →
+    f.posts ≡ [] → f.network ≡ t → f.failed ≡ [] → StandsFor t [] f new_record
+new-stands start stand tell begun t f xs seated new looks posts network failed = record {
   seats = seated;
-  wires = new.wires;
-  stations = begins.stands;
-  begun = begins.begun;
+  wires = now.wires_now;
+  stations =
+      stand t [] new_record new.wires now.wires_now xs f.stations begins.stands now.kept now.links now.ways;
+  begun = λ u d channel.
+      begun now.wires_now u d (tell new.wires now.wires_now u d (now.seen u d channel channel));
   posts = posts;
   follow = begins.follow;
   few = subst (λ k. length k ≤ 2 ^ 32) (sym posts) (omega arith);
@@ -69,5 +95,9 @@ new-stands start t f seated new posts network failed = record {
   failed = failed;
 }
   where
-    begins : BeginsAsNew t new.wires f.stations
-    begins = start t new.wires f.stations new.valid new.each new.rings
+    begins : BeginsAsNew t new.wires xs
+    begins = start t new.wires xs new.valid new.each new.rings
+
+    now : HaveLooked t new.wires xs f.stations (IsAny t)
+    now = looks t (new-connected t f.seats xs seated new) new.wires
+        (standing-links t [] new_record new.wires xs begins.stands)

@@ -7,7 +7,7 @@ use Rattle.station_doings.specs.States.{StationState}
 use Rattle.round_rules.specs.Records.{Record}
 use Rattle.fleet.specs.declared.fleet.RoundFault.{RoundFault}
 use Rattle.fleet.specs.declared.seats.Seat.{Seat}
-use Rattle.fleet.specs.Connections.{HaveSeats}
+use Rattle.fleet.specs.Connections.{AreConnected, AreSettled}
 use Rattle.fleet.specs.Looks.{HaveLooked, IsAround}
 use Rattle.fleet.specs.RoundLaws.{RoundLaws}
 use Rattle.fleet.specs.Rounds.{EndsRound}
@@ -45,7 +45,7 @@ turns_of seats ss place stride ys zs answer same is =
 self_more : (s : StationState) → length s.log ≤ length s.log
 self_more s = omega arith
 
-turn_more : (seats : List Seat) (place stride : ℕ) (ys zs : List StationState) → HaveSeats seats ys →
+turn_more : (seats : List Seat) (place stride : ℕ) (ys zs : List StationState) → AreSettled seats ys →
     TurnsAt seats place stride ys zs None → line_count ys ≤ line_count zs
 turn_more seats place stride ys zs all is =
     subst (λ k. k ≤ line_count zs) (kept-count ys is.looked one.kept)
@@ -56,17 +56,17 @@ turn_more seats place stride ys zs all is =
     (came-to-end is.after.answer is.seat.id is.answers)))))
   where
     one : HaveLooked all.0 all.1.wires ys is.looked (IsAround place all.0)
-    one = is.first all.0 all.1 all.1.wires all.1.wired.links
+    one = is.first all.0 all.1.connected all.1.wires all.1.links
 
-    now : HaveSeats seats (slice_set is.looked place is.after)
+    now : AreConnected all.0 seats (slice_set is.looked place is.after)
     now =
-        turn-connected seats is.looked place stride is.before is.after
-        (all.0, looked-connected all.0 seats ys is.looked (IsAround place) all.1 is.first) is.there is.turns
+        turn-connected all.0 seats is.looked place stride is.before is.after
+        (looked-connected all.0 seats ys is.looked (IsAround place) all.1.connected is.first) is.there is.turns
 
-    two : HaveLooked now.0 now.1.wires (slice_set is.looked place is.after) zs (IsAround place now.0)
-    two = is.second now.0 now.1 now.1.wires now.1.wired.links
+    two : HaveLooked all.0 now.wires (slice_set is.looked place is.after) zs (IsAround place all.0)
+    two = is.second all.0 now now.wires now.wired.links
 
-pub are-next : (seats : List Seat) (xs ys zs : List StationState) (place stride : ℕ) → RoundLaws → HaveSeats seats ys →
+pub are-next : (seats : List Seat) (xs ys zs : List StationState) (place stride : ℕ) → RoundLaws → AreSettled seats ys →
     AreUnder seats xs place ys → TurnsAt seats place stride ys zs None → AreUnder seats xs (place + 1) zs
 are-next seats xs ys zs place stride laws all under is = record {
   under = λ f p q t lines r s.

@@ -18,11 +18,11 @@ use Rattle.fleet_rounds.proofs.Choosing.{Between, zip-more, zip-then}
 use Rattle.fleet.specs.declared.fleet.RoundFault.{RoundFault}
 use Rattle.fleet.specs.declared.fleet.RoundFault.TheVariants as fault
 use Rattle.fleet.specs.declared.seats.Seat.{Seat}
-use Rattle.fleet.specs.Connections.{HaveSeats}
+use Rattle.fleet.specs.Connections.{AreSettled}
 use Rattle.fleet.specs.Rounds.{EndsRound, Rounds, StarvesRound}
 use Rattle.fleet.specs.Standing.{FleetState, StandsFor}
 use Rattle.fleet.specs.Views.{HasPublished, MayHavePublished, MayPublish, Publishes, publishers_of}
-use Rattle.fleet.proofs.KeptSeats.{links_of, seats-kept}
+use Rattle.fleet.proofs.KeptSeats.{links_of, settled-kept}
 use Rattle.fleet.proofs.Places.{zip-self}
 
 -- Nothing differs but what is published
@@ -45,10 +45,10 @@ links-so [] (y ∷ ys) all = absurd all
 links-so (x ∷ xs) [] all = absurd all
 links-so (x ∷ xs) (y ∷ ys) all = λ i. links_of (all.0 i) ∷ links-so xs ys all.1 i
 
--- so seats and stations stay connected
-pub published-connected : (seats : List Seat) (xs ys : List StationState) → HaveSeats seats xs →
-    AllZip MayPublish xs ys → HaveSeats seats ys
-published-connected seats xs ys are all = seats-kept seats xs ys are (links-so xs ys (all-but xs ys all))
+-- so seats and stations stay settled
+pub published-settled : (seats : List Seat) (xs ys : List StationState) → AreSettled seats xs →
+    AllZip MayPublish xs ys → AreSettled seats ys
+published-settled seats xs ys are all = settled-kept seats xs ys are (links-so xs ys (all-but xs ys all))
 
 told_at : (t : Network) (lines : List Disturb) (r : Record) (w : Wires) (n : NodeId) (x y : StationState) →
     IsStationAt t lines r w n x → SameBut x y → IsStationAt t lines r w n y

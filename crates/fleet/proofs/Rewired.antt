@@ -20,7 +20,7 @@ use Rattle.station_doings.proofs.Moving.{moved-none}
 use Rattle.fleet_rounds.proofs.Links.{ends-stay, sends-count}
 use Rattle.fleet_rounds.proofs.Nodes.{apart-ids, apart-near, channel-back, joins-nodes, near-there, node-there}
 use Rattle.fleet.specs.declared.seats.Seat.{Seat}
-use Rattle.fleet.specs.Connections.{AreConnected, HaveSeats, IsRing}
+use Rattle.fleet.specs.Connections.{AreConnected, IsRing}
 use Rattle.fleet.specs.Turning.{HaveTurned, MakesTurns}
 use Rattle.fleet.proofs.Places.{get-map, zip-at, zip-get, zip-length, zip-self, zip-set}
 use Rattle.fleet.proofs.Turning.{turns-moved}
@@ -149,10 +149,9 @@ still_moved : (s : StationState) → LinksMoved s s
 still_moved s = zip-self HasMoved (λ l. (moved-none l).0) s.links
 
 -- So it does after the turns of one station.
-pub turn-connected : (seats : List Seat) (xs : List StationState) (place stride : ℕ) (x y : StationState) →
-    HaveSeats seats xs → slice_get xs place ≡ Some x → MakesTurns stride x y → HaveSeats seats (slice_set xs place y)
-turn-connected seats xs place stride x y all at made = (
-  all.0,
-  moved-connected all.0 seats xs (slice_set xs place y) all.1
-      (zip-set LinksMoved still_moved xs place x y at (turns-moved stride true x y y.answer made)),
-)
+pub turn-connected : (t : Network) (seats : List Seat) (xs : List StationState) (place stride : ℕ)
+    (x y : StationState) → AreConnected t seats xs → slice_get xs place ≡ Some x → MakesTurns stride x y →
+    AreConnected t seats (slice_set xs place y)
+turn-connected t seats xs place stride x y all at made =
+    moved-connected t seats xs (slice_set xs place y) all
+    (zip-set LinksMoved still_moved xs place x y at (turns-moved stride true x y y.answer made))

@@ -4,25 +4,25 @@ use Rattle.std.specs.Prelude.{Result}
 use Rattle.station_doings.specs.States.{StationState}
 use Rattle.fleet.specs.declared.fleet.RoundFault.{RoundFault}
 use Rattle.fleet.specs.declared.seats.Seat.{Seat}
-use Rattle.fleet.specs.Connections.{HaveSeats}
+use Rattle.fleet.specs.Connections.{AreSettled}
 use Rattle.fleet.specs.Rounds.{EndsRound, Rounds}
 use Rattle.fleet.specs.Standing.{FleetState, StandsFor}
 use Rattle.fleet.specs.Turning.{RoundsOf}
+use Rattle.fleet.proofs.KeptSeats.{seats-count}
 use Rattle.fleet.proofs.Splitting.{whole}
-use Rattle.fleet.proofs.Threaded.{station-count}
 
 -- as many stations stand in their place
-pub filled : (ss seats : List Seat) (old now : List StationState) (count : ℕ) → ss ≡ seats → HaveSeats seats old →
-    HaveSeats ss now → count ≡ length old → now ≡ take count (now ++ drop (length now) old)
+pub filled : (ss seats : List Seat) (old now : List StationState) (count : ℕ) → ss ≡ seats → AreSettled seats old →
+    AreSettled ss now → count ≡ length old → now ≡ take count (now ++ drop (length now) old)
 filled ss seats old now count same was is counted =
-    whole now old count (station-count ss now is ∙ ap length same ∙ sym (station-count seats old was) ∙ sym counted)
+    whole now old count (seats-count ss now is ∙ ap length same ∙ sym (seats-count seats old was) ∙ sym counted)
 
-pub filled-seats : (ss seats : List Seat) (old now : List StationState) (count : ℕ) → ss ≡ seats →
-    HaveSeats seats old → HaveSeats ss now → count ≡ length old →
-    HaveSeats seats (take count (now ++ drop (length now) old))
-filled-seats ss seats old now count same was is counted =
-    subst (HaveSeats seats) (filled ss seats old now count same was is counted)
-    (subst (λ xs. HaveSeats xs now) same is)
+pub filled-settled : (ss seats : List Seat) (old now : List StationState) (count : ℕ) → ss ≡ seats →
+    AreSettled seats old → AreSettled ss now → count ≡ length old →
+    AreSettled seats (take count (now ++ drop (length now) old))
+filled-settled ss seats old now count same was is counted =
+    subst (AreSettled seats) (filled ss seats old now count same was is counted)
+    (subst (λ xs. AreSettled xs now) same is)
 
 pub fleet-rounds : (f old : FleetState) (ss : List Seat) (xs zs ys : List StationState) (k workers : ℕ)
     (answer : Result ℕ RoundFault) → f ≡ old → ss ≡ f.seats → xs ≡ f.stations → k ≡ workers → zs ≡ ys →

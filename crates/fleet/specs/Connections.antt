@@ -9,7 +9,7 @@ use Rattle.station_rings.specs.LinkStates.{AreEnds, gone_of}
 use Rattle.round_rules.specs.OneWorker.{ids_of}
 use Rattle.station_doings.specs.States.{StationState}
 use Rattle.fleet_rounds.specs.Fleets.{Wires}
-use Rattle.fleet_rounds.specs.Looks.{HasLinks}
+use Rattle.fleet_rounds.specs.Looks.{AreLooked, HasLinks}
 use Rattle.fleet.specs.declared.seats.Seat.{Seat}
 use Rattle.fleet.specs.Standing.{AreSeats}
 
@@ -37,3 +37,14 @@ pub record AreConnected (t : Network) (seats : List Seat) (stations : List Stati
 -- by some network
 abbrev pub HaveSeats : List Seat → List StationState → Type 0
 HaveSeats seats stations = (t : Network) × AreConnected t seats stations
+
+-- Each ring was looked at since it was last used: one more look at it changes nothing.
+pub record IsSettled (t : Network) (seats : List Seat) (stations : List StationState) : Type 0 where
+  pub connected : AreConnected t seats stations
+  pub wires : Wires
+  pub links : AllZip (HasLinks t wires) (ids_of t) stations
+  pub looked : (u d : NodeId) → is_channel t u d ≡ true → AreLooked wires wires u d
+
+-- by some network
+abbrev pub AreSettled : List Seat → List StationState → Type 0
+AreSettled seats stations = (t : Network) × IsSettled t seats stations

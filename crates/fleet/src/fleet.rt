@@ -7,12 +7,13 @@ ghost use Rattle.fleet.specs.Standing.{StandsFor};
 ghost use Rattle.fleet.specs.Views.{AreUnwatched, Publishes, publishers_of};
 
 use crate::joining::{new_stations, unmake_all};
+use crate::looks::look_all;
 use crate::rounds::{round_in_order, round_on_threads};
 use crate::seats::{Seat, new_seats};
 use crate::views::publish_all;
 use ason_base::{Copied, Entry, Group, NodeId, OutOfMemory, Topology};
 use ason_io::Gate;
-use fleet_rounds::{every_command, every_start};
+use fleet_rounds::{every_command, every_look, every_start};
 use station::Station;
 use std::alloc::Global;
 use std::marker::Model;
@@ -39,8 +40,9 @@ pub struct FleetPending {
     pub flood: usize,
 }
 
-/// The stations of a network in order of node number, what was posted, and the groups that have failed. It isn't let go
-/// but by `end`, since a station of a node that is watched isn't.
+/// The stations of a network in order of node number, what was posted, and the groups that have failed. Each ring is
+/// looked at after the turns that may have used it, so none has to be before the next turns. It isn't let go but by
+/// `end`, since a station of a node that is watched isn't.
 pub struct Fleet {
     pub(crate) alloc: Global,
     pub(crate) seats: Vec<Seat>,
@@ -51,7 +53,7 @@ pub struct Fleet {
 }
 
 impl Model for Fleet {
-    ghost use Rattle.fleet.specs.Connections.{HaveSeats};
+    ghost use Rattle.fleet.specs.Connections.{AreSettled};
     ghost use Rattle.fleet.specs.Standing.{FleetState};
 
     ghost Value = { FleetState };
@@ -64,7 +66,7 @@ impl Model for Fleet {
       failed = f.failed.items;
     } };
 
-    ghost invariant = { λ f. HaveSeats f.seats.items f.stations.items };
+    ghost invariant = { λ f. AreSettled f.seats.items f.stations.items };
 }
 
 impl Fleet {
@@ -74,17 +76,21 @@ impl Fleet {
         ensures unwatched { IfOk result (λ f. AreUnwatched f.stations) }
     {
         every_start();
+        every_look();
         let network = t.copy(alloc)?;
-        let stations = new_stations(alloc, t)?;
+        let mut stations = new_stations(alloc, t)?;
         match new_seats(alloc, t, &stations) {
-            Ok(seats) => Ok(Fleet {
-                alloc,
-                seats,
-                stations,
-                posts: Vec::new(alloc),
-                network,
-                failed: Vec::new(alloc),
-            }),
+            Ok(seats) => {
+                look_all(&seats, &mut stations);
+                Ok(Fleet {
+                    alloc,
+                    seats,
+                    stations,
+                    posts: Vec::new(alloc),
+                    network,
+                    failed: Vec::new(alloc),
+                })
+            }
             Err(refused) => {
                 unmake_all(stations);
                 Err(refused)

@@ -2,7 +2,7 @@
 
 ghost use Rattle.std.specs.Prelude.{◌≡◌, ◌<◌, Some, length, slice_get};
 ghost use Rattle.fleet.specs.declared.seats.Seat.{Seat};
-ghost use Rattle.fleet.specs.Connections.{HaveSeats};
+ghost use Rattle.fleet.specs.Connections.{AreSettled, HaveSeats};
 ghost use Rattle.fleet.specs.Looks.{AreJoined, HaveMet, IsAny, IsAround, IsLinkAt, LooksOver};
 ghost use Rattle.fleet.specs.Views.{publishers_of};
 
@@ -52,7 +52,7 @@ pub(crate) fn look_around(seats: &[Seat], stations: &mut [Station], place: usize
 pub(crate) fn look_all(seats: &[Seat], stations: &mut [Station])
     requires { HaveSeats seats.now stations.old }
     ensures looks { LooksOver seats.now IsAny stations.old stations.new }
-    ensures seats { HaveSeats seats.now stations.new }
+    ensures settled { AreSettled seats.now stations.new }
     ensures publishers { publishers_of stations.new ≡ publishers_of stations.old }
 {
     for place in 0..seats.len() {

@@ -3,7 +3,7 @@
 ghost use Rattle.std.specs.Prelude.{◌≡◌, ◌<◌, ◌≤◌, length, position};
 ghost use Rattle.std.specs.List.{list_any};
 ghost use Rattle.station_doings.specs.Turned.{is_at_limit, is_starved};
-ghost use Rattle.fleet.specs.Connections.{HaveSeats};
+ghost use Rattle.fleet.specs.Connections.{AreSettled};
 ghost use Rattle.fleet.specs.RoundLaws.{RoundLaws};
 ghost use Rattle.fleet.specs.Turning.{HaveTurned, MakesTurns, RoundsOf, TurnsAt};
 ghost use Rattle.fleet.specs.Turning.{fault_after, fault_of, line_count, was_at_limit, was_starved};
@@ -132,7 +132,7 @@ fn turn_all<R: Threads + Sync, G: Gate>(
     );
 }
 
-/// A round on so many threads. All rings are looked at before it and after it.
+/// A round on so many threads. All rings are looked at after it.
 pub(crate) fn round_on_threads<R: Threads + Sync, G: Gate>(
     rt: &R,
     seats: &[Seat],
@@ -141,16 +141,15 @@ pub(crate) fn round_on_threads<R: Threads + Sync, G: Gate>(
     stride: u32,
     gate: &G,
 ) -> Result<u64, RoundFault>
-    requires seats { HaveSeats seats.now stations.old }
+    requires settled { AreSettled seats.now stations.old }
     requires workers { 2 ≤ workers }
     requires stride { 0 < stride }
     ensures rounds { RoundsOf workers seats.now stations.old stations.new result }
-    ensures seats { HaveSeats seats.now stations.new }
+    ensures settled { AreSettled seats.now stations.new }
     ensures publishers { publishers_of stations.new ≡ publishers_of stations.old }
 {
     round_laws();
     let before = line_count(stations);
-    look_all(seats, stations);
     turn_all(rt, stations, workers, stride, gate);
     let fault = fault_of(seats, stations);
     look_all(seats, stations);
@@ -187,7 +186,7 @@ fn turn_one<G: Gate>(
     fault_after(station.answer(), node)
 }
 
-// The station at this place makes its turns. Its rings are looked at before them and after them.
+// The station at this place makes its turns. Its rings are looked at after them.
 fn turn_at<G: Gate>(
     seats: &[Seat],
     stations: &mut [Station],
@@ -195,14 +194,13 @@ fn turn_at<G: Gate>(
     stride: u32,
     gate: &G,
 ) -> Option<RoundFault>
-    requires seats { HaveSeats seats.now stations.old }
+    requires settled { AreSettled seats.now stations.old }
     requires within { place < length seats.now }
     requires stride { 0 < stride }
     ensures turns { TurnsAt seats.now place stride stations.old stations.new result }
-    ensures seats { HaveSeats seats.now stations.new }
+    ensures settled { AreSettled seats.now stations.new }
     ensures publishers { publishers_of stations.new ≡ publishers_of stations.old }
 {
-    look_around(seats, stations, place);
     let fault = turn_one(&mut stations[place], seats[place].id, stride, gate);
     look_around(seats, stations, place);
     fault
@@ -216,10 +214,10 @@ pub(crate) fn round_in_order<G: Gate>(
     stride: u32,
     gate: &G,
 ) -> Result<u64, RoundFault>
-    requires seats { HaveSeats seats.now stations.old }
+    requires settled { AreSettled seats.now stations.old }
     requires stride { 0 < stride }
     ensures rounds { RoundsOf 1 seats.now stations.old stations.new result }
-    ensures seats { HaveSeats seats.now stations.new }
+    ensures settled { AreSettled seats.now stations.new }
     ensures publishers { publishers_of stations.new ≡ publishers_of stations.old }
 {
     round_laws();

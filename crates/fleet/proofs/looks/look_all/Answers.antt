@@ -1,6 +1,7 @@
 use Rattle.std.proofs.Common.{refl, ◌∙◌, arith}
 use Rattle.fleet.specs.Looks.{IsNodeBefore}
 use Rattle.fleet.proofs.Around.{no-node, over-all, over-node, over-none}
+use Rattle.fleet.proofs.Settled.{settled-all}
 use Rattle.fleet.proofs.looks.look_all.Goals as goal
 
 pub loop-place-init : goal.loop-place-init
@@ -25,3 +26,7 @@ pub returns-clause-looks : goal.returns-clause-looks
 returns-clause-looks c =
     over-all c.args.seats.now c.args.stations.now c.loop-place.stations c.loop-place.place
     (omega (arith, c.loop-place-test.false, c.loop-place.invariant.within)) c.loop-place.invariant.looks
+
+pub returns-clause-settled : goal.returns-clause-settled
+returns-clause-settled c =
+    settled-all c.args.seats.now c.args.stations.now c.loop-place.stations c.requires (returns-clause-looks c)

@@ -1,49 +1,55 @@
-use Rattle.std.proofs.Common.{◌<◌, get_or, sym, ◌∙◌, subst}
+use Rattle.std.proofs.Common.{get_or, ◌∙◌}
 use Rattle.std.proofs.lemmas.Option.{slice_get-get_or}
 use Rattle.station_doings.specs.States.{StationState}
+use Rattle.fleet.specs.Looks.{IsAround}
+use Rattle.fleet.proofs.KeptSeats.{seated-read, seated-within}
 use Rattle.fleet.proofs.Places.{map-back}
 use Rattle.fleet.proofs.Rewired.{turn-connected}
-use Rattle.fleet.proofs.Threaded.{station-count}
+use Rattle.fleet.proofs.Settled.{over-settled, settled-around}
 use Rattle.fleet.proofs.rounds.turn_at.Goals as goal
 
 pub bounds-stations-place : goal.bounds-stations-place
 bounds-stations-place g c =
-    subst (λ k. c.args.place < k)
-    (sym (station-count c.args.seats.now c.look_around.new.stations c.look_around.ensures.seats)) c.requires.within
+    seated-within c.args.seats.now c.args.stations.now c.args.place c.requires.settled c.requires.within
 
-pub look_around-requires-2-clause-seats : goal.look_around-requires-2-clause-seats
-look_around-requires-2-clause-seats g c =
-    turn-connected c.args.seats.now c.look_around.new.stations c.args.place c.args.stride
-    (get_or c.look_around.new.stations c.args.place c.index-stations-place.result) c.turn_one-fault.new.station
-    c.look_around.ensures.seats
-    (slice_get-get_or c.look_around.new.stations c.args.place c.index-stations-place.result
-    (subst (λ k. c.args.place < k)
-    (sym (station-count c.args.seats.now c.look_around.new.stations c.look_around.ensures.seats)) c.requires.within))
-    c.turn_one-fault.ensures.turns
+pub look_around-requires-clause-seats : goal.look_around-requires-clause-seats
+look_around-requires-clause-seats g c = (
+  c.requires.settled.0,
+  turn-connected c.requires.settled.0 c.args.seats.now c.args.stations.now c.args.place c.args.stride
+      (get_or c.args.stations.now c.args.place c.index-stations-place.result) c.turn_one-fault.new.station
+      c.requires.settled.1.connected
+      (seated-read c.args.seats.now c.args.stations.now c.args.place c.index-stations-place.result
+      c.requires.settled c.requires.within) c.turn_one-fault.ensures.turns,
+)
 
 pub returns-clause-turns : goal.returns-clause-turns
 returns-clause-turns g c = record {
-  looked = c.look_around.new.stations;
-  first = c.look_around.ensures.looks;
-  before = get_or c.look_around.new.stations c.args.place c.index-stations-place.result;
+  looked = c.args.stations.now;
+  first = over-settled c.args.seats.now c.args.stations.now c.requires.settled (IsAround c.args.place);
+  before = get_or c.args.stations.now c.args.place c.index-stations-place.result;
   after = c.turn_one-fault.new.station;
   there =
-      slice_get-get_or c.look_around.new.stations c.args.place c.index-stations-place.result
-      (subst (λ k. c.args.place < k)
-      (sym (station-count c.args.seats.now c.look_around.new.stations c.look_around.ensures.seats)) c.requires.within);
+      seated-read c.args.seats.now c.args.stations.now c.args.place c.index-stations-place.result
+      c.requires.settled c.requires.within;
   turns = c.turn_one-fault.ensures.turns;
-  second = c.look_around-2.ensures.looks;
+  second = c.look_around.ensures.looks;
   seat = get_or c.args.seats.now c.args.place c.index-seats-place.result;
   seated = slice_get-get_or c.args.seats.now c.args.place c.index-seats-place.result c.requires.within;
   answers = c.turn_one-fault.ensures.fault;
 }
 
+pub returns-clause-settled : goal.returns-clause-settled
+returns-clause-settled g c =
+    settled-around c.args.seats.now c.args.stations.now c.look_around.new.stations c.args.place c.args.stride
+    (get_or c.args.stations.now c.args.place c.index-stations-place.result) c.turn_one-fault.new.station
+    c.requires.settled
+    (seated-read c.args.seats.now c.args.stations.now c.args.place c.index-stations-place.result c.requires.settled
+    c.requires.within) c.turn_one-fault.ensures.turns c.look_around.ensures.looks
+
 pub returns-clause-publishers : goal.returns-clause-publishers
 returns-clause-publishers g c =
-    c.look_around-2.ensures.publishers
-    ∙ map-back (λ (s : StationState). s.publisher) c.look_around.new.stations c.args.place
-    (get_or c.look_around.new.stations c.args.place c.index-stations-place.result) c.turn_one-fault.new.station
-    (slice_get-get_or c.look_around.new.stations c.args.place c.index-stations-place.result
-    (subst (λ k. c.args.place < k)
-    (sym (station-count c.args.seats.now c.look_around.new.stations c.look_around.ensures.seats)) c.requires.within))
-    c.turn_one-fault.ensures.publisher ∙ c.look_around.ensures.publishers
+    c.look_around.ensures.publishers
+    ∙ map-back (λ (s : StationState). s.publisher) c.args.stations.now c.args.place
+    (get_or c.args.stations.now c.args.place c.index-stations-place.result) c.turn_one-fault.new.station
+    (seated-read c.args.seats.now c.args.stations.now c.args.place c.index-stations-place.result c.requires.settled
+    c.requires.within) c.turn_one-fault.ensures.publisher

@@ -8,14 +8,14 @@ use Rattle.fleet.specs.Commands.{but_room}
 use Rattle.fleet.specs.Posting.{HaveRoom, news_for, post_of}
 use Rattle.fleet.specs.Standing.{FleetState}
 use Rattle.fleet.specs.Views.{shown_by}
-use Rattle.fleet.proofs.KeptSeats.{items-links, on-any-err, roomed-count, roomed-same, seats-back, seats-roomed}
+use Rattle.fleet.proofs.KeptSeats.{items-links, on-any-err, roomed-count, roomed-same, settled-back, settled-roomed}
 use Rattle.fleet.proofs.Taking.{room-clocks, stamp-above, take-roomed, take-same}
 use Rattle.fleet.proofs.Unwatched.{items-shown, room-shown}
 use Rattle.fleet.proofs.fleet.Fleet.change.Goals as goal
 
 pub invariant_of-self : goal.invariant_of-self
 invariant_of-self c =
-    seats-roomed c.self.inside.seats.items c.self.inside.stations.items c.deref_mut.result.now c.list_post.new.stations
+    settled-roomed c.self.inside.seats.items c.self.inside.stations.items c.deref_mut.result.now c.list_post.new.stations
     (with_items c.self.inside.stations c.list_post.new.stations).items c.self.invariant c.deref_mut.ensures.value
     c.list_post.ensures.same (with_items_is c.self.inside.stations c.list_post.new.stations
     (omega (arith, c.list_post.auto.stations, c.deref_mut.ensures.len)))
@@ -44,8 +44,8 @@ invariant_of-self-2 c =
     let vec = with_items c.self.inside.stations c.list_post.new.stations in
     let is = with_items_is c.self.inside.stations c.list_post.new.stations (omega
     (arith, c.list_post.auto.stations, c.deref_mut.ensures.len)) in
-    seats-back c.self.inside.seats.items vec.items _ c.take_news.new.stations _
-    (seats-roomed _ c.self.inside.stations.items _ _ _ c.self.invariant c.deref_mut.ensures.value
+    settled-back c.self.inside.seats.items vec.items _ c.take_news.new.stations _
+    (settled-roomed _ c.self.inside.stations.items _ _ _ c.self.invariant c.deref_mut.ensures.value
     c.list_post.ensures.same is) c.deref_mut-2.ensures.value
     (items-links _ c.args.stamp _ _ c.take_news.new.stations (roomed-count c.self.invariant c.deref-2.ensures.value
     c.deref_mut.ensures.value c.list_post.ensures.same (c.deref_mut-2.ensures.value ∙ is)) c.take_news.ensures)

@@ -12,7 +12,7 @@ use Rattle.fleet.specs.Standing.{FleetState}
 use Rattle.fleet.specs.Views.{shown_by}
 use Rattle.fleet.proofs.Channels.{sent-is-count}
 use Rattle.fleet.proofs.Finding.{IsFirst, first-at, seat-lost}
-use Rattle.fleet.proofs.KeptSeats.{line-links, links_of, lent-same, rest-kept, seats-back, seats-count}
+use Rattle.fleet.proofs.KeptSeats.{lent-same, line-links, links_of, rest-kept, seats-count, settled-back}
 use Rattle.fleet.proofs.Lines.{line-stands}
 use Rattle.fleet.proofs.Taking.{within-at}
 use Rattle.fleet.proofs.fleet.Fleet.disturb.Goals as goal
@@ -40,7 +40,7 @@ put_line-requires c =
 pub invariant_of-self : goal.invariant_of-self
 invariant_of-self c =
     let new = c.put_line.new.stations in
-    seats-back c.self.inside.seats.items c.self.inside.stations.items c.deref_mut.result.now new
+    settled-back c.self.inside.seats.items c.self.inside.stations.items c.deref_mut.result.now new
     (with_items c.self.inside.stations new).items c.self.invariant c.deref_mut.ensures.value
     (on_both c.put_line.result _ _ (map links_of new ≡ map links_of c.deref_mut.result.now)
     (line-links _ c.in-Some-Some.place c.deref_mut.result.now new) (λ same. ap (map links_of) same)

@@ -11,7 +11,7 @@ use Rattle.fleet.specs.Posting.{HaveRoom, TakesOrder, order_for, post_of}
 use Rattle.fleet.specs.Standing.{FleetState}
 use Rattle.fleet.specs.Views.{shown_by}
 use Rattle.fleet.proofs.Finding.{IsFirst, first-at, seat-lost}
-use Rattle.fleet.proofs.KeptSeats.{on-any-err, order-links, roomed-same, seats-back, seats-count, seats-roomed}
+use Rattle.fleet.proofs.KeptSeats.{on-any-err, order-links, roomed-same, seats-count, settled-back, settled-roomed}
 use Rattle.fleet.proofs.Posted.{groups-left}
 use Rattle.fleet.proofs.Taking.{order-takes, room-clocks, stamp-above, take-roomed, within-at}
 use Rattle.fleet.proofs.Unwatched.{order-shown, room-shown}
@@ -19,7 +19,7 @@ use Rattle.fleet.proofs.fleet.Fleet.order.Goals as goal
 
 pub invariant_of-self : goal.invariant_of-self
 invariant_of-self c =
-    seats-roomed c.self.inside.seats.items c.self.inside.stations.items c.deref_mut.result.now c.list_post.new.stations
+    settled-roomed c.self.inside.seats.items c.self.inside.stations.items c.deref_mut.result.now c.list_post.new.stations
     (with_items c.self.inside.stations c.list_post.new.stations).items c.self.invariant c.deref_mut.ensures.value
     c.list_post.ensures.same (with_items_is c.self.inside.stations c.list_post.new.stations
     (omega (arith, c.list_post.auto.stations, c.deref_mut.ensures.len)))
@@ -58,8 +58,8 @@ invariant_of-self-in-Some c =
     let new = c.take_order.new.stations in
     let is : vec.items ≡ mid =
     with_items_is c.self.inside.stations mid (omega (arith, c.list_post.auto.stations, c.deref_mut.ensures.len)) in
-    seats-back c.self.inside.seats.items vec.items c.deref_mut-in-Some.result.now new (with_items vec new).items
-    (seats-roomed c.self.inside.seats.items c.self.inside.stations.items c.deref_mut.result.now mid vec.items
+    settled-back c.self.inside.seats.items vec.items c.deref_mut-in-Some.result.now new (with_items vec new).items
+    (settled-roomed c.self.inside.seats.items c.self.inside.stations.items c.deref_mut.result.now mid vec.items
     c.self.invariant c.deref_mut.ensures.value c.list_post.ensures.same is)
     c.deref_mut-in-Some.ensures.value
     (order-links c.in-Some.place (Order c.in_ok-copy-in-Some.field-0) c.args.stamp c.deref_mut-in-Some.result.now new

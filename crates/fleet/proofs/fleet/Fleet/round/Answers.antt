@@ -2,11 +2,11 @@ use Rattle.std.proofs.Common.{◌≡◌, sym, ap, ◌∙◌, subst, arith}
 use Rattle.std.specs.List.{AllZip}
 use Rattle.std.specs.Vec.{with_items}
 use Rattle.std.proofs.lemmas.List.{with_items_is}
-use Rattle.fleet.specs.Connections.{HaveSeats}
+use Rattle.fleet.specs.Connections.{AreSettled}
 use Rattle.fleet.specs.Rounds.{Rounds}
 use Rattle.fleet.specs.Standing.{FleetState}
 use Rattle.fleet.specs.Views.{MayPublish, Publishes, publishers_of}
-use Rattle.fleet.proofs.Published.{all-published, published-connected, rounds-published, rounds-starved, some-published}
+use Rattle.fleet.proofs.Published.{all-published, published-settled, rounds-published, rounds-starved, some-published}
 use Rattle.fleet.proofs.fleet.Fleet.round.Goals.{in-Err, in-Ok}
 use Rattle.fleet.proofs.fleet.Fleet.round.Goals as goal
 
@@ -15,9 +15,9 @@ invariant_of-self g c =
     let seats = c.self.inside.seats.items in
     let lent = c.deref_mut.result.now in
     let new = c.publish_all-told.new.stations in
-    subst (HaveSeats seats) (sym (with_items_is c.self.inside.stations new (omega
+    subst (AreSettled seats) (sym (with_items_is c.self.inside.stations new (omega
     (arith, c.publish_all-told.auto.stations, c.deref_mut.ensures.len))))
-    (published-connected seats lent new (subst (HaveSeats seats) (sym c.deref_mut.ensures.value) c.self.invariant)
+    (published-settled seats lent new (subst (AreSettled seats) (sym c.deref_mut.ensures.value) c.self.invariant)
     c.publish_all-told.ensures.may)
 
 pub returns-clause-rounds : goal.returns-clause-rounds
