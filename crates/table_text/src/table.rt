@@ -1,14 +1,16 @@
 //! The table of calls and legs, as text.
 
-ghost use Rattle.std.specs.Prelude.{◌≡◌, ◌==◌, ◌++◌, IfOk, OnErr, OnOk, position, string_bytes};
+ghost use Rattle.std.specs.Prelude.{◌≡◌, ◌==◌, ◌++◌, IfOk, OnErr, OnOk, codes, position, string_bytes};
+ghost use Rattle.std.specs.Fmt.{decimal};
 ghost use Rattle.std.specs.List.{flat_map};
-ghost use Rattle.table_text.specs.TableText.{back_label_text, back_text, call_name, call_text, cause_text, code_name, call_lsps, head_text, label_text, leg_labels, leg_place, leg_standing, leg_text, lsp_or_dash, lsp_text, name_at, named_or_decimal, node_name, phase_word, role_word, state_word, stopped_text, table_text, unsettled_text};
+ghost use Rattle.table_text.specs.TableText.{back_label_text, back_text, call_name, call_text, cause_text, code_name, call_lsps, head_text, label_or_dash, label_text, leg_labels, leg_place, leg_standing, leg_text, lsp_or_dash, lsp_text, name_at, named_or_decimal, node_name, phase_word, role_word, state_word, stopped_text, table_text, unsettled_text};
 ghost use Rattle.ason_base.specs.Texts.{Appends};
 
 use crate::words::{code_name, phase_word, role_word, state_word};
 use ason_base::{
     CallNo, CallRow, Cause, ErrCode, Label, LegRow, LinkId, Lsp, NodeId, OutOfMemory, TableRows,
 };
+use itoa::Buffer;
 use plan_reader::{Name, Plan};
 use std::alloc::Global;
 
@@ -164,10 +166,26 @@ fn push_place(text: &mut String, plan: &Plan, row: &LegRow) -> Result<(), OutOfM
 fn push_standing(text: &mut String, plan: &Plan, row: &LegRow) -> Result<(), OutOfMemory>
     ensures { OnOk result (Appends text.old text.new (leg_standing plan.now row.now)) }
 {
-    let node = node_name(plan, row.node);
-    let role = role_word(row.role);
-    let phase = phase_word(row.phase);
-    write!(text, " {node} {role} {phase} ")?;
+    text.push_str(" ")?;
+    push_word(text, node_name(plan, row.node))?;
+    push_word(text, role_word(row.role))?;
+    push_word(text, phase_word(row.phase))
+}
+
+// The word, and a space after it.
+fn push_word(text: &mut String, word: &str) -> Result<(), OutOfMemory>
+    ensures { OnOk result (Appends text.old text.new (word.now ++ codes " ")) }
+{
+    text.push_str(word)?;
+    text.push_str(" ")?;
+    Ok(())
+}
+
+fn push_number(text: &mut String, n: u32) -> Result<(), OutOfMemory>
+    ensures { OnOk result (Appends text.old text.new (decimal n)) }
+{
+    let mut digits = Buffer::new();
+    text.push_str(digits.format(n))?;
     Ok(())
 }
 
@@ -214,10 +232,21 @@ fn push_label(
 ) -> Result<(), OutOfMemory>
     ensures { OnOk result (Appends text.old text.new (label_text link label)) }
 {
-    match (link, label) {
-        (None, _) => text.push_str("-")?,
-        (Some(link), None) => write!(text, "{}/-", link.0)?,
-        (Some(link), Some(label)) => write!(text, "{}/{}", link.0, label.number())?,
+    let Some(link) = link else {
+        text.push_str("-")?;
+        return Ok(());
+    };
+    push_number(text, link.0)?;
+    text.push_str("/")?;
+    push_label_or_dash(text, label)
+}
+
+fn push_label_or_dash(text: &mut String, label: Option<Label>) -> Result<(), OutOfMemory>
+    ensures { OnOk result (Appends text.old text.new (label_or_dash label)) }
+{
+    match label {
+        None => text.push_str("-")?,
+        Some(label) => push_number(text, u32::from(label.number()))?,
     }
     Ok(())
 }
@@ -235,9 +264,11 @@ fn push_lsp_or_dash(text: &mut String, plan: &Plan, lsp: Option<Lsp>) -> Result<
 fn push_lsp(text: &mut String, plan: &Plan, lsp: Lsp) -> Result<(), OutOfMemory>
     ensures { OnOk result (Appends text.old text.new (lsp_text plan.now lsp)) }
 {
-    let ingress = node_name(plan, lsp.ingress);
-    write!(text, "{ingress}.{}.{}", lsp.tunnel, lsp.lsp)?;
-    Ok(())
+    text.push_str(node_name(plan, lsp.ingress))?;
+    text.push_str(".")?;
+    push_number(text, u32::from(lsp.tunnel))?;
+    text.push_str(".")?;
+    push_number(text, u32::from(lsp.lsp))
 }
 
 fn push_cause(text: &mut String, cause: Cause) -> Result<(), OutOfMemory>
