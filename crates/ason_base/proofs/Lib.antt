@@ -4,6 +4,7 @@ pub mod KeyOrder
 pub mod KeyedLists
 pub mod KeySearch
 pub mod LinkOrder
+pub mod LspKeys
 pub mod LspOrder
 pub mod MaskMembers
 pub mod MaskCounts

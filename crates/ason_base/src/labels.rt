@@ -70,6 +70,13 @@ impl LabelSet {
         LabelSet { mask: 0 }
     }
 
+    /// The set of these bits: bit n stands for label n. Those that stand for no label say nothing.
+    pub fn from_bits(bits: u128) -> LabelSet
+        ensures { result ≡ members bits }
+    {
+        LabelSet { mask: bits }
+    }
+
     /// The labels from 1 to n; none for 0.
     pub fn upto(n: u8) -> LabelSet
         requires { n ≤ 80 }
