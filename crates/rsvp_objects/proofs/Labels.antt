@@ -1,23 +1,13 @@
 -- Sets of labels out of lists of numbers.
-use Rattle.std.proofs.Common.{◌≡◌, ℕ, zero, suc, ◌+◌, ◌-◌, ◌<◌, ◌≤◌, ◌&&◌, ◌||◌, List, [], ◌∷◌, ◌++◌, length}
+use Rattle.std.proofs.Common.{◌≡◌, ℕ, zero, suc, ◌+◌, ◌<◌, ◌≤◌, ◌&&◌, ◌||◌, List, [], ◌∷◌, ◌++◌, length}
 use Rattle.std.proofs.Common.{drop, filter, Bool, true, false, eqb, ltb, refl, ap, sym, ◌∙◌, arith, append_assoc}
 use Rattle.std.proofs.Math.Bool.{and-false, and-true, or-false, or_assoc, or_comm}
 use Rattle.std.proofs.lemmas.List.{append-nil}
-use Rattle.std.proofs.lemmas.Bool.{eqb-true}
 use Rattle.ason_base.specs.Labels.{has, up_to, with_label, numbers_from}
-use Rattle.ason_base.proofs.MaskMembers.{has-filter, filter-agree, has-bound}
+use Rattle.ason_base.proofs.MaskMembers.{has-filter, filter-agree, has-bound, has-low}
 use Rattle.byteorder.specs.Endian.{big_number}
 use Rattle.wire_buf.specs.Objects.{numbers}
 use Rattle.rsvp_objects.specs.LabelSets.{among, is_between, between}
-
-pub has_low : (n first l : ℕ) → has (numbers_from first n) l ≡ true → first ≤ l
-unfolding numbers_from
-has_low zero first l h = absurd cc
-has_low (suc n) first l h =
-    elim (eqb first l) as (λ b. eqb first l ≡ b → (b || has (numbers_from (first + 1) n) l) ≡ true → first ≤ l) [
-      | true ↦ λ e t. let same = eqb-true _ _ e in omega arith
-      | false ↦ λ e t. let low = has_low n (first + 1) l t in omega arith
-    ] refl h
 
 has_more : (front : List ℕ) (n l : ℕ) → has (front ++ n ∷ []) l ≡ (has front l || eqb n l)
 has_more [] n l = or-false (eqb n l)
@@ -31,7 +21,7 @@ has_among front l h = has-filter (has front) (up_to 80) l ∙ ap (λ (b : Bool).
 eqb_commutes : (a b : ℕ) → eqb a b ≡ eqb b a
 eqb_commutes a b = grind arith
 
-pub one_more : (s front : List ℕ) (n : ℕ) → s ≡ among front → with_label s n ≡ among (front ++ n ∷ [])
+one_more : (s front : List ℕ) (n : ℕ) → s ≡ among front → with_label s n ≡ among (front ++ n ∷ [])
 one_more s front n e = filter-agree (λ x. eqb x n || has s x) (has (front ++ n ∷ [])) (up_to 80) (λ l h.
     ap (λ (b : Bool). eqb l n || b) (ap (λ (t : List ℕ). has t l) e ∙ has_among front l h)
     ∙ or_comm (eqb l n) (has front l) ∙ ap (λ (b : Bool). has front l || b) (eqb_commutes l n)
@@ -39,13 +29,6 @@ one_more s front n e = filter-agree (λ x. eqb x n || has s x) (has (front ++ n 
 
 pub differ : (n l : ℕ) → (n ≡ l → ⊥) → eqb n l ≡ false
 differ n l h = grind arith
-
-pub not_one_more : (s front : List ℕ) (n : ℕ) → s ≡ among front → ((1 ≤ n) × (n ≤ 80) → ⊥) → s ≡ among (front ++ n ∷ [])
-not_one_more s front n e out = e ∙ filter-agree (has front) (has (front ++ n ∷ [])) (up_to 80) (λ l h.
-    let low = has_low 80 1 l h in
-    let high = has-bound 80 1 l h in
-    let other : eqb n l ≡ false = differ n l (λ same. out (omega arith, omega arith)) in
-    sym (has_more front n l ∙ ap (λ (b : Bool). has front l || b) other ∙ or-false (has front l)))
 
 -- numbers read so far, and the bytes left
 pub record ReadNumbers (bytes left set : List ℕ) : Type 0 where
@@ -58,12 +41,8 @@ unfolding numbers_from
 none_among zero first = refl
 none_among (suc n) first = none_among n (first + 1)
 
-pub up_to_none : up_to 0 ≡ among []
-unfolding numbers_from
-up_to_none = sym (none_among 80 1)
-
-pub numbers_begin : (bytes set : List ℕ) → set ≡ up_to 0 → ReadNumbers bytes bytes set
-numbers_begin bytes set e = record { front = []; whole = refl; is = e ∙ up_to_none }
+pub numbers_begin : (bytes set : List ℕ) → set ≡ [] → ReadNumbers bytes bytes set
+numbers_begin bytes set e = record { front = []; whole = refl; is = e ∙ sym (none_among 80 1) }
 
 number_first : (left : List ℕ) → 4 ≤ length left → numbers left ≡ big_number 4 left ∷ numbers (drop 4 left)
 number_first [] h = absurd (omega arith)
@@ -80,16 +59,15 @@ number_none (a ∷ b ∷ c ∷ []) h = refl
 number_none (a ∷ b ∷ c ∷ d ∷ left) h = absurd (omega arith)
 
 pub numbers_go_on : (bytes left after set more : List ℕ) (n : ℕ) → 4 ≤ length left → n ≡ big_number 4 left →
-    after ≡ drop 4 left → ((front : List ℕ) → set ≡ among front → more ≡ among (front ++ n ∷ []))
-    → ReadNumbers bytes left set → ReadNumbers bytes after more
-numbers_go_on bytes left after set more n long is_n is_after adds so_far = record {
+    after ≡ drop 4 left → more ≡ with_label set n → ReadNumbers bytes left set → ReadNumbers bytes after more
+numbers_go_on bytes left after set more n long is_n is_after is_more so_far = record {
   front = so_far.front ++ n ∷ [];
   whole =
       so_far.whole ∙ ap (λ (l : List ℕ). so_far.front ++ l)
       (number_first left long ∙ ap (λ (k : ℕ). k ∷ numbers (drop 4 left)) (sym is_n)
       ∙ ap (λ (l : List ℕ). n ∷ numbers l) (sym is_after))
       ∙ sym (append_assoc so_far.front (n ∷ []) (numbers after));
-  is = adds so_far.front so_far.is;
+  is = is_more ∙ one_more set so_far.front n so_far.is;
 }
 
 pub numbers_end : (bytes left set : List ℕ) → length left < 4 → ReadNumbers bytes left set → set ≡ among (numbers bytes)
@@ -103,16 +81,16 @@ numbers_end bytes left set short so_far =
 abbrev pub between_below : ℕ → ℕ → ℕ → List ℕ
 between_below low high n = filter (λ l. is_between low high l && ltb l n) (up_to 80)
 
-pub range_begins : (low high : ℕ) (s : List ℕ) → s ≡ up_to 0 → s ≡ between_below low high 1
+pub range_begins : (low high : ℕ) (s : List ℕ) → s ≡ [] → s ≡ between_below low high 1
 range_begins low high s e =
-    e ∙ up_to_none ∙ filter-agree (has []) (λ l. is_between low high l && ltb l 1) (up_to 80) (λ l h.
-    let low_end = has_low 80 1 l h in
+    e ∙ sym (none_among 80 1) ∙ filter-agree (has []) (λ l. is_between low high l && ltb l 1) (up_to 80) (λ l h.
+    let low_end = has-low 80 1 l h in
     let none : ltb l 1 ≡ false = grind arith in
     sym (ap (λ (b : Bool). is_between low high l && b) none ∙ and-false (is_between low high l)))
 
-one_above : (b : Bool) (l n : ℕ) → (n ≡ l → b ≡ true) → ((b && ltb l n) || eqb n l) ≡ (b && ltb l (n + 1))
+one_above : (b : Bool) (l n : ℕ) → (n ≡ l → b ≡ true) → (eqb l n || (b && ltb l n)) ≡ (b && ltb l (n + 1))
 one_above true l n h = grind arith
-one_above false l n h = differ n l (λ e. cc (h e))
+one_above false l n h = ap (λ (t : Bool). t || false) (differ l n (λ e. cc (h (sym e))))
 
 none_above : (b : Bool) (l n : ℕ) → (n ≡ l → b ≡ false) → (b && ltb l n) ≡ (b && ltb l (n + 1))
 none_above true l n h = let other : n ≡ l → ⊥ = (λ e. cc (h e)) in grind arith
@@ -125,11 +103,11 @@ is_among_itself q =
     (λ l h. sym (has-filter q (up_to 80) l ∙ ap (λ (b : Bool). b && q l) h))
 
 pub range_takes : (low high n : ℕ) (s more : List ℕ) → s ≡ between_below low high n → is_between low high n ≡ true →
-    ((front : List ℕ) → s ≡ among front → more ≡ among (front ++ n ∷ [])) → more ≡ between_below low high (n + 1)
-range_takes low high n s more e inside adds =
-    adds s (e ∙ is_among_itself (λ l. is_between low high l && ltb l n) ∙ ap among (sym e))
-    ∙ filter-agree (has (s ++ n ∷ [])) (λ l. is_between low high l && ltb l (n + 1)) (up_to 80) (λ l h.
-    has_more s n l ∙ ap (λ (b : Bool). b || eqb n l) (ap (λ (t : List ℕ). has t l) e
+    more ≡ with_label s n → more ≡ between_below low high (n + 1)
+range_takes low high n s more e inside is_more =
+    is_more
+    ∙ filter-agree (λ l. eqb l n || has s l) (λ l. is_between low high l && ltb l (n + 1)) (up_to 80) (λ l h.
+    ap (λ (b : Bool). eqb l n || b) (ap (λ (t : List ℕ). has t l) e
     ∙ has-filter (λ l. is_between low high l && ltb l n) (up_to 80) l
     ∙ ap (λ (b : Bool). b && (is_between low high l && ltb l n)) h)
     ∙ one_above (is_between low high l) l n (λ same. ap (is_between low high) (sym same) ∙ inside))

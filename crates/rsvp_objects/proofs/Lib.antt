@@ -1,5 +1,8 @@
 pub mod Again
+pub mod LabelObjects
 pub mod Labels
-pub mod LabelsBelow
+pub mod LaidLabels
 pub mod Links
+pub mod MarkedLabels
+pub mod Marks
 pub mod Tlvs

@@ -1,10 +1,10 @@
 -- LABEL_SET (RFC 3473, section 2.6; RFC 3471, section 3.5): action, reserved bits and label type in three bytes,
 -- labels.
 use Rattle.std.specs.Prelude.{◌≡◌, ◌≤◌, ℕ, ◌%◌, ◌==◌, nat_le, ◌&&◌, ◌||◌, Bool, true, false, if◌then◌else◌, ◌⊎◌, List}
-use Rattle.std.specs.Prelude.{[], ◌∷◌, ◌++◌, ◌-◌, length, drop, filter, replicate}
+use Rattle.std.specs.Prelude.{[], ◌∷◌, ◌++◌, ◌-◌, length, drop, filter, replicate, take}
 use Rattle.std.specs.List.{flat_map}
 use Rattle.byteorder.specs.Endian.{big_bytes}
-use Rattle.ason_base.specs.Labels.{has, up_to}
+use Rattle.ason_base.specs.Labels.{has, is_marked, numbers_from, up_to}
 use Rattle.wire_buf.specs.Objects.{number_at, numbers}
 use Rattle.rsvp_objects.specs.declared.label_set.LabelSetObject.{LabelSetObject}
 
@@ -46,12 +46,20 @@ or_zero (l ∷ ls) = l ∷ ls
 abbrev pub labels_bytes : List ℕ → List ℕ
 labels_bytes ls = flat_map (big_bytes 4) ls
 
+-- the numbers whose bits are set: the lowest of 64 bits stands for the first
+abbrev pub marked : ℕ → ℕ → List ℕ
+marked first bits = filter (λ l. is_marked bits (l - first)) (numbers_from first 64)
+
 -- these labels behind the eight bytes of fields, up to this end, and zeros to the end of the room
 abbrev pub laid : List ℕ → ℕ → List ℕ
 laid ls end = replicate 8 0 ++ labels_bytes ls ++ replicate (328 - end) 0
 
 abbrev pub action_of : Bool → ℕ
 action_of include = if include then 0 else 1
+
+-- these labels in place of the zeros from the start on, up to this end
+abbrev pub laid_from : ℕ → List ℕ → List ℕ → ℕ → List ℕ
+laid_from start bytes ls end = take start bytes ++ labels_bytes ls ++ replicate (length bytes - end) 0
 
 -- label type 2 is the generalized label
 abbrev pub label_set_bytes : LabelSetObject → List ℕ

@@ -1,15 +1,16 @@
 //! LABEL_SET (RFC 3473, section 2.6; RFC 3471, section 3.5).
 
-ghost use Rattle.std.specs.Prelude.{◌≡◌, ◌≤◌, ◌+◌, ◌*◌, ◌++◌, [], ◌∷◌, ℕ, List, length, take, replicate, SomeIff};
-ghost use Rattle.ason_base.specs.Labels.{has};
+ghost use Rattle.std.specs.Prelude.{◌≡◌, ◌≤◌, ◌+◌, ◌-◌, ◌*◌, ◌++◌, [], length, take, drop, replicate, SomeIff};
+ghost use Rattle.ason_base.specs.Labels.{with_label};
 ghost use Rattle.wire_buf.specs.Codecs.{Appends, Reads};
 ghost use Rattle.wire_buf.specs.Objects.{numbers, object};
 ghost use Rattle.rsvp_objects.specs.declared.label_set.LabelSetObject.{LabelSetObject};
 ghost use Rattle.rsvp_objects.specs.LabelSets.{HasLabels, IsLabelSet, action_of, among, between, is_between};
-ghost use Rattle.rsvp_objects.specs.LabelSets.{label_set_bytes, laid, listed, ranged};
+ghost use Rattle.rsvp_objects.specs.LabelSets.{label_set_bytes, laid, laid_from, listed, marked, ranged};
 
-use ason_base::{Label, LabelSet, OutOfMemory};
+use ason_base::{LabelSet, OutOfMemory};
 use byteorder::{BigEndian, ByteOrder};
+use std::marker::Model;
 use wire_buf::Cursor;
 
 /// The label type of a generalized label.
@@ -18,6 +19,12 @@ const GENERALIZED: u8 = 2;
 // The most bytes that the object takes: eight of fields, and four for each of 80 labels.
 const MOST_BYTES: usize = 328;
 
+// The bits of the labels 1 to 63.
+const LOW_LABELS: u128 = 0xFFFF_FFFF_FFFF_FFFE;
+
+// The bits of the labels 64 to 80, shifted by 64.
+const HIGH_LABELS: u128 = 0x1_FFFF;
+
 /// The labels that a Path includes or excludes.
 #[derive(Drop)]
 pub struct LabelSetObject {
@@ -25,16 +32,46 @@ pub struct LabelSetObject {
     pub labels: LabelSet,
 }
 
-// The set, and the label of this number, if it is one.
-fn with_number(set: LabelSet, n: u32) -> LabelSet
-    ensures { (front : List ℕ) → set ≡ among front → result ≡ among (front ++ n ∷ []) }
-{
-    if n > 80 {
-        return set;
+// A bit for each number below 128: for those below 64, and for the others.
+#[derive(Drop)]
+struct Marks {
+    low: u64,
+    high: u64,
+}
+
+impl Model for Marks {
+    ghost use Rattle.std.specs.Prelude.{List, ℕ, ◌+◌, ◌*◌, ◌^◌, ◌<◌};
+    ghost use Rattle.ason_base.specs.Labels.{members};
+
+    ghost Value = { List ℕ };
+
+    ghost view = { λ m. members (m.high * 2 ^ 64 + m.low) };
+
+    ghost invariant = { λ m. m.low < 2 ^ 64 };
+}
+
+impl Marks {
+    fn none() -> Marks
+        ensures { result ≡ [] }
+    {
+        Marks { low: 0, high: 0 }
     }
-    match Label::new(n as u8) {
-        Some(label) => set.with(label),
-        None => set,
+
+    fn mark(&mut self, n: u32)
+        ensures { self.new ≡ with_label self.old n }
+    {
+        if n < 64 {
+            self.low |= 1 << n;
+        } else if n < 128 {
+            self.high |= 1 << (n - 64);
+        }
+    }
+
+    // The labels that are marked.
+    fn set(&self) -> LabelSet
+        ensures { result ≡ self.now }
+    {
+        LabelSet::from_bits((u128::from(self.high) << 64) + u128::from(self.low))
     }
 }
 
@@ -42,23 +79,23 @@ fn labels_among(labels: &[u8]) -> LabelSet
     ensures { result ≡ among (numbers labels.now) }
 {
     let mut cursor = Cursor::new(labels);
-    let mut set = LabelSet::upto(0);
+    let mut marks = Marks::none();
     'labels: while let Some(n) = cursor.u32() {
-        set = with_number(set, n);
+        marks.mark(n);
     }
-    set
+    marks.set()
 }
 
 fn labels_between(low: u32, high: u32) -> LabelSet
     ensures { result ≡ between low high }
 {
-    let mut set = LabelSet::upto(0);
+    let mut marks = Marks::none();
     'labels: for n in 1..81u32 {
         if is_inside(low, high, n) {
-            set = with_number(set, n);
+            marks.mark(n);
         }
     }
-    set
+    marks.set()
 }
 
 fn is_inside(low: u32, high: u32, n: u32) -> bool
@@ -106,23 +143,37 @@ pub fn read_label_set(body: &[u8]) -> Option<LabelSetObject>
     }
 }
 
+// Writes a label for each bit of the half over zeros, each in four bytes, and tells where they end. The half's lowest
+// bit stands for the first number.
+fn lay_half(bytes: &mut [u8], start: usize, half: u64, first: u8) -> usize
+    requires small { first ≤ 64 }
+    requires room { start + 4 * length (marked first half) ≤ length bytes.old }
+    requires zeros { drop start bytes.old ≡ replicate (length bytes.old - start) 0 }
+    ensures end { result ≡ start + 4 * length (marked first half) }
+    ensures laid { bytes.new ≡ laid_from start bytes.old (marked first half) result }
+{
+    let mut at = start;
+    let mut left = half;
+    'labels: while left != 0 {
+        let n = left.trailing_zeros();
+        bytes[at + 3] = first + n as u8;
+        at += 4;
+        left &= !(1 << n);
+    }
+    at
+}
+
 // Writes the labels over zeros behind the first eight bytes, each in four, and tells where they end.
 fn lay_labels(bytes: &mut [u8], set: &LabelSet) -> usize
     requires { bytes.old ≡ replicate 328 0 }
     ensures end { result ≡ 8 + 4 * length (among set.now) }
     ensures laid { bytes.new ≡ laid (among set.now) result }
 {
-    let mut at = 8;
     let all = set.bits();
-    let mut bits = all >> 1;
-    'labels: for n in 1..81u8 {
-        if bits & 1 == 1 {
-            bytes[at + 3] = n;
-            at += 4;
-        }
-        bits >>= 1;
-    }
-    at
+    let low = (all & LOW_LABELS) as u64;
+    let high = ((all >> 64) & HIGH_LABELS) as u64;
+    let middle = lay_half(bytes, 8, low, 0);
+    lay_half(bytes, middle, high, 64)
 }
 
 fn action(include: bool) -> u8

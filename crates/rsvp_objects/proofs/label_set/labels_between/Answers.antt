@@ -4,16 +4,16 @@ use Rattle.rsvp_objects.proofs.label_set.labels_between.Goals as goal
 use Rattle.rsvp_objects.proofs.label_set.labels_between.Goals.{then-is_inside, else-is_inside}
 
 pub labels-init : goal.labels-init
-labels-init c = range_begins c.args.low c.args.high _ c.upto-set.ensures
+labels-init c = range_begins c.args.low c.args.high _ c.none-marks.ensures
 
 pub labels-preserved : goal.labels-preserved
 labels-preserved c =
     elim c.if-is_inside.branch [
-      | then-is_inside w ↦ w.set-is ∙ range_takes c.args.low c.args.high c.labels.n _ _ c.labels.invariant
-          (sym c.is_inside.ensures ∙ w.if-is_inside.true) w.with_number-set.ensures
-      | else-is_inside w ↦ w.set-is ∙ range_skips c.args.low c.args.high c.labels.n _ c.labels.invariant
+      | then-is_inside w ↦ w.marks-is ∙ range_takes c.args.low c.args.high c.labels.n _ _ c.labels.invariant
+          (sym c.is_inside.ensures ∙ w.if-is_inside.true) w.mark.ensures
+      | else-is_inside w ↦ w.marks-is ∙ range_skips c.args.low c.args.high c.labels.n _ c.labels.invariant
           (sym c.is_inside.ensures ∙ w.if-is_inside.false)
     ]
 
 pub returns : goal.returns
-returns c = range_ends c.args.low c.args.high c.labels.n _ c.labels-test.false c.labels.invariant
+returns c = c.set.ensures ∙ range_ends c.args.low c.args.high c.labels.n _ c.labels-test.false c.labels.invariant

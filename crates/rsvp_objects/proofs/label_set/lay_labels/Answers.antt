@@ -1,54 +1,28 @@
-use Rattle.std.proofs.Common.{ℕ, ◌==◌, ap, refl, sym, ◌∙◌, ◌∷◌, [], length, length-append, arith}
-use Rattle.rsvp_objects.proofs.Labels.{differ}
-use Rattle.rsvp_objects.proofs.LabelsBelow.{below_with, below_without, bit_tells, labels_below, next_bits, none_below}
-use Rattle.rsvp_objects.proofs.LabelsBelow.{laid_begin, laid_skip, laid_take, room_below}
+use Rattle.std.proofs.Common.{◌≡◌, ap, arith, length}
+use Rattle.rsvp_objects.proofs.LabelObjects.{among_few}
+use Rattle.rsvp_objects.proofs.LaidLabels.{laid_twice}
+use Rattle.rsvp_objects.proofs.MarkedLabels.{halves_of, halves-length}
 use Rattle.rsvp_objects.proofs.label_set.lay_labels.Goals as goal
-use Rattle.rsvp_objects.proofs.label_set.lay_labels.Goals.{then-bits-eq1, else-bits-eq1}
 
-pub labels-init : goal.labels-init
-labels-init c =
-    record {
-      end = omega (arith, ap length (none_below c.args.set.now));
-      laid = laid_begin c.args.set.now c.args.bytes.now c.requires;
-      bits = refl;
-    }
+pub lay_half-middle-requires-clause-room : goal.lay_half-middle-requires-clause-room
+lay_half-middle-requires-clause-room c =
+    let few = among_few c.args.set.now in
+    omega (arith, few, halves-length _ _ c.bits-all.ensures, ap length c.requires)
 
-pub bounds-bytes-at : goal.bounds-bytes-at
-bounds-bytes-at c =
-    let l = c.labels in
-    let room = room_below c.args.set.now l.bytes l.n l.at (omega arith) l.invariant.end l.invariant.laid in
-    omega (arith, room.0, room.1)
+pub lay_half-requires-clause-room : goal.lay_half-requires-clause-room
+lay_half-requires-clause-room c =
+    let few = among_few c.args.set.now in
+    let both = halves-length _ _ c.bits-all.ensures in
+    let middle = c.lay_half-middle in
+    omega (arith, few, both, middle.ensures.end, middle.auto.bytes, ap length c.requires)
 
-pub overflow_add-at : goal.overflow_add-at
-overflow_add-at c =
-    let l = c.labels in
-    let room = room_below c.args.set.now l.bytes l.n l.at (omega arith) l.invariant.end l.invariant.laid in
-    omega (arith, room.0)
+pub returns-clause-end : goal.returns-clause-end
+returns-clause-end c =
+    omega (arith, halves-length _ _ c.bits-all.ensures, c.lay_half-middle.ensures.end, c.lay_half.ensures.end)
 
-pub labels-preserved : goal.labels-preserved
-labels-preserved c =
-    let s = c.args.set.now in
-    let l = c.labels in
-    let tells = bit_tells s c.bits-all.result l.bits l.n c.bits-all.ensures l.invariant.bits l.auto.n (omega arith) in
-    elim c.if-bits-eq1.branch [
-      | then-bits-eq1 w ↦
-          let some = tells ∙ ap (λ (b : ℕ). b == 1) w.if-bits-eq1.true in
-          rw (w.bytes-is, w.at-is) (record {
-            end =
-                omega (
-                  arith,
-                  l.invariant.end,
-                  ap length (below_with s l.n l.auto.n some),
-                  length-append (labels_below s l.n) (l.n ∷ []),
-                );
-            laid = laid_take s l.bytes l.n l.at l.auto.n (omega arith) some l.invariant.end l.invariant.laid;
-            bits = next_bits c.bits-all.result l.bits l.n l.invariant.bits;
-          })
-      | else-bits-eq1 w ↦
-          let none = tells ∙ differ _ _ w.if-bits-eq1.false in
-          rw (w.bytes-is, w.at-is) (record {
-            end = omega (arith, l.invariant.end, ap length (below_without s l.n l.auto.n none));
-            laid = laid_skip s l.bytes l.n l.at l.auto.n none l.invariant.laid;
-            bits = next_bits c.bits-all.result l.bits l.n l.invariant.bits;
-          })
-    ]
+pub returns-clause-laid : goal.returns-clause-laid
+returns-clause-laid c =
+    let middle = c.lay_half-middle in
+    let size : length middle.new.bytes ≡ 328 = omega (arith, middle.auto.bytes, ap length c.requires) in
+    laid_twice _ _ _ _ _ _ _ _ c.requires middle.ensures.end size middle.ensures.laid c.lay_half.ensures.laid
+    (halves_of _ _ c.bits-all.ensures)

@@ -1,12 +1,12 @@
 use Rattle.std.proofs.Common.{arith}
-use Rattle.rsvp_objects.proofs.LabelsBelow.{below_few, object_laid}
+use Rattle.rsvp_objects.proofs.LabelObjects.{among_few, object_laid}
 use Rattle.rsvp_objects.proofs.label_set.lay_object.Goals as goal
 
 pub overflow_cast-len : goal.overflow_cast-len
-overflow_cast-len c = omega (arith, below_few c.args.x.now.labels 81, c.lay_labels.ensures.end, c.max-len.ensures)
+overflow_cast-len c = omega (arith, among_few c.args.x.now.labels, c.lay_labels.ensures.end, c.max-len.ensures)
 
 pub returns-clause-few : goal.returns-clause-few
-returns-clause-few c = omega (arith, below_few c.args.x.now.labels 81, c.lay_labels.ensures.end, c.max-len.ensures)
+returns-clause-few c = omega (arith, among_few c.args.x.now.labels, c.lay_labels.ensures.end, c.max-len.ensures)
 
 pub returns-clause-laid : goal.returns-clause-laid
 returns-clause-laid c =
