@@ -1,4 +1,5 @@
 pub mod Again
+pub mod AllLabels
 pub mod LabelObjects
 pub mod Labels
 pub mod LaidLabels
