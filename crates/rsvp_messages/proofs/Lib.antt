@@ -5,6 +5,7 @@ pub mod Subjects
 pub mod Eaches
 pub mod Sets
 pub mod Paths
+pub mod Heads
 pub mod Joining
 pub mod Lengths
 pub mod Moves

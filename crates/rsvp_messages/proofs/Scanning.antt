@@ -1,12 +1,17 @@
 -- Reading objects one after the other.
 use Rattle.std.proofs.Common.{◌≡◌, ℕ, ◌<◌, ◌≤◌, List, [], ◌∷◌, ◌++◌, length, take, drop, ap, sym, subst, ◌∙◌, arith}
-use Rattle.std.proofs.Common.{length-append, length-drop, All, ◌^◌, ◌+◌, ◌*◌}
+use Rattle.std.proofs.Common.{length-append, length-drop, All, ◌^◌, ◌+◌, ◌*◌, Option, Some, None}
+use Rattle.std.specs.Prelude.{IfSome}
 use Rattle.std.proofs.lemmas.List.{map-append}
 use Rattle.std.proofs.lemmas.List.Elements.{All-from_recursion, All-weaker}
 use Rattle.wire_buf.proofs.Sequences.{BeginsOnce, ReadItems, all_within}
 use Rattle.wire_buf.proofs.Sequences as items
 use Rattle.rsvp_messages.specs.declared.raw.RawObject.{RawObject}
 use Rattle.rsvp_messages.specs.Objects.{AreObjects, BeginsWith, Object, size_of}
+use Rattle.ason_base.specs.declared.messages.Packet.{Packet}
+use Rattle.rsvp_messages.specs.Headers.{HasHeader}
+use Rattle.ason_base.specs.declared.messages.MsgId.{MsgId}
+use Rattle.rsvp_messages.specs.Packets.{Spells, SpellsPacket, SpellsTypedPacket, ack_alone}
 use Rattle.rsvp_messages.specs.Seen.{all_seen, seen}
 
 pub objects_once : BeginsOnce BeginsWith size_of
@@ -53,3 +58,20 @@ pub all_short : (bytes rest : List ℕ) (raws : List RawObject) → length bytes
 all_short bytes rest raws small e all =
     All-weaker (λ (o : RawObject). size_of (seen o) ≤ length rest) (λ (o : RawObject). size_of (seen o) < 2 ^ 16)
     (λ o h. omega (arith, ap length e, length-drop 8 bytes)) raws all
+
+-- What bytes with this header and these objects spell is spelled by just these objects.
+pub spelled_by_these : (bytes : List ℕ) (os : List Object) (kind : ℕ) (p : Packet) → HasHeader bytes kind →
+    AreObjects (drop 8 bytes) os → Spells bytes p → SpellsTypedPacket kind os p
+spelled_by_these bytes os kind p header are (others, by) = (
+  sym by.header.type_is ∙ header.type_is,
+  subst (λ l. SpellsPacket l p) (items.same_items objects_once _ _ _ by.objects are) by.packet,
+)
+
+-- What an acknowledgement alone is read as is all that the bytes spell.
+pub alone_only : (bytes : List ℕ) (o : Object) (found : Option MsgId) → HasHeader bytes 13 →
+    AreObjects (drop 8 bytes) (o ∷ []) →
+    IfSome found (λ id. (p : Packet) → SpellsTypedPacket 13 (o ∷ []) p → ack_alone id ≡ p) →
+    IfSome found (λ id. (p : Packet) → Spells bytes p → ack_alone id ≡ p)
+alone_only bytes o None header are only = only
+alone_only bytes o (Some id) header are only =
+    λ p spells. only p (spelled_by_these bytes (o ∷ []) 13 p header are spells)

@@ -1,11 +1,13 @@
 -- What the bytes of a whole message spell.
-use Rattle.std.specs.Prelude.{◌≡◌, ◌≤◌, ℕ, List, length, drop, Option, None, Some}
+use Rattle.std.specs.Prelude.{◌≡◌, ◌≤◌, ℕ, List, [], ◌∷◌, length, drop, Option, None, Some}
 use Rattle.std.specs.List.Sorted.{IsPermutation}
 use Rattle.ason_base.specs.declared.messages.Msg.{Msg}
 use Rattle.ason_base.specs.declared.messages.Msg.TheVariants.{Path, Resv, PathTear, PathErr, Notify}
 use Rattle.ason_base.specs.declared.messages.MsgId.{MsgId}
 use Rattle.ason_base.specs.declared.messages.Packet.{Packet}
 use Rattle.rsvp_objects.specs.Bodies.{IsMsgId}
+use Rattle.rsvp_messages.specs.declared.reading.ReadPacket.{ReadPacket}
+use Rattle.rsvp_messages.specs.declared.reading.ReadPacket.TheVariants.{Ack, Whole}
 use Rattle.rsvp_messages.specs.Headers.{HasHeader}
 use Rattle.rsvp_messages.specs.Messages.{SpellsMsg}
 use Rattle.rsvp_messages.specs.Objects.{AreObjects, Object, of_class}
@@ -40,6 +42,15 @@ SpellsTyped kind os m = (type_of (Some m) ≡ kind) × SpellsMsg os m
 
 abbrev pub SpellsTypedPacket : ℕ → List Object → Packet → Type 0
 SpellsTypedPacket kind os p = (type_of p.body ≡ kind) × SpellsPacket os p
+
+-- the acknowledgement of this number alone
+abbrev pub ack_alone : MsgId → Packet
+ack_alone id = record { id = None; acks = id ∷ []; body = None }
+
+-- a packet as it is read
+abbrev pub packet_read : ReadPacket → Packet
+packet_read (Ack id) = ack_alone id
+packet_read (Whole p) = p
 
 -- a header, and objects to the end that spell the packet
 pub record SpelledBy (bytes : List ℕ) (os : List Object) (p : Packet) : Type 0 where

@@ -1,11 +1,12 @@
 //! Numbers of messages and their acknowledgements (RFC 2961, sections 4.2 and 4.3).
 
-ghost use Rattle.std.specs.Prelude.{◌≡◌, ◌++◌, map, All, IfSome, OnOk};
+ghost use Rattle.std.specs.Prelude.{◌≡◌, ◌++◌, [], ◌∷◌, map, All, IfSome, OnOk};
+ghost use Rattle.ason_base.specs.declared.messages.Packet.{Packet};
 ghost use Rattle.wire_buf.specs.Codecs.{Decodes, Reads};
 ghost use Rattle.rsvp_objects.specs.Bodies.{IsMsgId};
-ghost use Rattle.rsvp_messages.specs.Packets.{HasAcks};
+ghost use Rattle.rsvp_messages.specs.Packets.{HasAcks, SpellsTypedPacket, ack_alone};
 ghost use Rattle.rsvp_messages.specs.Parts.{HasAtMostOne, HasEach};
-ghost use Rattle.rsvp_messages.specs.Seen.{all_seen};
+ghost use Rattle.rsvp_messages.specs.Seen.{all_seen, seen};
 ghost use Rattle.rsvp_messages.specs.Writable.{IsShort};
 ghost use Rattle.rsvp_messages.specs.Written.{ack_object, all_bytes, id_objects};
 
@@ -40,6 +41,20 @@ fn all_acks(alloc: Global, objects: &[RawObject]) -> Result<Ids, DecodeError>
     let mut acks = Ids::new(alloc);
     push_each!(acks, objects, MESSAGE_ID_ACK, NUMBER, read_ack);
     Ok(acks)
+}
+
+/// The number that an Ack with this object alone acknowledges. Where there is none, the object may have another meaning.
+pub(crate) fn lone_ack(object: &RawObject) -> Option<MsgId>
+    ensures found { IfSome result
+        (λ id. SpellsTypedPacket 13 (seen object.now ∷ []) (ack_alone id)) }
+    ensures only { IfSome result
+        (λ id. (p : Packet) → SpellsTypedPacket 13 (seen object.now ∷ []) p → ack_alone id ≡ p) }
+{
+    if object.class == MESSAGE_ID_ACK && object.ctype == NUMBER {
+        read_ack(object.body)
+    } else {
+        None
+    }
 }
 
 /// The acknowledgements. NotMessage exactly where the MESSAGE_ID_ACKs spell none, as where there are too many.

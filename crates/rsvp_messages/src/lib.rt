@@ -55,7 +55,7 @@ pub mod writing;
 
 pub use lines::{Fate, ObjectLine, objects};
 pub use packet_ref::PacketRef;
-pub use reading::decode;
+pub use reading::{ReadPacket, decode, read};
 pub use room::{room_for, room_for_ref};
 pub use writable::is_writable;
 pub use writing::{encode, encode_into, encode_ref_into};

@@ -1,11 +1,13 @@
 //! Objects one after the other (RFC 2205, section 3.1.2).
 
-ghost use Rattle.std.specs.Prelude.{◌≡◌, ◌≤◌, ◌*◌, List, length, drop, All, IfOk, IfSome, IsErrOf, IsSome};
+ghost use Rattle.std.specs.Prelude.{◌≡◌, ◌≤◌, ◌*◌, List, [], ◌∷◌, length, drop, All, IfOk, IfSome, IsErrOf, IsSome};
+ghost use Rattle.wire_buf.specs.Objects.{number_at};
 ghost use Rattle.rsvp_messages.specs.Objects.{AreObjects, BeginsWith, Object, is_among, may_stand, size_of};
 ghost use Rattle.rsvp_messages.specs.Seen.{all_seen, seen};
 
 use crate::classes::is_known;
 use ason_base::DecodeError;
+use byteorder::{BigEndian, ByteOrder};
 use std::alloc::Global;
 use wire_buf::Cursor;
 
@@ -32,20 +34,57 @@ fn may_stand(class: u8) -> bool
     class >= 128 || is_known(class)
 }
 
+// An object's length, with these four bytes, its class and its C-Type.
+#[derive(Clone, Copy, Drop)]
+struct Head {
+    len: u16,
+    class: u8,
+    ctype: u8,
+}
+
+// The header at the front. None exactly where four bytes aren't there.
+fn next_head(cursor: &mut Cursor<'_>) -> Option<Head>
+    ensures len { IfSome result (λ h. h.len ≡ number_at 0 2 cursor.old) }
+    ensures class { IfSome result (λ h. h.class ≡ number_at 2 1 cursor.old) }
+    ensures ctype { IfSome result (λ h. h.ctype ≡ number_at 3 1 cursor.old) }
+    ensures there { IfSome result (λ h. 4 ≤ length cursor.old) }
+    ensures left { IfSome result (λ h. cursor.new ≡ drop 4 cursor.old) }
+    ensures only { 4 ≤ length cursor.old → IsSome result }
+{
+    let bytes = cursor.take(4)?;
+    Some(Head {
+        len: BigEndian::read_u16(bytes),
+        class: bytes[2],
+        ctype: bytes[3],
+    })
+}
+
 // The object at the front. None exactly where there is none; then the cursor may be anywhere.
 fn next_object<'a>(cursor: &mut Cursor<'a>) -> Option<RawObject<'a>>
     ensures found { IfSome result (λ o. BeginsWith cursor.old (seen o)
         × (cursor.new ≡ drop (size_of (seen o)) cursor.old)) }
     ensures only { (o : Object) → BeginsWith cursor.old o → IsSome result }
 {
-    let len = usize::from(cursor.u16()?);
-    let class = cursor.u8()?;
-    let ctype = cursor.u8()?;
+    let Head { len, class, ctype } = next_head(cursor)?;
+    let len = usize::from(len);
     if len < 4 || len % 4 != 0 || !may_stand(class) {
         return None;
     }
     let body = cursor.take(len - 4)?;
     Some(RawObject { class, ctype, body })
+}
+
+/// The object that the bytes are to their end. Where there is none, they may be several.
+pub(crate) fn only_object(bytes: &[u8]) -> Option<RawObject<'_>>
+    ensures { IfSome result (λ o. AreObjects bytes.now (seen o ∷ [])) }
+{
+    let mut cursor = Cursor::new(bytes);
+    let object = next_object(&mut cursor)?;
+    if cursor.is_empty() {
+        Some(object)
+    } else {
+        None
+    }
 }
 
 /// The objects that the bytes are. NotMessage exactly where they aren't objects to their end.

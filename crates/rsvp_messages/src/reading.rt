@@ -1,22 +1,23 @@
 //! Reading whole messages: header, numbers and what the objects spell.
 
-ghost use Rattle.std.specs.Prelude.{◌≡◌, ◌≢◌, ◌<◌, ◌^◌, length, List, Some, All, IfOk, IsErrOf};
+ghost use Rattle.std.specs.Prelude.{◌≡◌, ◌≢◌, ◌<◌, ◌≤◌, ◌^◌, length, drop, List, [], ◌∷◌, Some, All, IfOk, IfSome, IsErrOf};
 ghost use Rattle.ason_base.specs.declared.messages.Packet.{Packet};
 ghost use Rattle.wire_buf.specs.Codecs.{Decodes, Reads};
-ghost use Rattle.rsvp_messages.specs.Objects.{Object, size_of};
-ghost use Rattle.rsvp_messages.specs.Packets.{SpelledBy, Spells, SpellsPacket, SpellsTyped, SpellsTypedPacket};
+ghost use Rattle.rsvp_messages.specs.Headers.{HasHeader};
+ghost use Rattle.rsvp_messages.specs.Objects.{AreObjects, Object, size_of};
+ghost use Rattle.rsvp_messages.specs.Packets.{SpelledBy, Spells, SpellsTyped, SpellsTypedPacket, ack_alone, packet_read};
 ghost use Rattle.rsvp_messages.specs.Seen.{all_seen, seen};
 
 use crate::errors::{read_notify, read_path_err};
 use crate::header::{HEADER, read_header};
-use crate::ids::{acks, message_id};
+use crate::ids::{acks, lone_ack, message_id};
 use crate::kinds::{ACK, NOTIFY, PATH, PATH_ERR, PATH_TEAR, RESV};
 use crate::object_table::Objects;
 use crate::path::read_path;
-use crate::raw::{RawObject, read_objects};
+use crate::raw::{RawObject, only_object, read_objects};
 use crate::resv::read_resv;
 use crate::tear::read_tear;
-use ason_base::{DecodeError, Msg, Packet};
+use ason_base::{DecodeError, Ids, Msg, MsgId, Packet};
 use std::alloc::Global;
 
 // The message of another type than Path that the objects spell.
@@ -94,6 +95,23 @@ pub(crate) struct Spelled<'a> {
     pub packet: Packet,
 }
 
+// The objects of the message with this header that the bytes spell, and its packet.
+fn read_behind<'a>(alloc: Global, kind: u8, bytes: &'a [u8]) -> Result<Spelled<'a>, DecodeError>
+    requires header { HasHeader bytes.now kind }
+    requires short { length bytes.now < 2 ^ 16 }
+    ensures found { IfOk result (λ s. SpelledBy bytes.now (all_seen s.objects.items) s.packet) }
+    ensures short { IfOk result (λ s. All (λ o. size_of (seen o) < 2 ^ 16) s.objects.items) }
+    ensures only { (os : List Object) (p : Packet) → SpelledBy bytes.now os p
+        → IfOk result (λ s. (all_seen s.objects.items ≡ os) × (s.packet ≡ p)) }
+    ensures not_message { IsErrOf result DecodeError.NotMessage → (os : List Object) (p : Packet)
+        → ¬ SpelledBy bytes.now os p }
+{
+    let (_, rest) = bytes.split_at(HEADER);
+    let objects = read_objects(alloc, rest)?;
+    let packet = read_packet(alloc, kind, &objects)?;
+    Ok(Spelled { objects, packet })
+}
+
 /// The objects of the message that the bytes spell, and its packet. NotMessage exactly where they spell none.
 pub(crate) fn read_message<'a>(alloc: Global, bytes: &'a [u8]) -> Result<Spelled<'a>, DecodeError>
     ensures found { IfOk result (λ s. SpelledBy bytes.now (all_seen s.objects.items) s.packet) }
@@ -106,10 +124,73 @@ pub(crate) fn read_message<'a>(alloc: Global, bytes: &'a [u8]) -> Result<Spelled
     let Some(kind) = read_header(bytes) else {
         return Err(DecodeError::NotMessage);
     };
+    read_behind(alloc, kind, bytes)
+}
+
+// The object of an Ack that has no other. Where there is none, the message may be another.
+fn lone_object(kind: u8, bytes: &[u8]) -> Option<RawObject<'_>>
+    requires { 8 ≤ length bytes.now }
+    ensures kind { IfSome result (λ _. kind ≡ 13) }
+    ensures found { IfSome result (λ o. AreObjects (drop 8 bytes.now) (seen o ∷ [])) }
+{
+    if kind != ACK {
+        return None;
+    }
     let (_, rest) = bytes.split_at(HEADER);
-    let objects = read_objects(alloc, rest)?;
-    let packet = read_packet(alloc, kind, &objects)?;
-    Ok(Spelled { objects, packet })
+    only_object(rest)
+}
+
+// The number of such an Ack. Where there is none, the message may be another.
+fn one_ack(kind: u8, bytes: &[u8]) -> Option<MsgId>
+    requires { HasHeader bytes.now kind }
+    ensures found { IfSome result (λ id. Spells bytes.now (ack_alone id)) }
+    ensures only { IfSome result (λ id. (p : Packet) → Spells bytes.now p → ack_alone id ≡ p) }
+{
+    let object = lone_object(kind, bytes)?;
+    lone_ack(&object)
+}
+
+/// A packet as it is read. An acknowledgement that stands alone needs no list.
+#[derive(Drop)]
+pub enum ReadPacket {
+    /// The acknowledgement of this number alone.
+    Ack(MsgId),
+    /// A packet of any kind.
+    Whole(Packet),
+}
+
+/// The packet that the bytes spell, as `decode` reads it, but for the list of an acknowledgement that stands alone, as
+/// most do. NotMessage exactly where they spell none.
+pub fn read(alloc: Global, bytes: &[u8]) -> Result<ReadPacket, DecodeError>
+    // What is read is spelled so.
+    ensures found { IfOk result (λ read. Spells bytes.now (packet_read read)) }
+    // What is spelled so is read, unless memory runs out.
+    ensures only { (p : Packet) → Spells bytes.now p → IfOk result (λ read. packet_read read ≡ p) }
+    ensures not_message { IsErrOf result DecodeError.NotMessage → (p : Packet)
+        → ¬ Spells bytes.now p }
+{
+    let Some(kind) = read_header(bytes) else {
+        return Err(DecodeError::NotMessage);
+    };
+    if let Some(id) = one_ack(kind, bytes) {
+        return Ok(ReadPacket::Ack(id));
+    }
+    let spelled = read_behind(alloc, kind, bytes)?;
+    Ok(ReadPacket::Whole(spelled.packet))
+}
+
+// The acknowledgement of this number alone, with a list.
+fn listed_ack(alloc: Global, id: MsgId) -> Result<Packet, DecodeError>
+    ensures found { IfOk result (λ p. p ≡ ack_alone id) }
+    ensures refused { IsErrOf result DecodeError.NotMessage → ⊥ }
+{
+    let mut acks = Ids::new(alloc);
+    push_decoded!(acks, id);
+    Ok(Packet {
+        id: None,
+        acks,
+        body: None,
+    })
 }
 
 /// The packet that the bytes spell. NotMessage exactly where they spell none.
@@ -121,6 +202,9 @@ pub fn decode(alloc: Global, bytes: &[u8]) -> Result<Packet, DecodeError>
     ensures not_message { IsErrOf result DecodeError.NotMessage → (p : Packet)
         → ¬ Spells bytes.now p }
 {
-    let spelled = read_message(alloc, bytes)?;
-    Ok(spelled.packet)
+    match read(alloc, bytes) {
+        Ok(ReadPacket::Ack(id)) => listed_ack(alloc, id),
+        Ok(ReadPacket::Whole(packet)) => Ok(packet),
+        Err(fault) => Err(fault),
+    }
 }
