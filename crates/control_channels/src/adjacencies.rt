@@ -278,8 +278,7 @@ fn frame_again(
         (frames.new.items ≡ frames.old.items ++ frames_to me (again_to adjacency.now)) }
     ensures spelled { OnOk result (AllSpelled me (again_to adjacency.now)) }
 {
-    let all = adjacency.hop.waiting();
-    for waiting in all {
+    for waiting in adjacency.hop.waiting() {
         if waiting.goes_next() {
             frame_waiting(maker, me, adjacency.peer, waiting, frames)?;
         }

@@ -1,5 +1,5 @@
 -- The loop that ages each message in its place.
-use Rattle.std.proofs.Common.{◌≡◌, ℕ, ◌+◌, ◌<◌, ◌==◌, zero, suc, true, List, [], ◌∷◌, ◌++◌, length, get_or, set, take, drop, map, refl, ap, sym, arith, add-one}
+use Rattle.std.proofs.Common.{◌≡◌, ℕ, ◌+◌, ◌<◌, ◌==◌, zero, suc, true, List, [], ◌∷◌, ◌++◌, length, get_or, set, take, drop, map, refl, ap, sym, ◌∙◌, arith, add-one}
 use Rattle.ason_base.specs.declared.messages.MsgId.{MsgId}
 use Rattle.hop_reliable.specs.declared.unacked.Unacked.{Unacked}
 use Rattle.hop_reliable.specs.Ages.{older_age}
@@ -20,10 +20,11 @@ set-aged (w ∷ ws) zero d h = refl
 set-aged (w ∷ ws) (suc i) d h = ap (λ zs. older w ∷ zs) (set-aged ws i d (omega arith))
 
 pub aged_more : (ws now : List Unacked) (i age : ℕ) (w : Unacked) → i < length ws → now ≡ aged i ws →
-    age ≡ older_age (get_or now i w).age →
-    set now i (record { number = (get_or now i w).number; age = age; msg = (get_or now i w).msg }) ≡ aged (i + 1) ws
-aged_more ws now i age w h same older_is =
-    rw (older_is, same, get_or-aged ws i w h, add-one i) (set-aged ws i w h)
+    w ≡ get_or now i w → age ≡ older_age w.age →
+    set now i (record { number = w.number; age = age; msg = w.msg }) ≡ aged (i + 1) ws
+aged_more ws now i age w h same w_is age_is =
+    let is : w ≡ get_or ws i w = w_is ∙ ap (λ vs. get_or vs i w) same ∙ get_or-aged ws i w h in
+    rw (age_is, same, add-one i) (ap (λ v. set (aged i ws) i (older v)) is ∙ set-aged ws i w h)
 
 pub still_unacked-nil : (ws : List Unacked) → still_unacked [] ws ≡ ws
 still_unacked-nil [] = refl

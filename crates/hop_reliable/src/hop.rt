@@ -1,12 +1,15 @@
 //! One end of a hop.
 
 ghost use Rattle.std.specs.Prelude.{◌≡◌, ◌+◌, ◌-◌, ◌<◌, ◌≤◌, ◌^◌, IfOk, OnErr, OnOk, length};
+ghost use Rattle.std.specs.VecDeque.Iter.{deque_iter_rest};
 ghost use Rattle.hop_reliable.specs.Hop.{all_sent, fresh, heard_as, last_number, numbered, received, resent, resting, taken, ticked, with_next};
 
 use crate::heard::{Heard, heard_as};
-use crate::unacked::{Unacked, age_all, due_after_tick, in_epoch, numbered, take_off};
-use ason_base::{Copied, Msg, MsgId, OutOfMemory, Packet, copy_all};
+use crate::unacked::{Unacked, age_all, copies, due_after_tick, in_epoch, numbered, take_off};
+use ason_base::{Copied, Msg, MsgId, OutOfMemory, Packet};
 use std::alloc::Global;
+use std::collections::VecDeque;
+use std::collections::vec_deque::Iter;
 use std::marker::Model;
 
 /// One end of a hop to a neighbour: the last number sent, the last handed up, and the messages that the neighbour
@@ -15,13 +18,13 @@ use std::marker::Model;
 pub struct Hop {
     sent: u32,
     handed_up: u32,
-    unacked: Vec<Unacked>,
+    unacked: VecDeque<Unacked>,
     // Numbered from `sent` + 1. There is room for them behind `unacked`.
-    prepared: Vec<Unacked>,
+    prepared: VecDeque<Unacked>,
 }
 
 impl Model for Hop {
-    ghost use Rattle.std.specs.Prelude.{vec_capacity, vec_len};
+    ghost use Rattle.std.specs.VecDeque.{deque_capacity, deque_len};
     ghost use Rattle.hop_reliable.specs.Hop.{PreparedHop};
     ghost use Rattle.hop_reliable.specs.Order.{AreNumberedAfter, AreSentInOrder};
     ghost use Rattle.hop_reliable.specs.Room.{HasRoom};
@@ -33,7 +36,7 @@ impl Model for Hop {
       prepared = h.prepared.items;
     } };
 
-    ghost invariant = { λ h. HasRoom h.sent (vec_len h.unacked) (vec_len h.prepared) (vec_capacity h.unacked) ×
+    ghost invariant = { λ h. HasRoom h.sent (deque_len h.unacked) (deque_len h.prepared) (deque_capacity h.unacked) ×
         AreSentInOrder h.sent h.unacked.items × AreNumberedAfter h.sent h.prepared.items };
 }
 
@@ -45,8 +48,8 @@ impl Hop {
         Hop {
             sent: 0,
             handed_up: 0,
-            unacked: Vec::new(alloc),
-            prepared: Vec::new(alloc),
+            unacked: VecDeque::new(alloc),
+            prepared: VecDeque::new(alloc),
         }
     }
 
@@ -101,7 +104,7 @@ impl Hop {
     {
         let number = self.next_number();
         self.unacked.reserve(self.prepared.len() + 1)?;
-        self.prepared.push(Unacked {
+        self.prepared.push_back(Unacked {
             number,
             age: 0,
             msg,
@@ -207,10 +210,10 @@ impl Hop {
     }
 
     /// The messages that aren't acknowledged, in order of number.
-    pub fn waiting(&self) -> &[Unacked]
-        ensures { result.now ≡ self.now.state.unacked }
+    pub fn waiting(&self) -> Iter<'_, Unacked>
+        ensures { deque_iter_rest result ≡ self.now.state.unacked }
     {
-        &self.unacked
+        self.unacked.iter()
     }
 
     /// How many messages are unacknowledged: at most those that were sent.
@@ -232,8 +235,8 @@ impl Hop {
 
 impl Copied for Hop {
     fn copy(&self, alloc: Global) -> Result<Hop, OutOfMemory> {
-        let mut unacked = copy_all(alloc, &self.unacked)?;
-        let prepared = copy_all(alloc, &self.prepared)?;
+        let mut unacked = copies(alloc, &self.unacked)?;
+        let prepared = copies(alloc, &self.prepared)?;
         unacked.reserve(prepared.len())?;
         Ok(Hop {
             sent: self.sent,

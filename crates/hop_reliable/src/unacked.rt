@@ -1,7 +1,7 @@
 //! Messages that wait for their acknowledgement.
 
-ghost use Rattle.std.specs.Prelude.{◌≡◌, ◌≤◌, ◌==◌, ◌∷◌, ◌++◌, IfOk, filter, length, map, not, vec_capacity, vec_len};
-ghost use Rattle.std.specs.List.{remove};
+ghost use Rattle.std.specs.Prelude.{◌≡◌, ◌≤◌, ◌==◌, IfOk, filter, map, not};
+ghost use Rattle.std.specs.VecDeque.{deque_capacity, deque_len};
 ghost use Rattle.hop_reliable.specs.Ages.{is_due, older_age};
 ghost use Rattle.hop_reliable.specs.Hop.{again, numbered, older, still_unacked};
 ghost use Rattle.hop_reliable.specs.Order.{NumbersRise};
@@ -10,6 +10,7 @@ use crate::ages::{is_due, older_age};
 use crate::heard::EPOCH;
 use ason_base::{Copied, Ids, Msg, MsgId, OutOfMemory, Packet, copied};
 use std::alloc::Global;
+use std::collections::VecDeque;
 
 /// A message that was sent and not acknowledged. `age` counts ticks since its first sending, where 68 counts as 8.
 pub struct Unacked {
@@ -71,12 +72,29 @@ pub(crate) fn numbered(alloc: Global, number: u32, msg: Msg) -> Packet
     }
 }
 
+/// The same messages again.
+pub(crate) fn copies(
+    alloc: Global,
+    all: &VecDeque<Unacked>,
+) -> Result<VecDeque<Unacked>, OutOfMemory>
+    ensures { IfOk result (λ copies. copies.items ≡ all.now.items) }
+{
+    let mut copies = VecDeque::with_capacity(alloc, all.len())?;
+    for w in all.iter() {
+        copies.push_back(w.copy(alloc)?)?;
+    }
+    Ok(copies)
+}
+
 /// What goes again once each message is a tick older.
-pub(crate) fn due_after_tick(alloc: Global, unacked: &[Unacked]) -> Result<Vec<Packet>, OutOfMemory>
-    ensures { IfOk result (λ ps. ps.items ≡ again (map older unacked.now)) }
+pub(crate) fn due_after_tick(
+    alloc: Global,
+    unacked: &VecDeque<Unacked>,
+) -> Result<Vec<Packet>, OutOfMemory>
+    ensures { IfOk result (λ ps. ps.items ≡ again (map older unacked.now.items)) }
 {
     let mut due = Vec::new(alloc);
-    for w in unacked {
+    for w in unacked.iter() {
         if w.goes_next() {
             due.push(numbered(alloc, w.number, w.msg.copy(alloc)?))?;
         }
@@ -84,22 +102,24 @@ pub(crate) fn due_after_tick(alloc: Global, unacked: &[Unacked]) -> Result<Vec<P
     Ok(due)
 }
 
-/// Makes each message a tick older.
-pub(crate) fn age_all(unacked: &mut [Unacked])
-    ensures aged { unacked.new ≡ map older unacked.old }
-    ensures len { length unacked.new ≡ length unacked.old }
+/// Makes each message a tick older, in its place.
+pub(crate) fn age_all(unacked: &mut VecDeque<Unacked>)
+    ensures aged { unacked.new.items ≡ map older unacked.old.items }
+    ensures len { deque_len unacked.new ≡ deque_len unacked.old }
+    ensures capacity { deque_capacity unacked.new ≡ deque_capacity unacked.old }
 {
-    for w in unacked.iter_mut() {
+    for i in 0..unacked.len() {
+        let w = &mut unacked[i];
         w.age = older_age(w.age);
     }
 }
 
 /// Takes off each message that is acknowledged in epoch 1.
-pub(crate) fn take_off(unacked: &mut Vec<Unacked>, acks: &[MsgId])
+pub(crate) fn take_off(unacked: &mut VecDeque<Unacked>, acks: &[MsgId])
     requires { NumbersRise unacked.old.items }
     ensures left { unacked.new.items ≡ still_unacked acks.now unacked.old.items }
-    ensures less { vec_len unacked.new ≤ vec_len unacked.old }
-    ensures capacity { vec_capacity unacked.new ≡ vec_capacity unacked.old }
+    ensures less { deque_len unacked.new ≤ deque_len unacked.old }
+    ensures capacity { deque_capacity unacked.new ≡ deque_capacity unacked.old }
 {
     if unacked.is_empty() {
         return;
@@ -111,14 +131,14 @@ pub(crate) fn take_off(unacked: &mut Vec<Unacked>, acks: &[MsgId])
     }
 }
 
-// Takes off the message of this number. Most often it is the first one, or was taken off before. The numbers rise, so any
-// other is looked up.
-fn take_off_number(unacked: &mut Vec<Unacked>, number: u32)
+// Takes off the message of this number. Most often it is the first one, which moves no other, or was taken off before. The
+// numbers rise, so any other is looked up.
+fn take_off_number(unacked: &mut VecDeque<Unacked>, number: u32)
     requires { NumbersRise unacked.old.items }
     ensures left { unacked.new.items ≡
         filter (λ w. not (w.number == number)) unacked.old.items }
-    ensures less { vec_len unacked.new ≤ vec_len unacked.old }
-    ensures capacity { vec_capacity unacked.new ≡ vec_capacity unacked.old }
+    ensures less { deque_len unacked.new ≤ deque_len unacked.old }
+    ensures capacity { deque_capacity unacked.new ≡ deque_capacity unacked.old }
 {
     if unacked.is_empty() {
         return;
@@ -128,24 +148,10 @@ fn take_off_number(unacked: &mut Vec<Unacked>, number: u32)
         return;
     }
     if number == first {
-        take_off_first(unacked);
+        let _ = unacked.pop_front();
         return;
     }
     if let Ok(place) = unacked.binary_search_by_key(&number, |w| w.number) {
-        unacked.remove(place);
-    }
-}
-
-// Takes off the first message. Where it is the only one, nothing is moved.
-fn take_off_first(unacked: &mut Vec<Unacked>)
-    requires { 1 ≤ vec_len unacked.old }
-    ensures left { unacked.new.items ≡ remove unacked.old.items 0 }
-    ensures less { vec_len unacked.new ≤ vec_len unacked.old }
-    ensures capacity { vec_capacity unacked.new ≡ vec_capacity unacked.old }
-{
-    if unacked.len() == 1 {
-        unacked.clear();
-    } else {
-        unacked.remove(0);
+        let _ = unacked.remove(place);
     }
 }
