@@ -1,4 +1,5 @@
-//! Legs in boxes: where one comes or goes, a list of these moves the boxes behind it, and no leg.
+//! Legs in boxes, with their LSPs' keys beside them: a list of these is searched by the keys alone, and where a leg comes
+//! or goes it moves no other leg.
 
 ghost use Rattle.std.specs.Prelude.{◌≡◌, IfOk};
 ghost use Rattle.std.specs.Option.{option_copied};
@@ -8,7 +9,7 @@ ghost use Rattle.node_legs.specs.Edits.{change_of, leg_put};
 ghost use Rattle.node_legs.specs.LegTables.{with_back_labels, with_labels};
 ghost use Rattle.node_legs.specs.Settings.{with_setting};
 
-use ason_base::{Copied, Label, Leg, Lsp, OutOfMemory, Phase};
+use ason_base::{Copied, Label, Leg, Lsp, LspKey, OutOfMemory, Phase};
 use std::alloc::Global;
 use std::marker::Model;
 
@@ -20,51 +21,69 @@ pub(crate) enum Setting {
     BackLabels(Option<Label>, Option<Label>),
 }
 
+/// A leg with the key of its LSP, which a search compares.
+#[derive(Drop)]
+struct KeyedLeg {
+    key: LspKey,
+    leg: Leg,
+}
+
 /// A leg in a box.
 pub struct BoxedLeg {
-    leg: Box<Leg>,
+    keyed: Box<KeyedLeg>,
 }
 
 impl Model for BoxedLeg {
+    ghost use Rattle.std.specs.Prelude.{◌≡◌};
     ghost use Rattle.ason_base.specs.declared.tables.Leg.{Leg};
 
     ghost Value = { Leg };
 
-    ghost view = { λ b. b.leg.value };
+    ghost view = { λ b. b.keyed.value.leg };
+
+    ghost invariant = { λ b. b.keyed.value.key ≡ b.keyed.value.leg.lsp };
 }
 
 impl BoxedLeg {
     pub fn new(alloc: Global, leg: Leg) -> Result<BoxedLeg, OutOfMemory>
         ensures { IfOk result (λ b. b ≡ leg) }
     {
-        let leg = Box::new(alloc, leg)?;
-        Ok(BoxedLeg { leg })
+        let key = LspKey::of(leg.lsp);
+        let keyed = Box::new(alloc, KeyedLeg { key, leg })?;
+        Ok(BoxedLeg { keyed })
+    }
+
+    /// The key of the leg's LSP.
+    pub fn key(&self) -> LspKey
+        ensures { result ≡ self.now.lsp }
+    {
+        self.keyed.key
     }
 
     pub fn leg(&self) -> &Leg
         ensures { result.now ≡ self.now }
     {
-        &self.leg
+        &self.keyed.leg
     }
 
     pub fn set_phase(&mut self, phase: Phase)
         ensures { self.new ≡ with_phase phase self.old }
     {
-        self.leg.phase = phase;
+        self.keyed.leg.phase = phase;
     }
 
     pub fn set_labels(&mut self, in_label: Option<Label>, out_label: Option<Label>)
         ensures { self.new ≡ with_labels in_label out_label self.old }
     {
-        self.leg.in_label = in_label;
-        self.leg.out_label = out_label;
+        self.keyed.leg.in_label = in_label;
+        self.keyed.leg.out_label = out_label;
     }
 
     pub fn set_back(&mut self, back_in: Option<Label>, back_out: Option<Label>)
         ensures { self.new ≡ with_back_labels back_in back_out self.old }
     {
-        self.leg.back_in = back_in;
-        self.leg.back_out = back_out;
+        self.keyed.leg.back_in = back_in;
+        self.keyed.leg.back_out = back_out;
     }
 
     pub(crate) fn set(&mut self, setting: Setting)
@@ -80,21 +99,22 @@ impl BoxedLeg {
     pub fn into_leg(self) -> Leg
         ensures { result ≡ self }
     {
-        let BoxedLeg { leg } = self;
-        Box::into_inner(leg)
+        let BoxedLeg { keyed } = self;
+        let KeyedLeg { key: _, leg } = Box::into_inner(keyed);
+        leg
     }
 }
 
 impl Copied for BoxedLeg {
     fn copy(&self, alloc: Global) -> Result<BoxedLeg, OutOfMemory> {
-        let leg = self.leg.copy(alloc)?;
+        let leg = self.keyed.leg.copy(alloc)?;
         BoxedLeg::new(alloc, leg)
     }
 }
 
 impl Drop for BoxedLeg {
     fn drop(self) {
-        let BoxedLeg { leg: _ } = self;
+        let BoxedLeg { keyed: _ } = self;
     }
 }
 

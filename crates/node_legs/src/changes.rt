@@ -10,6 +10,7 @@ use ason_base::{CallNo, CallRec, Fibres, Leg, Lsp, Msg, NodeId, Out, OutOfMemory
 use mesh_rules::{CallChange, NextNumbers};
 use std::alloc::Global;
 use std::marker::Model;
+use std::mem::replace;
 
 /// What a change is made of.
 #[derive(Drop)]
@@ -168,6 +169,14 @@ impl Change {
         ensures { result.now ≡ self.now.sent }
     {
         &self.parts.sent
+    }
+
+    /// Takes out the messages that are sent; all else stays.
+    pub fn take_sent(&mut self) -> Outs
+        ensures sent { result ≡ self.old.sent }
+        ensures rest { self.new ≡ record self.old { sent = [] } }
+    {
+        replace(&mut self.parts.sent, Outs::new(self.alloc))
     }
 
     pub fn into_parts(self) -> ChangeParts

@@ -1,4 +1,4 @@
-//! Legs in order of LSP, found by halving.
+//! Legs in order of LSP, found by halving over the keys of their LSPs.
 
 ghost use Rattle.std.specs.Prelude.{◌≡◌, ◌≤◌, ◌<◌, ◌+◌, IfOk, None, OnErr, OnOk, Some, insert, length, position, slice_get, true, vec_capacity, vec_len};
 ghost use Rattle.std.specs.Option.{option_copied};
@@ -9,12 +9,12 @@ ghost use Rattle.node_legs.specs.LegTables.{LegsRise, leg_changed};
 ghost use Rattle.node_legs.specs.Settings.{with_setting};
 
 use crate::boxes::{BoxedLeg, Setting};
-use ason_base::{Leg, Lsp, OutOfMemory};
+use ason_base::{Leg, Lsp, LspKey, OutOfMemory};
 use std::alloc::Global;
 use table_lists::keyed::{Keyed, find_item, find_place, place_of, put_item, take_item};
 
 impl Keyed for BoxedLeg {
-    type Key = Lsp;
+    type Key = LspKey;
 
     ghost key_of = { λ g. g.lsp };
 
@@ -22,16 +22,16 @@ impl Keyed for BoxedLeg {
 
     ghost before = { lsp_before };
 
-    fn key(&self) -> Lsp {
-        self.leg().lsp
+    fn key(&self) -> LspKey {
+        self.key()
     }
 
-    fn is_same(a: Lsp, b: Lsp) -> bool {
-        a == b
+    fn is_same(a: LspKey, b: LspKey) -> bool {
+        a.is_same(b)
     }
 
-    fn is_before(a: Lsp, b: Lsp) -> bool {
-        a < b
+    fn is_before(a: LspKey, b: LspKey) -> bool {
+        a.is_before(b)
     }
 
     ghost order = { lsp_order };
@@ -52,7 +52,7 @@ pub fn find_leg(legs: &[BoxedLeg], lsp: Lsp) -> Option<&Leg>
     requires { LegsRise legs.now }
     ensures { option_copied result ≡ find_leg lsp legs.now }
 {
-    match find_item(legs, lsp) {
+    match find_item(legs, LspKey::of(lsp)) {
         None => None,
         Some(boxed) => Some(boxed.leg()),
     }
@@ -82,7 +82,7 @@ pub(crate) fn put_leg(legs: &mut Vec<BoxedLeg>, alloc: Global, leg: Leg) -> Resu
     ensures rising { LegsRise legs.new.items }
     ensures len { length legs.new.items ≤ length legs.old.items + 1 }
 {
-    let place = place_of(legs, leg.lsp);
+    let place = place_of(legs, LspKey::of(leg.lsp));
     insert_leg(legs, alloc, place, leg)
 }
 
@@ -107,7 +107,7 @@ pub fn take_leg(legs: &mut Vec<BoxedLeg>, lsp: Lsp) -> Option<Leg>
     ensures len { length legs.new.items ≤ length legs.old.items }
     ensures capacity { vec_capacity legs.new ≡ vec_capacity legs.old }
 {
-    match take_item(legs, lsp) {
+    match take_item(legs, LspKey::of(lsp)) {
         None => None,
         Some(boxed) => Some(boxed.into_leg()),
     }
@@ -120,7 +120,7 @@ pub(crate) fn set(legs: &mut Vec<BoxedLeg>, lsp: Lsp, setting: Setting)
     ensures rising { LegsRise legs.new.items }
     ensures len { length legs.new.items ≡ length legs.old.items }
 {
-    if let Some(place) = find_place(legs, lsp) {
+    if let Some(place) = find_place(legs, LspKey::of(lsp)) {
         legs[place].set(setting);
     }
 }

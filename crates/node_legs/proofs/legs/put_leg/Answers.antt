@@ -1,4 +1,4 @@
-use Rattle.std.proofs.Common.{◌∙◌, ap, sym, subst}
+use Rattle.std.proofs.Common.{◌∙◌, sym, subst}
 use Rattle.std.specs.List.{position_or_len}
 use Rattle.std.proofs.lemmas.Result.{on_ok_weaker}
 use Rattle.ason_base.specs.Lsps.{lsp_before}
@@ -13,7 +13,7 @@ use Rattle.node_legs.proofs.legs.put_leg.Goals as goal
 pub returns-clause-ok : goal.returns-clause-ok
 returns-clause-ok c =
     let place = c.place_of-place.ensures.place ∙
-    ap (position_or_len (is_from lsp_before (λ (g : Leg). g.lsp) c.args.leg.lsp)) c.deref.ensures.value in
+    (λ i. position_or_len (is_from lsp_before (λ (g : Leg). g.lsp) (c.of.ensures i)) (c.deref.ensures.value i)) in
     on_ok_weaker c.insert_leg.result
     (λ e. e ∙ new-inserted lsp_order (λ (g : Leg). g.lsp) c.args.leg c.args.legs.now.items c.place_of-place.result
     place c.requires.new) c.insert_leg.ensures.ok
@@ -23,7 +23,7 @@ returns-clause-rising c =
     let before = c.args.legs.now.items in
     let n = c.place_of-place.result in
     let place = c.place_of-place.ensures.place ∙
-    ap (position_or_len (is_from lsp_before (λ (g : Leg). g.lsp) c.args.leg.lsp)) c.deref.ensures.value in
+    (λ i. position_or_len (is_from lsp_before (λ (g : Leg). g.lsp) (c.of.ensures i)) (c.deref.ensures.value i)) in
     on_both c.insert_leg.result _ _ _
     (λ e. subst LegsRise
     (sym (e ∙ new-inserted lsp_order (λ (g : Leg). g.lsp) c.args.leg before n place c.requires.new))
