@@ -3,6 +3,7 @@ use Rattle.std.proofs.Common.{◌≡◌, ◌≤◌, ◌∙◌, List, [], length,
 use Rattle.std.specs.Prelude.{OnErr}
 use Rattle.ason_base.specs.Network.{IsTopology, Network}
 use Rattle.ason_base.specs.declared.ids.NodeId.{NodeId}
+use Rattle.ason_base.specs.declared.tables.Out.{Out}
 use Rattle.link_owner.specs.Owners.{OwnerState, unowned}
 use Rattle.share_check.specs.Guards.{Guard}
 use Rattle.mesh_rules.specs.LocalNodes.{local_node}
@@ -64,12 +65,13 @@ answered-fits n a fits (i, may, is) = record {
   rows = subst (λ b. RowsFit n.place (changed n.state b)) (sym is) (rows-fit n i fits may);
 }
 
--- it may be carried out
-pub answered-may : (t : LegTable) (c : CallTable) (a : Answer) → IsNode (node_of t c) → IsAnswerOf (node_of t c) a →
-    MayBeCarriedOut t a
-answered-may t c a fits (i, may, is) =
+-- it may be carried out, whatever is sent with it
+pub answered-may : (t : LegTable) (c : CallTable) (a : Answer) (sent : List Out) → IsNode (node_of t c) →
+    IsAnswerOf (node_of t c) (record a { sent = sent }) → MayBeCarriedOut t a
+answered-may t c a sent fits (i, may, is) =
     let fine = subst (Fine n.place n.state.legs) (sym is) (by_input i) in
-    record { may = fine.0; marks = fine.1; few = (answered-fits n a fits (i, may, is)).state.legs.few }
+    let after = answered-fits n (record a { sent = sent }) fits (i, may, is) in
+    record { may = fine.0; marks = fine.1; few = after.state.legs.few }
   where
     n : NodeView
     n = node_of t c
@@ -91,15 +93,16 @@ pub unchanged : (handed : Handed) (t : LegTable) (o : OwnerState) (c : CallTable
 unchanged (Ok outs) t o c after claimed calls a done = tt
 unchanged (Err e) t o c after claimed calls a done = λ i. node_of (done.err i) (done.err_calls i)
 
--- it is carried out, or the node is as it was
+-- it is carried out, whatever is sent with it, or the node is as it was
 pub carried-fits : (handed : Handed) (t : LegTable) (o : OwnerState) (c : CallTable) (after : LegTable)
-    (claimed : OwnerState) (calls : CallTable) (a : Answer) → IsNode (node_of t c) → IsAnswerOf (node_of t c) a →
-    CallsFollow handed t o c after claimed calls a → IsNode (node_of after calls)
-carried-fits (Ok outs) t o c after claimed calls a fits of done =
+    (claimed : OwnerState) (calls : CallTable) (a : Answer) (sent : List Out) → IsNode (node_of t c) →
+    IsAnswerOf (node_of t c) (record a { sent = sent }) → CallsFollow handed t o c after claimed calls a →
+    IsNode (node_of after calls)
+carried-fits (Ok outs) t o c after claimed calls a sent fits of done =
     let is : node_of after calls ≡ record { place = local_of t; state = changed (state_of t c) a } =
     λ i. record { place = done.local i; state = done.ok i } in
-    subst IsNode (sym is) (answered-fits (node_of t c) a fits of)
-carried-fits (Err e) t o c after claimed calls a fits of done =
+    subst IsNode (sym is) (answered-fits (node_of t c) (record a { sent = sent }) fits of)
+carried-fits (Err e) t o c after claimed calls a sent fits of done =
     subst IsNode (sym (unchanged (Err e) t o c after claimed calls a done)) fits
 
 -- Tables, owner and shares

@@ -1,6 +1,7 @@
 //! The node.
 
-ghost use Rattle.std.specs.Prelude.{◌≡◌, ◌≤◌, IfOk, IsFalse, OnErr, OnOk, length};
+ghost use Rattle.std.specs.Prelude.{◌≡◌, ◌≤◌, IfOk, IsFalse, List, OnErr, OnOk, length};
+ghost use Rattle.ason_base.specs.declared.tables.Out.{Out};
 ghost use Rattle.mesh_rules.specs.Changes.{changed, nothing};
 ghost use Rattle.mesh_rules.specs.KnownRows.{has_row, known_rows};
 ghost use Rattle.mesh_rules.specs.LocalNodes.{local_node};
@@ -115,10 +116,10 @@ impl Node {
         Ok(change)
     }
 
-    /// Carries out what the node answers to some input that may come, and hands back what is to be
-    /// sent, in order. After want of memory the node is unchanged.
-    pub fn carry_out(&mut self, change: Change) -> Result<Outs, OutOfMemory>
-        requires { IsAnswerOf self.old change }
+    // Carries out what changes by an answer to some input that may come, whatever is sent with it,
+    // and hands that back. After want of memory the node is unchanged.
+    fn carry_out_changes(&mut self, change: Change) -> Result<Outs, OutOfMemory>
+        requires { (sent : List Out) × IsAnswerOf self.old (record change { sent = sent }) }
         ensures place { self.new.place ≡ self.old.place }
         ensures ok { OnOk result (self.new.state ≡ changed self.old.state change) }
         ensures sent { IfOk result (λ outs. outs ≡ change.sent) }
@@ -131,6 +132,30 @@ impl Node {
             &mut self.shares,
             &mut self.calls,
         )
+    }
+
+    /// Carries out what the node answers to some input that may come, and hands back what is to be
+    /// sent, in order. After want of memory the node is unchanged.
+    pub fn carry_out(&mut self, change: Change) -> Result<Outs, OutOfMemory>
+        requires { IsAnswerOf self.old change }
+        ensures place { self.new.place ≡ self.old.place }
+        ensures ok { OnOk result (self.new.state ≡ changed self.old.state change) }
+        ensures sent { IfOk result (λ outs. outs ≡ change.sent) }
+        ensures err { OnErr result (self.new ≡ self.old) }
+    {
+        self.carry_out_changes(change)
+    }
+
+    /// Carries out what the node answers to some input that may come, from which the messages that
+    /// are sent were taken out. After want of memory the node is unchanged.
+    pub fn carry_out_rest(&mut self, change: Change) -> Result<(), OutOfMemory>
+        requires { (sent : List Out) × IsAnswerOf self.old (record change { sent = sent }) }
+        ensures place { self.new.place ≡ self.old.place }
+        ensures ok { OnOk result (self.new.state ≡ changed self.old.state change) }
+        ensures err { OnErr result (self.new ≡ self.old) }
+    {
+        self.carry_out_changes(change)?;
+        Ok(())
     }
 
     /// Takes one input by the rules of the mesh, and hands back what is to be sent, in order. Of
