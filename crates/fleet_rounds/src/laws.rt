@@ -30,9 +30,9 @@ pub fn every_round()
     ensures { TurnsMakeARound }
 {}
 
-/// With one worker the stations make their turns one after the other, with a look at a station's rings before its turns
-/// and one after them. The record is then that of a function, node by node, and at last a round, or one that ends at
-/// the first node that comes to its limit.
+/// With one worker the stations make their turns one after the other, with a look at a station's rings after its turns,
+/// before which one more look would change nothing. The record is then that of a function, node by node, and at last a
+/// round, or one that ends at the first node that comes to its limit.
 pub fn every_worker()
     ensures begins { RoundsBegin }
     ensures placed { StationsArePlaced }
