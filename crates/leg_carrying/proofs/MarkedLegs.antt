@@ -10,10 +10,11 @@ use Rattle.link_owner.specs.Owners.{OwnerState}
 use Rattle.link_owner.proofs.LitFibres.{lit-there}
 use Rattle.mesh_rules.specs.Legs.{find_leg, is_marked, uses, with_leg, without_leg}
 use Rattle.mesh_nodes.proofs.Cases.{both_left, both_right}
-use Rattle.mesh_nodes.proofs.LegList.{find-with_leg, find-without_leg, same_lsp-eq, same_lsp-refl}
+use Rattle.mesh_nodes.proofs.LegList.{find-with_leg, find-without_leg, found-lsp, same_lsp-eq, same_lsp-refl}
 use Rattle.leg_table.specs.LegClaims.{GetsMark, KeepsMark, MarksFit, MarksJust, MarksOfLeg, MayMark, is_marked_on}
 use Rattle.leg_labels.proofs.Contention.{alone-open}
 use Rattle.leg_labels.specs.LegMarks.{AreOpen, AreThere, Darkens, Lights, darkened, lighted}
+use Rattle.leg_carrying.specs.LegHolds.{IsOfLsp}
 
 -- Whose mark is there
 
@@ -123,10 +124,10 @@ just-then l g a b c first second = record {
 
 -- The marks of all legs
 
--- the marks of the LSP are those of its leg
-pub of-leg : (l : Lsp) (legs : List Leg) (o : OwnerState) (k : Option Leg) → MarksFit legs o → find_leg l legs ≡ k →
-    MarksOfLeg l k o
-of-leg l legs o k fit found f x = fit f x l ∙ ap (is_marked_on f x) found
+-- the leg that is found is the LSP's
+pub found-its : (l : Lsp) (legs : List Leg) (k : Option Leg) → k ≡ find_leg l legs → IsOfLsp l k
+found-its l legs None e = tt
+found-its l legs (Some g) e = found-lsp l legs g (sym e)
 
 pub marks-without : (l : Lsp) (legs : List Leg) (o after : OwnerState) → MarksFit legs o → MarksJust l None o after →
     MarksFit (without_leg l legs) after

@@ -65,6 +65,10 @@ pub record AreHeld (h : Fibre → ℕ → Lsp → Option Hold) (o : OwnerState) 
 
 -- Labels that an LSP gives up
 
+-- the leg, if there is one, is the LSP's
+abbrev pub IsOfLsp : Lsp → Option Leg → Type 0
+IsOfLsp l g = IfSome g (λ g. g.lsp ≡ l)
+
 -- the LSP's claims and guards there go, all others stay
 pub record GivesUp (l : Lsp) (lost : Fibre → ℕ → Bool) (before after : List FibreClaims) (s left : List Guard)
     : Type 0 where

@@ -14,12 +14,12 @@ ghost use Rattle.leg_table.specs.States.{local_of};
 ghost use Rattle.leg_table.specs.Tables.{LegsRise};
 ghost use Rattle.leg_carrying.specs.LegHolds.{AreLeft, GivesUp, MayGiveUpAll, is_lost, lsp_changed};
 
-use crate::marking::{remark, unmark_lsp};
+use crate::marking::{remark_found, unmark_found};
 use crate::releasing::give_up_lost;
 use crate::reserving::reserve_new;
 use ason_base::{Lsp, OutOfMemory, Outs, TeRow};
 use leg_table::boxes::{BoxedChange, BoxedLeg, LegEdit};
-use leg_table::legs::{set_leg, take_leg};
+use leg_table::legs::{find_leg, set_leg, take_leg};
 use leg_table::{Calls, Change, ChangeParts, NodeTables};
 use link_owner::Owner;
 use share_check::Shares;
@@ -41,8 +41,9 @@ fn remove_leg(legs: &mut Vec<BoxedLeg>, owner: &mut Owner, shares: &mut Shares, 
     ensures fit { MarksFit legs.new.items owner.new }
     ensures fibres { SameFibres owner.old owner.new }
 {
-    give_up_lost(legs, owner, shares, lsp, None);
-    unmark_lsp(legs, owner, lsp);
+    let before = find_leg(legs, lsp);
+    give_up_lost(before, owner, shares, lsp, None);
+    unmark_found(before, owner, lsp);
     let _leg = take_leg(legs, lsp);
 }
 
@@ -63,8 +64,10 @@ fn put_leg(legs: &mut Vec<BoxedLeg>, owner: &mut Owner, shares: &mut Shares, leg
     ensures fit { MarksFit legs.new.items owner.new }
     ensures fibres { SameFibres owner.old owner.new }
 {
-    give_up_lost(legs, owner, shares, leg.leg().lsp, Some(leg.leg()));
-    remark(legs, owner, leg.leg());
+    let after = leg.leg();
+    let before = find_leg(legs, after.lsp);
+    give_up_lost(before, owner, shares, after.lsp, Some(after));
+    remark_found(before, owner, after);
     set_leg(legs, leg);
 }
 

@@ -1,11 +1,13 @@
 //! The marks of a node's legs at the owner: on each label that a leg uses, as long as it is marked.
 
 ghost use Rattle.std.specs.Prelude.{◌≡◌, None, Some};
+ghost use Rattle.std.specs.Option.{option_copied};
 ghost use Rattle.link_owner.specs.Marks.{has_fibre};
 ghost use Rattle.mesh_rules.specs.Legs.{is_at, is_marked, reverse_of};
 ghost use Rattle.leg_table.specs.LegClaims.{MarksFit, MarksJust, MarksOfLeg, MayMark, is_marked_on};
 ghost use Rattle.leg_table.specs.Tables.{LegsRise};
 ghost use Rattle.leg_labels.specs.LegMarks.{AreOpen, AreThere, Darkens, Lights};
+ghost use Rattle.leg_carrying.specs.LegHolds.{IsOfLsp};
 
 use ason_base::{Fibre, Label, Leg, Lsp, Phase, Role};
 use leg_table::boxes::BoxedLeg;
@@ -43,16 +45,25 @@ fn unmark(owner: &mut Owner, leg: &Leg)
     }
 }
 
+/// Clears the marks of the LSP, whose leg this is, if it has one.
+pub(crate) fn unmark_found(before: Option<&Leg>, owner: &mut Owner, lsp: Lsp)
+    requires its { IsOfLsp lsp (option_copied before) }
+    requires marks { MarksOfLeg lsp (option_copied before) owner.old }
+    ensures { MarksJust lsp None owner.old owner.new }
+{
+    match before {
+        None => {}
+        Some(leg) => unmark(owner, leg),
+    }
+}
+
 /// Clears the marks of the LSP.
 pub fn unmark_lsp(legs: &[BoxedLeg], owner: &mut Owner, lsp: Lsp)
     requires rising { LegsRise legs.now }
     requires marks { MarksFit legs.now owner.old }
     ensures { MarksJust lsp None owner.old owner.new }
 {
-    match find_leg(legs, lsp) {
-        None => {}
-        Some(leg) => unmark(owner, leg),
-    }
+    unmark_found(find_leg(legs, lsp), owner, lsp);
 }
 
 // Sets the LSP's mark on the label, if there is one. No other LSP's is there.
@@ -84,6 +95,19 @@ fn mark(owner: &mut Owner, leg: &Leg)
     }
 }
 
+/// Clears the marks of the leg's LSP, whose leg before this is, if it has one, and sets those of the leg. No other LSP's
+/// are there.
+pub(crate) fn remark_found(before: Option<&Leg>, owner: &mut Owner, leg: &Leg)
+    requires its { IsOfLsp leg.now.lsp (option_copied before) }
+    requires marks { MarksOfLeg leg.now.lsp (option_copied before) owner.old }
+    requires there { AreThere owner.old.marks (λ f x. is_marked_on f x (Some leg.now)) }
+    requires free { AreOpen owner.old.marks leg.now.lsp (λ f x. is_marked_on f x (Some leg.now)) }
+    ensures { MarksJust leg.now.lsp (Some leg.now) owner.old owner.new }
+{
+    unmark_found(before, owner, leg.lsp);
+    mark(owner, leg);
+}
+
 /// Clears the marks of the leg's LSP, and sets those of the leg.
 pub fn remark(legs: &[BoxedLeg], owner: &mut Owner, leg: &Leg)
     requires rising { LegsRise legs.now }
@@ -91,6 +115,5 @@ pub fn remark(legs: &[BoxedLeg], owner: &mut Owner, leg: &Leg)
     requires may { MayMark (has_fibre owner.old.marks) legs.now leg.now }
     ensures { MarksJust leg.now.lsp (Some leg.now) owner.old owner.new }
 {
-    unmark_lsp(legs, owner, leg.lsp);
-    mark(owner, leg);
+    remark_found(find_leg(legs, leg.lsp), owner, leg);
 }

@@ -2,16 +2,13 @@
 
 ghost use Rattle.std.specs.Prelude.{◌≡◌, IfSome, [], not, true};
 ghost use Rattle.std.specs.Option.{option_copied};
-ghost use Rattle.mesh_rules.specs.Legs.{find_leg, is_work};
+ghost use Rattle.mesh_rules.specs.Legs.{is_work};
 ghost use Rattle.share_check.specs.Guards.{GuardsJust, GuardsNone};
 ghost use Rattle.leg_table.specs.LegClaims.{SameFibres, takes_of};
-ghost use Rattle.leg_table.specs.Tables.{LegsRise};
-ghost use Rattle.leg_carrying.specs.LegHolds.{GivesUp, MayGiveUp, MayGiveUpAll, is_lost, is_lost_at};
+ghost use Rattle.leg_carrying.specs.LegHolds.{GivesUp, IsOfLsp, MayGiveUp, MayGiveUpAll, is_lost, is_lost_at};
 
 use ason_base::{Leg, Lsp, Role};
-use leg_table::boxes::BoxedLeg;
 use leg_table::labels::{TakenLabel, taken_back, taken_in, takes};
-use leg_table::legs::find_leg;
 use link_owner::Owner;
 use share_check::Shares;
 
@@ -59,22 +56,23 @@ fn give_up(
     }
 }
 
-/// The labels that the LSP's leg takes and the one after doesn't are free again, and are guarded by the LSP no more.
+/// The labels that the LSP's leg before, if it has one, takes and the one after doesn't are free again, and are guarded
+/// by the LSP no more.
 pub(crate) fn give_up_lost(
-    legs: &[BoxedLeg],
+    before: Option<&Leg>,
     owner: &mut Owner,
     shares: &mut Shares,
     lsp: Lsp,
     after: Option<&Leg>,
 )
-    requires rising { LegsRise legs.now }
-    requires may { MayGiveUpAll (find_leg lsp legs.now) owner.old shares.old }
-    ensures labels { GivesUp lsp (is_lost (find_leg lsp legs.now) (option_copied after.entry))
+    requires its { IsOfLsp lsp (option_copied before) }
+    requires may { MayGiveUpAll (option_copied before) owner.old shares.old }
+    ensures labels { GivesUp lsp (is_lost (option_copied before.entry) (option_copied after.entry))
         owner.old.claims owner.new.claims shares.old shares.new }
     ensures marks { owner.new.marks ≡ owner.old.marks }
     ensures fibres { SameFibres owner.old owner.new }
 {
-    if let Some(leg) = find_leg(legs, lsp) {
+    if let Some(leg) = before {
         give_up(owner, shares, leg, taken_in(leg), after);
         give_up(owner, shares, leg, taken_back(leg), after);
     }

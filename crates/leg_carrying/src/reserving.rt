@@ -96,13 +96,12 @@ fn reserve(
     }
 }
 
-// The label, if its LSP's leg doesn't take it.
-fn fresh(legs: &[BoxedLeg], leg: &Leg, label: Option<TakenLabel>) -> Option<TakenLabel>
-    requires { LegsRise legs.now }
-    ensures { result ≡ fresh_of (find_leg leg.now.lsp legs.now) label }
+// The label, if the leg before doesn't take it.
+fn fresh(before: Option<&Leg>, label: Option<TakenLabel>) -> Option<TakenLabel>
+    ensures { result ≡ fresh_of (option_copied before.entry) label }
 {
     let label = label?;
-    match find_leg(legs, leg.lsp) {
+    match before {
         None => Some(label),
         Some(before) => {
             if takes(before, &label) {
@@ -119,9 +118,10 @@ fn new_label(legs: &[BoxedLeg], leg: &Leg) -> Option<TakenLabel>
     requires { LegsRise legs.now }
     ensures { result ≡ new_label (find_leg leg.now.lsp legs.now) leg.now }
 {
-    match fresh(legs, leg, taken_in(leg)) {
+    let before = find_leg(legs, leg.lsp);
+    match fresh(before, taken_in(leg)) {
         Some(label) => Some(label),
-        None => fresh(legs, leg, taken_back(leg)),
+        None => fresh(before, taken_back(leg)),
     }
 }
 

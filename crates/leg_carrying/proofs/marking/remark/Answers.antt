@@ -1,16 +1,13 @@
-use Rattle.std.proofs.Common.{Some, ◌∙◌}
-use Rattle.leg_table.specs.LegClaims.{is_marked_on}
-use Rattle.leg_carrying.proofs.MarkedLegs.{open-after, open-of, there-of}
+use Rattle.leg_carrying.proofs.MarkedLegs.{found-its, open-of, there-of}
 use Rattle.leg_carrying.proofs.marking.remark.Goals as goal
 
-pub mark-requires-clause-there : goal.mark-requires-clause-there
-mark-requires-clause-there c f x e =
-    c.unmark_lsp.ensures.fibres f
-    ∙ there-of c.args.leg.now c.args.legs.now c.args.owner.now c.requires.marks c.requires.may f x e
+pub remark_found-requires-clause-its : goal.remark_found-requires-clause-its
+remark_found-requires-clause-its c = found-its c.args.leg.now.lsp c.args.legs.now _ c.find_leg.ensures
 
-pub mark-requires-clause-free : goal.mark-requires-clause-free
-mark-requires-clause-free c =
-    let g = c.args.leg.now in
-    let o = c.args.owner.now in
-    open-after g.lsp o c.unmark_lsp.new.owner (λ f x. is_marked_on f x (Some g)) c.unmark_lsp.ensures
-    (open-of g c.args.legs.now o c.requires.marks c.requires.may)
+pub remark_found-requires-clause-there : goal.remark_found-requires-clause-there
+remark_found-requires-clause-there c =
+    there-of c.args.leg.now c.args.legs.now c.args.owner.now c.requires.marks c.requires.may
+
+pub remark_found-requires-clause-free : goal.remark_found-requires-clause-free
+remark_found-requires-clause-free c =
+    open-of c.args.leg.now c.args.legs.now c.args.owner.now c.requires.marks c.requires.may
