@@ -1,12 +1,14 @@
 -- One adjacency is changed: the first one to a neighbour.
-use Rattle.std.proofs.Common.{◌≡◌, ◌+◌, ℕ, suc, Bool, true, false, cond, not, nat_eq, nat_lt, List, [], ◌∷◌, ◌++◌, length, map, set, refl, sym, ap, ◌∙◌, subst, arith, append_assoc, length-append}
+use Rattle.std.proofs.Common.{◌≡◌, ◌+◌, ℕ, suc, Bool, true, false, cond, not, nat_eq, nat_lt, List, [], ◌∷◌, ◌++◌, drop, length, map, set, refl, sym, ap, ◌∙◌, subst, arith, append_assoc, length-append}
 use Rattle.std.specs.Prelude.{find, position, slice_get, Some, None, is_some}
 use Rattle.std.specs.List.{position_or_len}
 use Rattle.ason_base.specs.declared.messages.Msg.{Msg}
 use Rattle.hop_reliable.specs.declared.unacked.Unacked.{Unacked}
-use Rattle.hop_reliable.specs.Hop.{PreparedHop, all_sent, last_number, resting, sent_message, with_next}
+use Rattle.ason_base.specs.declared.messages.MsgId.{MsgId}
+use Rattle.hop_reliable.specs.declared.heard.Heard.{Heard}
+use Rattle.hop_reliable.specs.Hop.{PreparedHop, all_sent, last_number, resting, sent_message, taken, with_next}
 use Rattle.control_channels.specs.declared.adjacencies.Adjacency.{Adjacency}
-use Rattle.control_channels.specs.Adjacencies.{IsChangedAt, adjacency_at, hop_of, is_to, next_at, peer_numbers, prepared_at, reaches, rested, with_hop}
+use Rattle.control_channels.specs.Adjacencies.{IsChangedAt, adjacency_at, hop_of, is_to, next_at, peer_numbers, prepared_at, reaches, rested, taken_by, with_hop}
 
 -- the first adjacency to n with another hop
 abbrev pub changed : ℕ → (PreparedHop → PreparedHop) → List Adjacency → List Adjacency
@@ -212,3 +214,21 @@ pub rest_changed : (n : ℕ) (f : PreparedHop → PreparedHop) (before after : L
     map rested after ≡ map rested before
 rest_changed n f before after i at keeps changes =
     ap (map rested) (changed_is n f before after i at changes) ∙ rested-changed n f before keeps
+
+-- what is prepared at the first one
+abbrev first_prepared : List Adjacency → List Unacked
+first_prepared [] = []
+first_prepared (a ∷ rest) = a.hop.prepared
+
+-- where nothing is prepared, nothing is after one has taken what was heard
+pub taken-rests : (n : ℕ) (v : Heard) (acks : List MsgId) (xs : List Adjacency) → map rested xs ≡ xs →
+    map rested (changed n (taken_by v acks) xs) ≡ changed n (taken_by v acks) xs
+taken-rests n v acks [] e = refl
+taken-rests n v acks (a ∷ rest) e = go (is_to n a) (taken-rests n v acks rest (ap (drop 1) e))
+  where
+    go : (b : Bool) → map rested (changed n (taken_by v acks) rest) ≡ changed n (taken_by v acks) rest →
+        map rested (cond b (with_hop (taken_by v acks a.hop) a ∷ rest) (a ∷ changed n (taken_by v acks) rest))
+        ≡ cond b (with_hop (taken_by v acks a.hop) a ∷ rest) (a ∷ changed n (taken_by v acks) rest)
+    go true later = λ i.
+        with_hop (record { state = taken a.hop.state v acks; prepared = ap first_prepared e i }) a ∷ ap (drop 1) e i
+    go false later = λ i. with_hop (record { state = a.hop.state; prepared = ap first_prepared e i }) a ∷ later i

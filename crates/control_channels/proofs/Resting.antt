@@ -74,6 +74,14 @@ all-resting h =
     let count : h.sent + 0 ≡ h.sent = omega arith in
     λ i. record { sent = count i; handed_up = h.handed_up; unacked = append-nil h.unacked i }
 
+-- where nothing is prepared, a commit changes nothing
+pub resting-committed : (xs : List Adjacency) → map rested xs ≡ xs → xs ≡ map committed xs
+resting-committed xs e = sym e ∙ sym (go xs) ∙ ap (map committed) e
+  where
+    go : (ys : List Adjacency) → map committed (map rested ys) ≡ map rested ys
+    go [] = refl
+    go (a ∷ ys) = λ i. with_hop (resting (all-resting a.hop.state i)) a ∷ go ys i
+
 pub next-rested : (xs : List Adjacency) (d : ℕ) → next_at (map rested xs) d ≡ hop_at xs d
 next-rested xs d = read-map (λ h. resting h.state) all_sent (λ h. h.state) (λ h. all-resting h.state)
     (all-resting fresh) xs d

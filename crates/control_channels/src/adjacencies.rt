@@ -83,6 +83,8 @@ pub fn take(adjacencies: &mut [Adjacency], from: NodeId, heard: Heard, acks: &[M
     ensures hops { (d : ℕ) → prepared_at adjacencies.new d ≡
         taken_at adjacencies.old from heard acks.now d }
     ensures peers { peer_numbers adjacencies.new ≡ peer_numbers adjacencies.old }
+    ensures rest { map rested adjacencies.old ≡ adjacencies.old →
+        map rested adjacencies.new ≡ adjacencies.new }
 {
     match place_of(adjacencies, from) {
         None => {}

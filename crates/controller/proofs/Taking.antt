@@ -1,11 +1,12 @@
 -- A packet is taken, an item handled, a tick made: what the node and its hops are after it.
 use Rattle.std.proofs.Common.{◌≡◌, ℕ, Bool, true, false, cond, nat_eq, List, [], ◌∷◌, ◌++◌, map, refl, sym, ap, ◌∙◌, subst, arith, append_assoc}
-use Rattle.std.specs.Prelude.{Option}
+use Rattle.std.specs.Prelude.{None, Option}
 use Rattle.std.specs.List.{flat_map}
 use Rattle.std.specs.Option.{option_to_list}
 use Rattle.ason_base.specs.declared.commands.DeskItem.{DeskItem}
 use Rattle.ason_base.specs.declared.messages.Msg.{Msg}
 use Rattle.ason_base.specs.declared.ids.NodeId.{NodeId}
+use Rattle.ason_base.specs.declared.messages.MsgId.{MsgId}
 use Rattle.ason_base.specs.declared.messages.Packet.{Packet}
 use Rattle.ason_base.specs.declared.tables.Out.{Out}
 use Rattle.flood.specs.State.{FloodState, sent_at_tick}
@@ -20,14 +21,16 @@ use Rattle.node_rules.specs.declared.inputs.Input.TheVariants as input
 use Rattle.node_rules.specs.Nodes.{NodeView, stepped}
 use Rattle.control_channels.specs.declared.adjacencies.Adjacency.{Adjacency}
 use Rattle.control_channels.specs.declared.frames.Frame.{Frame}
-use Rattle.control_channels.specs.Adjacencies.{ArePrepared, again_to, aged, committed, hop_at, next_at, packets_on, peer_numbers, prepared_at, rested, sent_on, taken_by}
+use Rattle.control_channels.specs.Adjacencies.{ArePrepared, again_to, aged, committed, hop_at, next_at, packets_on, peer_numbers, prepared_at, rested, sent_on, taken_at, taken_by}
 use Rattle.control_channels.specs.Answers.{body_answer}
 use Rattle.control_channels.specs.Controllers.{Becomes, IsMade, acks_to, after_tick, floods_to, handed_body, handled, heard_hops, meaning, took}
 use Rattle.control_channels.specs.Frames.{AllSpelled, Sending, frames_to, sent_frame}
 use Rattle.control_channels.proofs.Keeping.{heard-sent}
 use Rattle.control_channels.proofs.Later.{packets-later, sent-later}
+use Rattle.rsvp_messages.specs.Packets.{ack_alone}
+use Rattle.control_channels.proofs.Preparing.{nothing-prepared}
 use Rattle.control_channels.proofs.Spelled.{both-spelled}
-use Rattle.control_channels.proofs.Resting.{committed-rests, hop-committed, next-aged, peers-aged, peers-committed, same-hop, same-peers}
+use Rattle.control_channels.proofs.Resting.{committed-rests, hop-committed, next-aged, peers-aged, peers-committed, resting-committed, same-hop, same-peers}
 
 pub frames-append : (me : NodeId) (xs ys : List Sending) → frames_to me (xs ++ ys) ≡ frames_to me xs ++ frames_to me ys
 frames-append me [] ys = refl
@@ -248,3 +251,18 @@ module _ (n m : NodeView) (before mid late after : List Adjacency) (u : NodeId) 
     where
       after-heard : ℕ → HopState
       after-heard = heard_hops (hop_at before) u q
+
+-- An acknowledgement alone is taken: nothing is handed up or prepared.
+pub ack-taken : (n : NodeView) (before late : List Adjacency) (u : NodeId) (id : MsgId) → map rested before ≡ before →
+    map rested late ≡ late →
+    ((d : ℕ) → prepared_at late d ≡ taken_at before u Acked (id ∷ []) d) → peer_numbers late ≡ peer_numbers before →
+    IsTaken n before before late late u Acked (ack_alone id) None
+ack-taken n before late u id rest rests takes peers = record {
+  heard = refl;
+  handed = refl;
+  are = nothing-prepared n u None before refl rest;
+  rest = refl;
+  takes = takes;
+  peers = peers;
+  is = resting-committed late rests;
+}

@@ -1,7 +1,7 @@
 //! What each input does to a node and its hops, and the frames that go out. Whatever may be refused comes first: the frames are
 //! made, the messages prepared at their hops, the node's answer carried out. Then the hops take what came and send.
 
-ghost use Rattle.std.specs.Prelude.{◌≡◌, ◌≤◌, ◌+◌, ◌^◌, ◌++◌, ℕ, IfOk, IsTrue, OnErr, OnOk, length, map};
+ghost use Rattle.std.specs.Prelude.{◌≡◌, ◌≢◌, ◌≤◌, ◌+◌, ◌^◌, ◌++◌, [], ℕ, None, IfOk, IsTrue, OnErr, OnOk, length, map};
 ghost use Rattle.std.specs.Option.{option_to_list};
 ghost use Rattle.wire_buf.specs.Codecs.{HasOneMeaning};
 ghost use Rattle.ason_base.specs.declared.messages.Packet.{Packet};
@@ -9,10 +9,11 @@ ghost use Rattle.mesh_nodes.specs.LocalNodes.{is_neighbour};
 ghost use Rattle.mesh_rules.specs.Changes.{changed, nothing};
 ghost use Rattle.node_rules.specs.Nodes.{IsWritableInput, MayTake, answer_to, stepped};
 ghost use Rattle.node_rules.specs.declared.inputs.Input.TheVariants as inputs;
-ghost use Rattle.control_channels.specs.Adjacencies.{AllCanGo, ArePrepared, next_at, packets_on, reaches, rested, sent_on};
+ghost use Rattle.control_channels.specs.Adjacencies.{ArePrepared, committed, reaches, rested};
 ghost use Rattle.control_channels.specs.Answers.{BodyCanBePassedOn, body_answer};
 ghost use Rattle.channel_frames.specs.declared.frames.Content.{Content};
 ghost use Rattle.channel_frames.specs.Frames.{IsFrame, SpellsNothing};
+ghost use Rattle.rsvp_messages.specs.Packets.{packet_read};
 ghost use Rattle.flood.specs.Messages.{SpellsFlood};
 ghost use Rattle.flood.specs.State.{ticked};
 ghost use Rattle.control_channels.specs.Controllers.{AddsAnswer, AnswerIsSpelled, AreMade, Becomes, IsMade, IsReaction, IsUnambiguous, flood_after, frame_step, handed_body, idle_step, item_step, packet_step, parts, tick_step};
@@ -20,7 +21,7 @@ ghost use Rattle.control_channels.specs.Frames.{AllSpelled, frames_to};
 ghost use Rattle.control_channels.specs.ReadyControllers.{AllToNeighbours, FloodFits, IsFromNeighbour, IsKept, IsReady};
 
 use crate::floods::take_flood;
-use ason_base::{Copied, DecodeError, DeskItem, Msg, NodeId, Out, OutOfMemory, Packet, copy_all};
+use ason_base::{Copied, DecodeError, DeskItem, Msg, NodeId, OutOfMemory, Packet};
 use channel_frames::{Body, body_of};
 use control_channels::adjacencies::{
     age_all, commit_all, discard_all, frame_due, hears, prepare_all, take,
@@ -29,31 +30,9 @@ use control_channels::{Adjacency, CoreInput, Frame, FrameMaker, acknowledge, fra
 use flood::{Flood, decode_flood};
 use hop_reliable::Heard;
 use node_core::{Change, Input, Node};
-use rsvp_messages::decode;
+use rsvp_messages::{ReadPacket, read};
 
-// Messages that the node sends are prepared, and their frames stand at the end of the list.
-fn prepare_sent(
-    maker: &mut FrameMaker,
-    me: NodeId,
-    adjacencies: &mut [Adjacency],
-    frames: &mut Vec<Frame>,
-    sent: &[Out],
-) -> Result<(), OutOfMemory>
-    requires { AllCanGo (reaches adjacencies.old) (next_at adjacencies.old) sent.now }
-    ensures hops { OnOk result
-        ((d : ℕ) → next_at adjacencies.new d ≡ sent_on (next_at adjacencies.old) sent.now d) }
-    ensures rest { map rested adjacencies.new ≡ map rested adjacencies.old }
-    ensures frames { OnOk result
-        (frames.new.items ≡ frames.old.items ++
-        frames_to me (packets_on (next_at adjacencies.old) sent.now)) }
-    ensures spelled { OnOk result
-        (AllSpelled me (packets_on (next_at adjacencies.old) sent.now)) }
-{
-    let outs = copy_all(maker.alloc, sent)?;
-    prepare_all(maker, me, adjacencies, frames, outs)
-}
-
-// What the node answers, with its messages prepared and their frames at the end of the list.
+// What the node answers, without its messages: they are prepared, and their frames stand at the end of the list.
 fn prepared(
     maker: &mut FrameMaker,
     node: &Node,
@@ -63,7 +42,7 @@ fn prepared(
 ) -> Result<Change, OutOfMemory>
     requires ready { IsReady node.now.place adjacencies.old }
     requires input { IsWritableInput input.now }
-    ensures change { IfOk result (λ c. c ≡ answer_to node.now input.now) }
+    ensures change { IfOk result (λ c. c ≡ record (answer_to node.now input.now) { sent = [] }) }
     ensures hops { OnOk result
         (ArePrepared adjacencies.old (answer_to node.now input.now).sent adjacencies.new) }
     ensures rest { map rested adjacencies.new ≡ map rested adjacencies.old }
@@ -73,8 +52,9 @@ fn prepared(
     ensures spelled { OnOk result
         (AnswerIsSpelled node.now adjacencies.old (answer_to node.now input.now)) }
 {
-    let change = node.answer(maker.alloc, input)?;
-    prepare_sent(maker, node.id(), adjacencies, frames, change.sent().items())?;
+    let mut change = node.answer(maker.alloc, input)?;
+    let sent = change.take_sent();
+    prepare_all(maker, node.id(), adjacencies, frames, sent.into_vec())?;
     Ok(change)
 }
 
@@ -100,8 +80,7 @@ fn carry_out(
         (AnswerIsSpelled node.old adjacencies.old (answer_to node.old input.now)) }
 {
     let change = prepared(maker, node, adjacencies, frames, input)?;
-    node.carry_out(change)?;
-    Ok(())
+    node.carry_out_rest(change)
 }
 
 // Whether the input is a tick at a node that counts none: it changes nothing.
@@ -152,6 +131,7 @@ fn give(
 // What is handed up of a packet: its message, where it is the next.
 fn handed_up(heard: Heard, body: Option<Msg>) -> Option<Msg>
     ensures handed { option_to_list result ≡ handed_body heard body }
+    ensures none { heard ≢ Heard.Next → result ≡ None }
     ensures passed { BodyCanBePassedOn body → BodyCanBePassedOn result }
 {
     if heard == Heard::Next { body } else { None }
@@ -180,6 +160,7 @@ fn hand_up(
         (body_answer node.old from body) frames.old.items frames.new.items) }
     ensures spelled { OnOk result
         (AnswerIsSpelled node.old adjacencies.old (body_answer node.old from body)) }
+    ensures none { body ≡ None → adjacencies.new ≡ adjacencies.old }
 {
     match body {
         None => Ok(()),
@@ -190,6 +171,16 @@ fn hand_up(
             frames,
             &Input::Message { from, msg },
         ),
+    }
+}
+
+// Sends what is prepared after a packet: nothing, where its message isn't handed up.
+fn commit_handed(adjacencies: &mut [Adjacency], heard: Heard)
+    requires { heard ≢ Heard.Next → map rested adjacencies.old ≡ adjacencies.old }
+    ensures { adjacencies.new ≡ map committed adjacencies.old }
+{
+    if heard == Heard::Next {
+        commit_all(adjacencies);
     }
 }
 
@@ -222,8 +213,40 @@ fn take_packet(
     let body = handed_up(heard, body);
     hand_up(maker, node, adjacencies, frames, from, body)?;
     take(adjacencies, from, heard, acks.items());
-    commit_all(adjacencies);
+    commit_handed(adjacencies, heard);
     Ok(())
+}
+
+// A packet of a neighbour, as it was read. An acknowledgement alone is taken by the hop, and nothing answers it.
+fn take_read(
+    maker: &mut FrameMaker,
+    node: &mut Node,
+    adjacencies: &mut [Adjacency],
+    frames: &mut Vec<Frame>,
+    from: NodeId,
+    packet: ReadPacket,
+) -> Result<(), OutOfMemory>
+    requires ready { IsReady node.old.place adjacencies.old }
+    requires reached { IsTrue (reaches adjacencies.old from.0) }
+    requires body { BodyCanBePassedOn (packet_read packet).body }
+    ensures becomes { OnOk result
+        (Becomes node.old node.new adjacencies.old adjacencies.new
+        (packet_step node.old adjacencies.old from (packet_read packet)).after) }
+    ensures same { OnErr result (node.new ≡ node.old) }
+    ensures err { OnErr result (adjacencies.new ≡ adjacencies.old) }
+    ensures frames { OnOk result
+        (frames.new.items ≡ frames.old.items ++ frames_to node.old.place.id
+        (packet_step node.old adjacencies.old from (packet_read packet)).sendings) }
+    ensures spelled { OnOk result (AllSpelled node.old.place.id
+        (packet_step node.old adjacencies.old from (packet_read packet)).sendings) }
+{
+    match packet {
+        ReadPacket::Ack(id) => {
+            take(adjacencies, from, Heard::Acked, &[id]);
+            Ok(())
+        }
+        ReadPacket::Whole(packet) => take_packet(maker, node, adjacencies, frames, from, packet),
+    }
 }
 
 fn taken(
@@ -231,14 +254,14 @@ fn taken(
     node: &mut Node,
     adjacencies: &mut [Adjacency],
     from: NodeId,
-    packet: Packet,
+    packet: ReadPacket,
 ) -> Result<Vec<Frame>, OutOfMemory>
     requires ready { IsReady node.old.place adjacencies.old }
     requires from { IsTrue (is_neighbour node.old.place from) }
-    requires body { BodyCanBePassedOn packet.body }
+    requires body { BodyCanBePassedOn (packet_read packet).body }
     ensures made { IfOk result
         (λ fs. IsMade node.old node.new adjacencies.old adjacencies.new
-        (packet_step node.old adjacencies.old from packet) fs.items) }
+        (packet_step node.old adjacencies.old from (packet_read packet)) fs.items) }
     ensures place { node.new.place ≡ node.old.place }
     ensures kept { (k : ℕ) → IsKept node.old.place adjacencies.old k →
         OnOk result (IsKept node.new.place adjacencies.new (k + 1)) }
@@ -250,7 +273,7 @@ fn taken(
 {
     node.fits();
     let mut frames = maker.list();
-    take_packet(maker, node, adjacencies, &mut frames, from, packet)?;
+    take_read(maker, node, adjacencies, &mut frames, from, packet)?;
     Ok(frames)
 }
 
@@ -288,7 +311,7 @@ fn take_frame(
 {
     match body_of(bytes) {
         None => Ok(maker.list()),
-        Some(Body::Message(body)) => match decode(maker.alloc, body) {
+        Some(Body::Message(body)) => match read(maker.alloc, body) {
             Ok(packet) => taken(maker, node, adjacencies, from, packet),
             Err(DecodeError::NotMessage) => Ok(maker.list()),
             Err(DecodeError::OutOfMemory) => Err(OutOfMemory),

@@ -1,8 +1,9 @@
-use Rattle.std.proofs.Common.{◌≡◌, ◌+◌, ◌<◌, ◌^◌, sym, ap, ◌∙◌, subst}
+use Rattle.std.proofs.Common.{◌≡◌, map, ◌+◌, ◌<◌, ◌^◌, sym, ap, ◌∙◌, subst}
 use Rattle.std.specs.Prelude.{position, Some, None}
 use Rattle.hop_reliable.specs.Hop.{PreparedHop}
-use Rattle.control_channels.specs.Adjacencies.{is_to, peer_numbers, taken_by}
+use Rattle.control_channels.specs.Adjacencies.{is_to, peer_numbers, rested, taken_by}
 use Rattle.control_channels.proofs.Changing.{changed_is, hop_there, none_there, peers-changed, prepared_changed}
+use Rattle.control_channels.proofs.Changing.{taken-rests}
 use Rattle.control_channels.proofs.adjacencies.take.Goals as goal
 
 pub take_at-requires-clause-next : goal.take_at-requires-clause-next
@@ -32,3 +33,12 @@ returns-in-Some-clause-peers c =
     ap peer_numbers (changed_is c.args.from.0 (taken_by c.args.heard c.args.acks.now) before
     c.take_at.new.adjacencies c.in-Some.place at c.take_at.ensures) ∙
     peers-changed c.args.from.0 (taken_by c.args.heard c.args.acks.now) before
+
+pub returns-in-Some-clause-rest : goal.returns-in-Some-clause-rest
+returns-in-Some-clause-rest c = λ rest.
+    let before = c.args.adjacencies.now in
+    let at : position (is_to c.args.from.0) before ≡ Some c.in-Some.place = sym c.in-Some.ensures in
+    subst (λ xs. map rested xs ≡ xs)
+    (sym (changed_is c.args.from.0 (taken_by c.args.heard c.args.acks.now) before c.take_at.new.adjacencies
+    c.in-Some.place at c.take_at.ensures))
+    (taken-rests c.args.from.0 c.args.heard c.args.acks.now before rest)

@@ -1,8 +1,7 @@
-use Rattle.std.proofs.Common.{◌≡◌, ◌++◌, ◌∙◌, [], List, ap, sym, subst}
+use Rattle.std.proofs.Common.{◌≡◌, ◌++◌, ◌∙◌, ap, sym, subst}
 use Rattle.std.proofs.lemmas.List.{append-nil}
-use Rattle.ason_base.specs.declared.tables.Out.{Out}
 use Rattle.mesh_rules.specs.Changes.{Answer, changed, nothing}
-use Rattle.node_rules.specs.Nodes.{NodeView, answer_to}
+use Rattle.node_rules.specs.Nodes.{answer_to}
 use Rattle.control_channels.proofs.Preparing.{none-prepared}
 use Rattle.control_channels.specs.Adjacencies.{hop_at, packets_on}
 use Rattle.control_channels.specs.Frames.{AllSpelled, frames_to}

@@ -1,4 +1,5 @@
 use Rattle.std.proofs.Common.{◌≡◌, ◌+◌, ◌∷◌, ◌∙◌, ap, refl, sym, subst, Err, Vec, Global}
+use Rattle.rsvp_messages.specs.Packets.{packet_read}
 use Rattle.channel_frames.specs.declared.frames.Content.{Content}
 use Rattle.channel_frames.specs.Bodies.{IsBody}
 use Rattle.channel_frames.specs.Frames.{IsFrame}
@@ -20,14 +21,14 @@ pub taken-requires-clause-body : goal.taken-requires-clause-body
 taken-requires-clause-body c =
     let behind : c.args.bytes.now ≡ 46 ∷ c.in-Some-Message.body.now =
     subst (IsBody c.args.bytes.now) c.in-Some-Message.field-0-is c.in-Some-Message.ensures.some in
-    passed-on c.args.bytes.now c.in-Ok.packet (c.in-Some-Message.body.now, behind, c.in-Ok.ensures.found)
+    passed-on c.args.bytes.now (packet_read c.in-Ok.packet) (c.in-Some-Message.body.now, behind, c.in-Ok.ensures.found)
 
 pub returns-in-Ok-clause-content : goal.returns-in-Ok-clause-content
 returns-in-Ok-clause-content c =
     let behind : c.args.bytes.now ≡ 46 ∷ c.in-Some-Message.body.now =
     subst (IsBody c.args.bytes.now) c.in-Some-Message.field-0-is c.in-Some-Message.ensures.some in
-    λ x f. let same : Message c.in-Ok.packet ≡ x =
-    message_once c.in-Some-Message.body.now c.in-Ok.packet c.in-Ok.ensures.only x
+    λ x f. let same : Message (packet_read c.in-Ok.packet) ≡ x =
+    message_once c.in-Some-Message.body.now (packet_read c.in-Ok.packet) c.in-Ok.ensures.only x
     (subst (λ bs. IsFrame bs x) behind f) in
     if_ok c.taken.result _ _ (λ fs made. subst (λ (y : Content). AreMade
     (parts c.args.node.now c.args.adjacencies.now c.args.flood.now)
@@ -40,13 +41,13 @@ pub returns-in-Ok-clause-noise : goal.returns-in-Ok-clause-noise
 returns-in-Ok-clause-noise c =
     let behind : c.args.bytes.now ≡ 46 ∷ c.in-Some-Message.body.now =
     subst (IsBody c.args.bytes.now) c.in-Some-Message.field-0-is c.in-Some-Message.ensures.some in
-    λ none. absurd (none (Message c.in-Ok.packet) (c.in-Some-Message.body.now, behind, c.in-Ok.ensures.found))
+    λ none. absurd (none (Message (packet_read c.in-Ok.packet)) (c.in-Some-Message.body.now, behind, c.in-Ok.ensures.found))
 
 pub returns-in-Ok-clause-one : goal.returns-in-Ok-clause-one
 returns-in-Ok-clause-one c =
     let behind : c.args.bytes.now ≡ 46 ∷ c.in-Some-Message.body.now =
     subst (IsBody c.args.bytes.now) c.in-Some-Message.field-0-is c.in-Some-Message.ensures.some in
-    let once = message_once c.in-Some-Message.body.now c.in-Ok.packet c.in-Ok.ensures.only in
+    let once = message_once c.in-Some-Message.body.now (packet_read c.in-Ok.packet) c.in-Ok.ensures.only in
     on_ok_always c.taken.result _ (λ x y f g.
     sym (once x (subst (λ bs. IsFrame bs x) behind f))
     ∙ once y (subst (λ bs. IsFrame bs y) behind g))

@@ -1,13 +1,13 @@
-use Rattle.std.proofs.Common.{◌+◌, ◌<◌, ◌^◌, ◌++◌, cond, nat_eq, sym, ap, ◌∙◌, subst}
+use Rattle.std.proofs.Common.{◌≡◌, map, ◌+◌, ◌<◌, ◌^◌, ◌++◌, cond, nat_eq, sym, ap, ◌∙◌, subst}
 use Rattle.ason_base.specs.declared.ids.NodeId.{NodeId}
 use Rattle.hop_reliable.specs.Hop.{HopState}
-use Rattle.control_channels.specs.Adjacencies.{prepared_at, taken_by}
+use Rattle.control_channels.specs.Adjacencies.{prepared_at, rested, taken_by}
 use Rattle.control_channels.specs.Controllers.{acks_to, handed_body}
 use Rattle.control_channels.specs.Frames.{AllSpelled, frames_to}
 use Rattle.control_channels.proofs.Resting.{same-hop, same-reach}
 use Rattle.controller.proofs.Taking.{IsTaken, took-becomes, took-frames, took-spelled}
 use Rattle.controller.proofs.reactions.take_packet.Goals as goal
-use Rattle.controller.proofs.reactions.take_packet.Goals.{After-commit_all}
+use Rattle.controller.proofs.reactions.take_packet.Goals.{After-commit_handed}
 
 pub take-requires-clause-reached : goal.take-requires-clause-reached
 take-requires-clause-reached c =
@@ -21,8 +21,8 @@ take-requires-clause-next c = λ e.
     (c.hears-heard.ensures.next e)
 
 -- the parts of the packet's taking together
-taken : (c : After-commit_all) → IsTaken c.args.node.now c.args.adjacencies.now c.hand_up.new.adjacencies
-    c.take.new.adjacencies c.commit_all.new.adjacencies c.args.from c.hears-heard.result c.args.packet
+taken : (c : After-commit_handed) → IsTaken c.args.node.now c.args.adjacencies.now c.hand_up.new.adjacencies
+    c.take.new.adjacencies c.commit_handed.new.adjacencies c.args.from c.hears-heard.result c.args.packet
     c.handed_up-body.result
 taken c =
     let mid = c.hand_up.new.adjacencies in
@@ -37,19 +37,19 @@ taken c =
           ∙ ap (λ acks. cond (nat_eq d c.args.from.0) (taken_by c.hears-heard.result acks (prepared_at mid d))
           (prepared_at mid d)) (c.items.ensures ∙ ap (λ parts. parts.0) c.into_parts-acks.ensures);
       peers = c.take.ensures.peers;
-      is = c.commit_all.ensures;
+      is = c.commit_handed.ensures;
     }
 
 pub returns-clause-becomes : goal.returns-clause-becomes
 returns-clause-becomes c =
     took-becomes c.args.node.now c.hand_up.new.node _ _ _ _ _ _ _ _
-    (taken (goal.at.returns-clause-becomes c).After-commit_all) c.in_ok-hand_up.ensures.place
+    (taken (goal.at.returns-clause-becomes c).After-commit_handed) c.in_ok-hand_up.ensures.place
     c.in_ok-hand_up.ensures.node
 
 pub returns-clause-frames : goal.returns-clause-frames
 returns-clause-frames c =
     took-frames c.args.node.now c.hand_up.new.node _ _ _ _ _ _ _ _
-    (taken (goal.at.returns-clause-frames c).After-commit_all)
+    (taken (goal.at.returns-clause-frames c).After-commit_handed)
     c.args.frames.now.items c.acknowledge.new.frames.items c.hand_up.new.frames.items
     (c.in_ok-acknowledge.ensures.frames ∙ ap (λ (n : NodeId). c.args.frames.now.items ++
     frames_to n (acks_to c.args.from c.hears-heard.result c.args.packet)) c.id.ensures)
@@ -58,7 +58,13 @@ returns-clause-frames c =
 pub returns-clause-spelled : goal.returns-clause-spelled
 returns-clause-spelled c =
     took-spelled c.args.node.now c.hand_up.new.node _ _ _ _ _ _ _ _
-    (taken (goal.at.returns-clause-spelled c).After-commit_all)
+    (taken (goal.at.returns-clause-spelled c).After-commit_handed)
     (subst (λ (n : NodeId). AllSpelled n (acks_to c.args.from c.hears-heard.result c.args.packet)) c.id.ensures
     c.in_ok-acknowledge.ensures.spelled)
     c.in_ok-hand_up.ensures.spelled
+
+pub commit_handed-requires : goal.commit_handed-requires
+commit_handed-requires c = λ other.
+    c.take.ensures.rest
+    (subst (λ xs. map rested xs ≡ xs) (sym (c.in_ok-hand_up.ensures.none (c.handed_up-body.ensures.none other)))
+    c.requires.ready.rest)

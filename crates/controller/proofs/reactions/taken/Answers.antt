@@ -1,6 +1,7 @@
 use Rattle.std.proofs.Common.{◌+◌, sym, subst}
 use Rattle.hop_reliable.specs.Hop.{handed_up_of, heard_as}
 use Rattle.mesh_rules.specs.Events.{on_first}
+use Rattle.rsvp_messages.specs.Packets.{packet_read}
 use Rattle.control_channels.specs.Adjacencies.{hop_at}
 use Rattle.control_channels.specs.Controllers.{acks_to, heard_hops}
 use Rattle.control_channels.specs.ReadyControllers.{IsKept}
@@ -10,58 +11,58 @@ use Rattle.control_channels.proofs.NearFrames.{acks-near, made-near}
 use Rattle.control_channels.proofs.Keeping.{heard-again, heard-answered, heard-sent, kept-next}
 use Rattle.controller.proofs.reactions.taken.Goals as goal
 
-pub take_packet-requires-clause-reached : goal.take_packet-requires-clause-reached
-take_packet-requires-clause-reached c = c.requires.ready.reached c.args.from c.requires.from
+pub take_read-requires-clause-reached : goal.take_read-requires-clause-reached
+take_read-requires-clause-reached c = c.requires.ready.reached c.args.from c.requires.from
 
 pub returns-clause-kept : goal.returns-clause-kept
 returns-clause-kept c = λ k kept.
     let n = c.args.node.now in
     let before = c.args.adjacencies.now in
-    let heard = heard_as (hop_at before c.args.from.0) c.args.packet in
-    subst (λ p. IsKept p c.take_packet.new.adjacencies (k + 1)) (sym c.in_ok-take_packet.ensures.becomes.place)
-    (kept-next n.place before c.take_packet.new.adjacencies k (heard_hops (hop_at before) c.args.from c.args.packet)
-    (on_first n.place n.state c.args.from (handed_up_of heard c.args.packet)) kept
-    (heard-sent (hop_at before) c.args.from c.args.packet)
-    (heard-again (hop_at before) c.args.from c.args.packet kept.again)
-    (heard-waits (hop_at before) c.args.from c.args.packet kept.waiting)
-    (heard-answered n.place n.state c.args.from heard c.args.packet c.fits.ensures.place c.fits.ensures.state
+    let heard = heard_as (hop_at before c.args.from.0) (packet_read c.args.packet) in
+    subst (λ p. IsKept p c.take_read.new.adjacencies (k + 1)) (sym c.in_ok-take_read.ensures.becomes.place)
+    (kept-next n.place before c.take_read.new.adjacencies k (heard_hops (hop_at before) c.args.from (packet_read c.args.packet))
+    (on_first n.place n.state c.args.from (handed_up_of heard (packet_read c.args.packet))) kept
+    (heard-sent (hop_at before) c.args.from (packet_read c.args.packet))
+    (heard-again (hop_at before) c.args.from (packet_read c.args.packet) kept.again)
+    (heard-waits (hop_at before) c.args.from (packet_read c.args.packet) kept.waiting)
+    (heard-answered n.place n.state c.args.from heard (packet_read c.args.packet) c.fits.ensures.place c.fits.ensures.state
     c.requires.body)
-    c.in_ok-take_packet.ensures.becomes.hops c.in_ok-take_packet.ensures.becomes.peers
-    c.in_ok-take_packet.ensures.becomes.rest)
+    c.in_ok-take_read.ensures.becomes.hops c.in_ok-take_read.ensures.becomes.peers
+    c.in_ok-take_read.ensures.becomes.rest)
 
 pub returns-clause-near : goal.returns-clause-near
 returns-clause-near c =
     let n = c.args.node.now in
     let before = c.args.adjacencies.now in
-    let heard = heard_as (hop_at before c.args.from.0) c.args.packet in
-    made-near n.place n.place.id (acks_to c.args.from heard c.args.packet)
-    (heard_hops (hop_at before) c.args.from c.args.packet)
-    (on_first n.place n.state c.args.from (handed_up_of heard c.args.packet)) c.list-frames.result.items
-    c.take_packet.new.frames.items
-    (acks-near n.place c.args.from heard c.args.packet c.requires.from)
-    (heard-answered n.place n.state c.args.from heard c.args.packet c.fits.ensures.place c.fits.ensures.state
+    let heard = heard_as (hop_at before c.args.from.0) (packet_read c.args.packet) in
+    made-near n.place n.place.id (acks_to c.args.from heard (packet_read c.args.packet))
+    (heard_hops (hop_at before) c.args.from (packet_read c.args.packet))
+    (on_first n.place n.state c.args.from (handed_up_of heard (packet_read c.args.packet))) c.list-frames.result.items
+    c.take_read.new.frames.items
+    (acks-near n.place c.args.from heard (packet_read c.args.packet) c.requires.from)
+    (heard-answered n.place n.state c.args.from heard (packet_read c.args.packet) c.fits.ensures.place c.fits.ensures.state
     c.requires.body)
-    c.list-frames.ensures c.in_ok-take_packet.ensures.frames
+    c.list-frames.ensures c.in_ok-take_read.ensures.frames
 
 pub returns-clause-few : goal.returns-clause-few
 returns-clause-few c =
     let n = c.args.node.now in
     let before = c.args.adjacencies.now in
-    let heard = heard_as (hop_at before c.args.from.0) c.args.packet in
-    frames-few n.place n.place.id (acks_to c.args.from heard c.args.packet)
-    (heard_hops (hop_at before) c.args.from c.args.packet)
-    (on_first n.place n.state c.args.from (handed_up_of heard c.args.packet)) c.list-frames.result.items
-    c.take_packet.new.frames.items
-    (acks-few c.args.from heard c.args.packet)
-    (heard-answered n.place n.state c.args.from heard c.args.packet c.fits.ensures.place c.fits.ensures.state
+    let heard = heard_as (hop_at before c.args.from.0) (packet_read c.args.packet) in
+    frames-few n.place n.place.id (acks_to c.args.from heard (packet_read c.args.packet))
+    (heard_hops (hop_at before) c.args.from (packet_read c.args.packet))
+    (on_first n.place n.state c.args.from (handed_up_of heard (packet_read c.args.packet))) c.list-frames.result.items
+    c.take_read.new.frames.items
+    (acks-few c.args.from heard (packet_read c.args.packet))
+    (heard-answered n.place n.state c.args.from heard (packet_read c.args.packet) c.fits.ensures.place c.fits.ensures.state
     c.requires.body)
-    c.list-frames.ensures c.in_ok-take_packet.ensures.frames
+    c.list-frames.ensures c.in_ok-take_read.ensures.frames
 
 pub returns-clause-learnt : goal.returns-clause-learnt
 returns-clause-learnt c =
     let n = c.args.node.now in
-    let heard = heard_as (hop_at c.args.adjacencies.now c.args.from.0) c.args.packet in
-    same-learnt n.state c.take_packet.new.node.state
-    (on_first n.place n.state c.args.from (handed_up_of heard c.args.packet))
-    (first-learns_nothing n.place n.state c.args.from (handed_up_of heard c.args.packet))
-    c.in_ok-take_packet.ensures.becomes.state
+    let heard = heard_as (hop_at c.args.adjacencies.now c.args.from.0) (packet_read c.args.packet) in
+    same-learnt n.state c.take_read.new.node.state
+    (on_first n.place n.state c.args.from (handed_up_of heard (packet_read c.args.packet)))
+    (first-learns_nothing n.place n.state c.args.from (handed_up_of heard (packet_read c.args.packet)))
+    c.in_ok-take_read.ensures.becomes.state
