@@ -11,9 +11,9 @@ use Rattle.mesh_nodes.specs.Order.{CallsRise}
 use Rattle.mesh_nodes.proofs.CallList.{all-calls_found, found-number}
 use Rattle.node_calls.specs.declared.lsp_index.LspOfCall.{LspOfCall}
 use Rattle.node_calls.specs.CallLists.{lesser}
-use Rattle.node_calls.specs.LspIndexes.{IsFirstCall, IsIndexOf, has_entry, has_lsp, is_entry, is_same}
+use Rattle.node_calls.specs.LspIndexes.{IsFirstCall, IsIndexOf, has_entry, has_lsp, is_entry, is_same, option_order}
 use Rattle.node_calls.specs.CallTables.{number_of}
-use Rattle.node_calls.proofs.LspOrder.{entry-eq, option_order}
+use Rattle.node_calls.proofs.LspOrder.{entry-eq}
 
 -- no call passes, or this is the least number of those that do
 abbrev pub IsLeast : (CallRec → Bool) → List CallRec → Option CallNo → Type 0

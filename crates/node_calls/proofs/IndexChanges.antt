@@ -4,10 +4,10 @@ use Rattle.std.specs.Prelude.{◌||◌, ◌&&◌, Option}
 use Rattle.ason_base.specs.declared.ids.CallNo.{CallNo}
 use Rattle.ason_base.specs.declared.ids.Lsp.{Lsp}
 use Rattle.node_calls.specs.declared.lsp_index.LspOfCall.{LspOfCall}
-use Rattle.node_calls.specs.LspIndexes.{HasJust, HasNone, IndexRises, IsSet, IsTakenOff, has_entry, is_entry, is_same, without_entry}
+use Rattle.node_calls.specs.LspIndexes.{HasJust, HasNone, IndexRises, IsSet, IsTakenOff, has_entry, is_entry, is_same, without_entry, option_order}
 use Rattle.node_calls.proofs.LspIndex.{any-without}
 use Rattle.ason_base.proofs.KeyOrder.{same_number-eq}
-use Rattle.node_calls.proofs.LspOrder.{option_order, same-sym}
+use Rattle.node_calls.proofs.LspOrder.{same-sym}
 
 pub number-sym : (a b : ℕ) → nat_eq a b ≡ nat_eq b a
 number-sym a b = grind arith

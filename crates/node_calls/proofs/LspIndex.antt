@@ -7,10 +7,10 @@ use Rattle.ason_base.proofs.KeyedLists.{all-then, pairs-head, pairs-tail}
 use Rattle.ason_base.specs.declared.ids.CallNo.{CallNo}
 use Rattle.ason_base.specs.declared.ids.Lsp.{Lsp}
 use Rattle.node_calls.specs.declared.lsp_index.LspOfCall.{LspOfCall}
-use Rattle.node_calls.specs.LspIndexes.{IndexRises, IsFirstCall, call_there, entry_order, has_entry, is_before, is_earlier, is_entry, is_from, is_same, without_entry}
+use Rattle.node_calls.specs.LspIndexes.{IndexRises, IsFirstCall, call_there, entry_order, has_entry, is_before, is_earlier, is_entry, is_from, is_same, without_entry, option_order}
 use Rattle.table_lists.proofs.Halved.{negated_false}
 use Rattle.table_lists.proofs.KeyedPlaces.{new-inserted, none-found, put_rises}
-use Rattle.node_calls.proofs.LspOrder.{entry-eq, from-not, option_order, same-sym}
+use Rattle.node_calls.proofs.LspOrder.{entry-eq, from-not, same-sym}
 
 -- An entry more
 

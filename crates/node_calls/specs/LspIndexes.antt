@@ -4,9 +4,9 @@ use Rattle.std.specs.List.{AllByRecursion, list_any}
 use Rattle.ason_base.specs.declared.ids.CallNo.{CallNo}
 use Rattle.ason_base.specs.declared.ids.Lsp.{Lsp}
 use Rattle.ason_base.specs.declared.tables.CallRec.{CallRec}
-use Rattle.ason_base.specs.InOrder.{IsKeyOrder, RisesBy, option_before, same_option}
+use Rattle.ason_base.specs.InOrder.{IsKeyOrder, RisesBy, same_option}
 use Rattle.ason_base.specs.Lsps.{lsp_before, same_lsp}
-use Rattle.ason_base.proofs.KeyOrder.{by_key, by_option, by_parts, number_order}
+use Rattle.ason_base.proofs.KeyOrder.{by_key, by_parts, number_order}
 use Rattle.ason_base.proofs.LspOrder.{lsp_order}
 use Rattle.mesh_rules.specs.Calls.{find_call}
 use Rattle.node_calls.specs.declared.lsp_index.LspOfCall.{LspOfCall}
@@ -16,9 +16,40 @@ use Rattle.node_calls.specs.declared.lsp_index.LspOfCall.{LspOfCall}
 abbrev pub is_same : Option Lsp → Option Lsp → Bool
 is_same = same_option same_lsp
 
--- a call without an LSP comes before those with one
+-- a call without an LSP comes behind those with one
 abbrev pub is_earlier : Option Lsp → Option Lsp → Bool
-is_earlier = option_before lsp_before
+is_earlier (Some a) (Some b) = lsp_before a b
+is_earlier (Some a) None = true
+is_earlier None b = false
+
+-- one LSP, or none, is before another, or they are the same
+pub option_order : IsKeyOrder is_same is_earlier
+option_order = record { itself = itself; one = one; never = never; through = through; total = total } where
+  itself : (a : Option Lsp) → is_same a a ≡ true
+  itself None = refl
+  itself (Some a) = lsp_order.itself a
+
+  one : (a b : Option Lsp) → is_same a b ≡ true → a ≡ b
+  one None None e = refl
+  one None (Some b) e = absurd (cc e)
+  one (Some a) None e = absurd (cc e)
+  one (Some a) (Some b) e = λ i. Some (lsp_order.one a b e i)
+
+  never : (a : Option Lsp) → is_earlier a a ≡ false
+  never None = refl
+  never (Some a) = lsp_order.never a
+
+  through : (a b c : Option Lsp) → is_earlier a b ≡ true → is_earlier b c ≡ true → is_earlier a c ≡ true
+  through (Some a) (Some b) (Some c) e f = lsp_order.through a b c e f
+  through (Some a) (Some b) None e f = refl
+  through (Some a) None c e f = absurd (cc f)
+  through None b c e f = absurd (cc e)
+
+  total : (a b : Option Lsp) → is_same b a ≡ false → is_earlier a b ≡ false → is_earlier b a ≡ true
+  total None None e f = absurd (cc e)
+  total None (Some b) e f = refl
+  total (Some a) None e f = absurd (cc f)
+  total (Some a) (Some b) e f = lsp_order.total a b e f
 
 abbrev pub is_before : LspOfCall → LspOfCall → Bool
 is_before a b = is_earlier a.lsp b.lsp || (is_same a.lsp b.lsp && nat_lt a.call.0 b.call.0)
@@ -30,7 +61,7 @@ is_same_entry a b = is_same a.lsp b.lsp && a.call.0 == b.call.0
 pub entry_order : IsKeyOrder is_same_entry is_before
 entry_order =
     by_key (λ (e : LspOfCall). (e.lsp, e.call.0)) (λ k. record { lsp = k.0; call = record { 0 = k.1 } }) (λ e. refl)
-    (by_parts (by_option lsp_order) number_order)
+    (by_parts option_order number_order)
 
 abbrev pub IndexRises : List LspOfCall → Type 0
 IndexRises es = RisesBy is_before es

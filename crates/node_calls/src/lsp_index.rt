@@ -24,11 +24,12 @@ fn is_same(a: Option<Lsp>, b: Option<Lsp>) -> bool
     }
 }
 
+// A call without an LSP comes behind those with one, so that where it comes or goes they don't move.
 fn is_earlier(a: Option<Lsp>, b: Option<Lsp>) -> bool
     ensures { result ≡ is_earlier a b }
 {
     match (a, b) {
-        (None, Some(_)) => true,
+        (Some(_), None) => true,
         (Some(a), Some(b)) => a < b,
         _ => false,
     }
