@@ -139,7 +139,8 @@ fn refill(out: &mut Out, backlog: &mut Parcels)
     }
 }
 
-// A look at both ends of a ring: what stood there came out of it, and what waited stands there. Most often nothing did.
+// A look at both ends of a ring: what stands there is known. Where parcels waited, what stood there came out of it, and
+// they stand there. Most often none did.
 fn hand_over(out: &mut Out, backlog: &mut Parcels, into: &mut Into, early: &mut Parcels)
     requires pair { IsPair out.old into.old }
     requires few { length early.old + length (sent out.old ++ backlog.old) ≤ 256 + length (received into.old) }
@@ -152,19 +153,15 @@ fn hand_over(out: &mut Out, backlog: &mut Parcels, into: &mut Into, early: &mut 
     ensures none { backlog.new ≡ [] }
     ensures gone { sent out.new ≡ sent out.old ++ backlog.old }
     ensures whole { received into.new ++ known_items into.new ≡ sent out.new }
-    ensures came { received into.new ≡ sent out.old }
     ensures early_few { length early.new ≤ 256 }
     ensures early { (more : List Parcel) × (early.new ≡ early.old ++ more) ×
         (received into.old ++ more ≡ received into.new) }
 {
-    let slots = into.slots_beside(out);
-    if slots == 0 && backlog.is_empty() {
-        return;
-    }
-    take_in(into, early);
+    into.slots_beside(out);
     if backlog.is_empty() {
         return;
     }
+    take_in(into, early);
     out.slots_beside(into);
     refill(out, backlog);
     into.slots_beside(out);
