@@ -1,3 +1,4 @@
+pub mod AtRest
 pub mod FloodCounts
 pub mod FloodKept
 pub mod Reacting

@@ -4,6 +4,7 @@
 pub mod controller;
 mod floods;
 mod reactions;
+mod resting;
 
 pub use control_channels::{Adjacency, CoreInput, Frame, Frames, Pending};
 pub use controller::Controller;

@@ -21,6 +21,7 @@ ghost use Rattle.control_channels.specs.Frames.{AllSpelled, frames_to};
 ghost use Rattle.control_channels.specs.ReadyControllers.{AllToNeighbours, FloodFits, IsFromNeighbour, IsKept, IsReady};
 
 use crate::floods::take_flood;
+use crate::resting::is_at_rest;
 use ason_base::{Copied, DecodeError, DeskItem, Msg, NodeId, OutOfMemory, Packet};
 use channel_frames::{Body, body_of};
 use control_channels::adjacencies::{
@@ -376,7 +377,7 @@ fn handle(
     Ok(frames)
 }
 
-// Messages go again, then rows, then what the rule of a tick sends.
+// Messages go again, then rows, then what the rule of a tick sends. At rest nothing does, and nothing changes.
 fn tick(
     maker: &mut FrameMaker,
     node: &mut Node,
@@ -401,8 +402,11 @@ fn tick(
 {
     node.fits();
     flood.counts();
-    let me = node.id();
     let mut frames = maker.list();
+    if is_at_rest(node, adjacencies, flood) {
+        return Ok(frames);
+    }
+    let me = node.id();
     frame_due(maker, me, adjacencies, &mut frames)?;
     frame_floods_due(maker, me, flood, &mut frames)?;
     give(maker, node, adjacencies, &mut frames, &Input::Tick)?;

@@ -41,7 +41,8 @@ pub returns-in-Ok-clause-noise : goal.returns-in-Ok-clause-noise
 returns-in-Ok-clause-noise c =
     let behind : c.args.bytes.now ≡ 46 ∷ c.in-Some-Message.body.now =
     subst (IsBody c.args.bytes.now) c.in-Some-Message.field-0-is c.in-Some-Message.ensures.some in
-    λ none. absurd (none (Message (packet_read c.in-Ok.packet)) (c.in-Some-Message.body.now, behind, c.in-Ok.ensures.found))
+    λ none. absurd (none (Message (packet_read c.in-Ok.packet))
+    (c.in-Some-Message.body.now, behind, c.in-Ok.ensures.found))
 
 pub returns-in-Ok-clause-one : goal.returns-in-Ok-clause-one
 returns-in-Ok-clause-one c =

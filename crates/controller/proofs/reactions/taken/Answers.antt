@@ -20,13 +20,14 @@ returns-clause-kept c = λ k kept.
     let before = c.args.adjacencies.now in
     let heard = heard_as (hop_at before c.args.from.0) (packet_read c.args.packet) in
     subst (λ p. IsKept p c.take_read.new.adjacencies (k + 1)) (sym c.in_ok-take_read.ensures.becomes.place)
-    (kept-next n.place before c.take_read.new.adjacencies k (heard_hops (hop_at before) c.args.from (packet_read c.args.packet))
+    (kept-next n.place before c.take_read.new.adjacencies k
+    (heard_hops (hop_at before) c.args.from (packet_read c.args.packet))
     (on_first n.place n.state c.args.from (handed_up_of heard (packet_read c.args.packet))) kept
     (heard-sent (hop_at before) c.args.from (packet_read c.args.packet))
     (heard-again (hop_at before) c.args.from (packet_read c.args.packet) kept.again)
     (heard-waits (hop_at before) c.args.from (packet_read c.args.packet) kept.waiting)
-    (heard-answered n.place n.state c.args.from heard (packet_read c.args.packet) c.fits.ensures.place c.fits.ensures.state
-    c.requires.body)
+    (heard-answered n.place n.state c.args.from heard (packet_read c.args.packet) c.fits.ensures.place
+    c.fits.ensures.state c.requires.body)
     c.in_ok-take_read.ensures.becomes.hops c.in_ok-take_read.ensures.becomes.peers
     c.in_ok-take_read.ensures.becomes.rest)
 
@@ -40,8 +41,8 @@ returns-clause-near c =
     (on_first n.place n.state c.args.from (handed_up_of heard (packet_read c.args.packet))) c.list-frames.result.items
     c.take_read.new.frames.items
     (acks-near n.place c.args.from heard (packet_read c.args.packet) c.requires.from)
-    (heard-answered n.place n.state c.args.from heard (packet_read c.args.packet) c.fits.ensures.place c.fits.ensures.state
-    c.requires.body)
+    (heard-answered n.place n.state c.args.from heard (packet_read c.args.packet) c.fits.ensures.place
+    c.fits.ensures.state c.requires.body)
     c.list-frames.ensures c.in_ok-take_read.ensures.frames
 
 pub returns-clause-few : goal.returns-clause-few
@@ -54,8 +55,8 @@ returns-clause-few c =
     (on_first n.place n.state c.args.from (handed_up_of heard (packet_read c.args.packet))) c.list-frames.result.items
     c.take_read.new.frames.items
     (acks-few c.args.from heard (packet_read c.args.packet))
-    (heard-answered n.place n.state c.args.from heard (packet_read c.args.packet) c.fits.ensures.place c.fits.ensures.state
-    c.requires.body)
+    (heard-answered n.place n.state c.args.from heard (packet_read c.args.packet) c.fits.ensures.place
+    c.fits.ensures.state c.requires.body)
     c.list-frames.ensures c.in_ok-take_read.ensures.frames
 
 pub returns-clause-learnt : goal.returns-clause-learnt

@@ -9,12 +9,23 @@ use Rattle.control_channels.specs.Adjacencies.{again_to, hop_at}
 use Rattle.control_channels.specs.Controllers.{floods_to}
 use Rattle.control_channels.specs.Frames.{Sending}
 use Rattle.control_channels.proofs.Counting.{made-few, older-waits}
+use Rattle.controller.proofs.AtRest.{rested-made, told-ticked}
 use Rattle.controller.proofs.FloodCounts.{first-few, floods-near}
 use Rattle.controller.proofs.FloodKept.{fits-ticked}
 use Rattle.control_channels.proofs.NearFrames.{again-near, made-to_neighbours}
 use Rattle.control_channels.proofs.Keeping.{made-kept, older-again, tick-sent}
 use Rattle.controller.proofs.Taking.{ticked-made}
 use Rattle.controller.proofs.reactions.tick.Goals as goal
+
+pub returns-then-is_at_rest-clause-made : goal.returns-then-is_at_rest-clause-made
+returns-then-is_at_rest-clause-made c =
+    rested-made c.args.node.now c.args.adjacencies.now c.args.flood.now c.list-frames.result.items
+    (c.is_at_rest.ensures.node c.if-is_at_rest.true) (c.is_at_rest.ensures.hops c.if-is_at_rest.true)
+    (c.is_at_rest.ensures.rows c.if-is_at_rest.true) c.requires.ready.rest c.list-frames.ensures
+
+pub returns-then-is_at_rest-clause-flood : goal.returns-then-is_at_rest-clause-flood
+returns-then-is_at_rest-clause-flood c =
+    told-ticked c.args.flood.now (c.is_at_rest.ensures.rows c.if-is_at_rest.true)
 
 pub frame_floods_due-requires : goal.frame_floods_due-requires
 frame_floods_due-requires c = c.requires.fits.due
