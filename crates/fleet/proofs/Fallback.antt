@@ -1,5 +1,5 @@
 -- A link, so that there are some links for whatever network: it stands where no channel leads.
-use Rattle.std.proofs.Common.{[], refl, arith}
+use Rattle.std.proofs.Common.{false, [], refl, arith}
 use denote.RawPtr.{null_ptr}
 use Rattle.std.specs.declared.alloc.Global.{Global}
 use Rattle.rtrb.specs.declared.consumer.Consumer.{Consumer}
@@ -49,6 +49,7 @@ some_consumer alloc =
 pub some-link : Global → LinkState
 some-link alloc = record {
   peer = record { 0 = 0 };
+  used = false;
   sent = 0;
   standing = 0;
   out = some_producer alloc;

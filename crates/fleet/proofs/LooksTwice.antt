@@ -26,6 +26,7 @@ use Rattle.fleet.proofs.Places.{zip-self, zip-twice}
 looked_twice : (a b c x y z : LinkState) → IsLooked a b x y → IsLooked b c y z → IsLooked a c x z
 looked_twice a b c x y z p q = record {
   peer = q.peer ∙ p.peer;
+  unused = q.unused;
   sent = q.sent ∙ p.sent;
   gone = q.gone ∙ p.gone;
   backlog = q.backlog;

@@ -64,8 +64,10 @@ pub zip-by-index : {X : Type 0} (R : X → X → Type 0) (xs ys : List X) → le
 zip-by-index R [] [] count each = tt
 zip-by-index R [] (y ∷ ys) count each = absurd (omega (arith, count))
 zip-by-index R (x ∷ xs) [] count each = absurd (omega (arith, count))
-zip-by-index R (x ∷ xs) (y ∷ ys) count each =
-    (each 0 x (omega arith), zip-by-index R xs ys (omega (arith, count)) (λ k d below. each (suc k) d (omega (arith, below))))
+zip-by-index R (x ∷ xs) (y ∷ ys) count each = (
+  each 0 x (omega arith),
+  zip-by-index R xs ys (omega (arith, count)) (λ k d below. each (suc k) d (omega (arith, below))),
+)
 
 -- one item is another
 pub zip-set : {X : Type 0} (R : X → X → Type 0) → ((x : X) → R x x) → (xs : List X) (place : ℕ) (x y : X) →

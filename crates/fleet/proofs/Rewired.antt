@@ -58,14 +58,14 @@ rewired t w ys valid counts =
 
 -- Turns
 
-abbrev LinksMoved : StationState → StationState → Type 0
+abbrev pub LinksMoved : StationState → StationState → Type 0
 LinksMoved x y = AllZip HasMoved x.links y.links
 
 -- the links of a channel after turns
-link_moved : (t : Network) (w v : Wires) (xs ys : List StationState) → AllZip (HasLinks t w) (ids_of t) xs →
+pub link-moved : (t : Network) (w v : Wires) (xs ys : List StationState) → AllZip (HasLinks t w) (ids_of t) xs →
     AllZip (HasLinks t v) (ids_of t) ys → AllZip LinksMoved xs ys → (u d : NodeId) → is_channel t u d ≡ true →
     HasMoved (w u.0 d.0) (v u.0 d.0)
-link_moved t w v xs ys before after moved u d channel =
+link-moved t w v xs ys before after moved u d channel =
     zip-at HasMoved x.0.links y.0.links near.0 (w u.0 d.0) (v u.0 d.0) y.2
     (ap (λ ls. slice_get ls near.0) x.2 ∙ get-map (λ (k : NodeId). w u.0 k.0) (neighbours t u) near.0 d near.1)
     (ap (λ ls. slice_get ls near.0) has ∙ get-map (λ (k : NodeId). v u.0 k.0) (neighbours t u) near.0 d near.1)
@@ -125,8 +125,8 @@ moved-connected t seats xs ys all moved = record {
     links = now.1;
     rings = λ u d channel.
         ring_moved all.wires now.0 u d
-        (link_moved t all.wires now.0 xs ys all.wired.links now.1 moved u d channel)
-        (link_moved t all.wires now.0 xs ys all.wired.links now.1 moved d u (channel-back t u d channel))
+        (link-moved t all.wires now.0 xs ys all.wired.links now.1 moved u d channel)
+        (link-moved t all.wires now.0 xs ys all.wired.links now.1 moved d u (channel-back t u d channel))
         (all.wired.rings u d channel);
   };
 }
@@ -145,8 +145,8 @@ turned-connected t seats stride xs ys all turned =
     moved-connected t seats xs ys all (zip-more (MakesTurns stride) LinksMoved
     (λ x y made. turns-moved stride true x y y.answer made) xs ys turned)
 
-still_moved : (s : StationState) → LinksMoved s s
-still_moved s = zip-self HasMoved (λ l. (moved-none l).0) s.links
+pub still-moved : (s : StationState) → LinksMoved s s
+still-moved s = zip-self HasMoved (λ l. (moved-none l).0) s.links
 
 -- So it does after the turns of one station.
 pub turn-connected : (t : Network) (seats : List Seat) (xs : List StationState) (place stride : ℕ)
@@ -154,4 +154,4 @@ pub turn-connected : (t : Network) (seats : List Seat) (xs : List StationState) 
     AreConnected t seats (slice_set xs place y)
 turn-connected t seats xs place stride x y all at made =
     moved-connected t seats xs (slice_set xs place y) all
-    (zip-set LinksMoved still_moved xs place x y at (turns-moved stride true x y y.answer made))
+    (zip-set LinksMoved still-moved xs place x y at (turns-moved stride true x y y.answer made))

@@ -1,15 +1,17 @@
 -- Fleets whose rings were all looked at since they were last used.
-use Rattle.std.proofs.Common.{◌≡◌, ℕ, Bool, true, false, nat_eq, List, [], ◌∷◌, map, refl, sym, ap, ◌∙◌, append-nil}
+use Rattle.std.proofs.Common.{◌≡◌, ◌+◌, ℕ, Bool, true, false, nat_eq, List, [], ◌∷◌, ◌++◌, length, map, refl, sym, ap, ◌∙◌}
+use Rattle.std.proofs.Common.{append-nil}
 use Rattle.std.proofs.Common.{inl, inr}
 use Rattle.std.specs.Prelude.{Some, slice_get, slice_set}
 use Rattle.std.specs.List.{AllZip, Contains}
-use Rattle.rtrb.specs.Ring.{received}
+use Rattle.rtrb.specs.Ring.{received, sent}
 use Rattle.ason_base.specs.declared.ids.NodeId.{NodeId}
 use Rattle.ason_base.specs.Network.{Network}
 use Rattle.ason_base.proofs.Ordered.{contains-head, contains-tail}
 use Rattle.flood.proofs.Members.{place_of}
+use Rattle.hop_reliable.proofs.Members.{each-get}
 use Rattle.world_rules.specs.WorldRuns.{is_channel, neighbours}
-use Rattle.station_rings.specs.LinkStates.{IsLooked, LinkState}
+use Rattle.station_rings.specs.LinkStates.{IsLooked, IsStill, LinkState}
 use Rattle.station_doings.specs.Moves.{peers_of}
 use Rattle.station_doings.specs.States.{StationState}
 use Rattle.round_rules.specs.OneWorker.{ids_of}
@@ -19,19 +21,22 @@ use Rattle.fleet_rounds.proofs.Nodes.{channel-back, channel-near, joins-nodes, n
 use Rattle.fleet_rounds.proofs.Numbers.{same_number}
 use Rattle.fleet.specs.declared.seats.Seat.{Seat}
 use Rattle.fleet.specs.Connections.{AreConnected, AreSettled, HaveSeats}
-use Rattle.fleet.specs.Looks.{HaveLooked, IsAny, IsAround, LooksOver, Pairs}
+use Rattle.fleet.specs.Looks.{HaveLooked, IsAny, IsAround, LooksOver, Pairs, has_used_link}
 use Rattle.fleet.specs.Turning.{MakesTurns}
+use Rattle.fleet.proofs.Firsts.{none-any}
 use Rattle.fleet.proofs.Looked.{kept-self}
 use Rattle.fleet.proofs.LooksTwice.{looked-connected, looked-still, still-looked}
-use Rattle.fleet.proofs.Places.{get-set-elsewhere, zip-at, zip-get, zip-self}
-use Rattle.fleet.proofs.Rewired.{turn-connected}
+use Rattle.fleet.proofs.Places.{get-set-elsewhere, set-there, zip-at, zip-get, zip-self, zip-set}
+use Rattle.fleet.proofs.Rewired.{LinksMoved, link-moved, still-moved, turn-connected}
 use Rattle.fleet.proofs.Seated.{link-near, near-channel}
+use Rattle.fleet.proofs.Turning.{turns-moved}
 
 -- A look after a look
 
 looked_again : (a b x y : LinkState) → IsLooked a x b y → IsLooked x x y y
 looked_again a b x y is = record {
   peer = refl;
+  unused = is.unused;
   sent = refl;
   gone = refl;
   backlog = is.backlog;
@@ -40,6 +45,21 @@ looked_again a b x y is = record {
   early = sym (append-nil y.early);
   came = append-nil (received y.into);
   standing = is.standing;
+}
+
+-- links that stayed still are looked at as they were
+looked_still : (a c b d : LinkState) → IsLooked a a b b → IsStill a c → IsStill b d → c.used ≡ false → IsLooked c c d d
+looked_still a c b d is s k unused = record {
+  peer = refl;
+  unused = unused;
+  sent = refl;
+  gone = refl;
+  backlog = s.backlog ∙ is.backlog;
+  whole = (λ i. k.came i ++ k.known i) ∙ is.whole ∙ sym (λ i. sent (s.out i) ++ s.backlog i);
+  more = [];
+  early = sym (append-nil d.early);
+  came = append-nil (received d.into);
+  standing = s.standing ∙ is.standing ∙ sym (λ i. length (k.early i) + length (k.known i));
 }
 
 again : (w v : Wires) (u d : NodeId) → AreLooked w v u d → AreLooked v v u d
@@ -130,10 +150,9 @@ module _ (seats : List Seat) (xs : List StationState) (all : AreSettled seats xs
         (all.1.looked u d there.0)) (record { there = sym there.1; back = sym back.1 });
   }
 
--- The station at a place made its turns, and its rings were looked at.
-module _ (seats : List Seat) (xs zs : List StationState) (place stride : ℕ) (x y : StationState)
-    (all : AreSettled seats xs) (at : slice_get xs place ≡ Some x) (made : MakesTurns stride x y)
-    (looks : LooksOver seats (IsAround place) (slice_set xs place y) zs) where
+-- The station at a place made its turns.
+module _ (seats : List Seat) (xs : List StationState) (place stride : ℕ) (x y : StationState)
+    (all : AreSettled seats xs) (at : slice_get xs place ≡ Some x) (made : MakesTurns stride x y) where
   abbrev t : Network
   t = all.0
 
@@ -146,54 +165,108 @@ module _ (seats : List Seat) (xs zs : List StationState) (place stride : ℕ) (x
   turned : AreConnected t seats ys
   turned = turn-connected t seats xs place stride x y all.1.connected at made
 
-  now : HaveLooked t turned.wires ys zs (IsAround place t)
-  now = looks t turned turned.wires turned.wired.links
+  place_from : (u d : NodeId) → is_channel t u d ≡ true → (k : ℕ) × (slice_get (ids_of t) k ≡ Some u)
+  place_from u d channel = place_of (ids_of t) u (node-there t u (joins-nodes t u d channel).from)
 
   -- the links of the other stations are as they were
-  still : (k : ℕ) (u d : NodeId) → slice_get (ids_of t) k ≡ Some u → nat_eq k place ≡ false →
+  others_still : (k : ℕ) (u d : NodeId) → slice_get (ids_of t) k ≡ Some u → nat_eq k place ≡ false →
       is_channel t u d ≡ true → turned.wires u.0 d.0 ≡ w u.0 d.0
-  still k u d node other channel =
+  others_still k u d node other channel =
       let s = zip-get (HasLinks t w) (ids_of t) xs k u all.1.links node in
       (one_link t t w turned.wires u d s.0 refl s.2
       (zip-at (HasLinks t turned.wires) (ids_of t) ys k u s.0 turned.wired.links node
       (get-set-elsewhere xs place k y other ∙ s.1)) channel).1
 
-  looked : (u d : NodeId) → is_channel t u d ≡ true → AreLooked now.wires_now now.wires_now u d
-  looked u d channel = go (nat_eq from.0 place) refl (nat_eq to.0 place) refl
-    where
-      from : (k : ℕ) × (slice_get (ids_of t) k ≡ Some u)
-      from = place_of (ids_of t) u (node-there t u (joins-nodes t u d channel).from)
+  module _ (none : has_used_link y ≡ false) where
+    unused : (u d : NodeId) → is_channel t u d ≡ true → (turned.wires u.0 d.0).used ≡ false
+    unused u d channel = go (nat_eq from.0 place) refl
+      where
+        from : (k : ℕ) × (slice_get (ids_of t) k ≡ Some u)
+        from = place_from u d channel
 
-      to : (k : ℕ) × (slice_get (ids_of t) k ≡ Some d)
-      to = place_of (ids_of t) d (node-there t d (joins-nodes t u d channel).to)
+        near : (k : ℕ) × (slice_get (neighbours t u) k ≡ Some d)
+        near = place_of (neighbours t u) d (near-there t u d (channel-back t u d channel))
 
-      there : (k : ℕ) (n : NodeId) → slice_get (ids_of t) k ≡ Some n → nat_eq k place ≡ true →
-          slice_get (ids_of t) place ≡ Some n
-      there k n node same = ap (slice_get (ids_of t)) (sym (same_number k place same)) ∙ node
+        go : (b : Bool) → nat_eq from.0 place ≡ b → (turned.wires u.0 d.0).used ≡ false
+        go true same =
+            let here = ap (slice_get ys) (same_number from.0 place same) ∙ set-there xs place x y at in
+            each-get (λ (l : LinkState). l.used ≡ false) y.links near.0 (turned.wires u.0 d.0)
+            (none-any (λ (l : LinkState). l.used) y.links none)
+            (link-near t turned.wires u d y near.0
+            (zip-at (HasLinks t turned.wires) (ids_of t) ys from.0 u y turned.wired.links from.1 here) near.1)
+        go false other =
+            ap (λ (l : LinkState). l.used) (others_still from.0 u d from.1 other channel)
+            ∙ (all.1.looked u d channel).there.unused
 
-      go : (a : Bool) → nat_eq from.0 place ≡ a → (b : Bool) → nat_eq to.0 place ≡ b →
-          AreLooked now.wires_now now.wires_now u d
-      go true p b q =
-          again turned.wires now.wires_now u d (now.seen u d channel (inl (there from.0 u from.1 p)))
-      go false p true q =
-          again turned.wires now.wires_now u d (now.seen u d channel (inr (there to.0 d to.1 q)))
-      go false p false q = elim (now.ways u d channel) [
-        | inl is ↦
-            again w now.wires_now u d (looked-still w w now.wires_now u d (all.1.looked u d channel) (record {
-              there = is.there ∙ still from.0 u d from.1 p channel;
-              back = is.back ∙ still to.0 d u to.1 q (channel-back t u d channel);
-            }))
-        | inr is ↦ again turned.wires now.wires_now u d is
-      ]
+    still : (u d : NodeId) → is_channel t u d ≡ true → IsStill (w u.0 d.0) (turned.wires u.0 d.0)
+    still u d channel =
+        (link-moved t w turned.wires xs ys all.1.links turned.wired.links
+        (zip-set LinksMoved still-moved xs place x y at (turns-moved stride true x y y.answer made)) u d
+        channel).still (unused u d channel)
 
-  -- All is settled again.
-  pub settled-around : AreSettled seats zs
-  settled-around = (
-    t,
-    record {
-      connected = looked-connected t seats ys zs (IsAround place) turned looks;
-      wires = now.wires_now;
-      links = now.links;
-      looked = looked;
-    },
-  )
+    -- Where it used none of its links all is settled still.
+    pub settled-unused : AreSettled seats ys
+    settled-unused = (
+      t,
+      record {
+        connected = turned;
+        wires = turned.wires;
+        links = turned.wired.links;
+        looked = λ u d channel.
+            let back = channel-back t u d channel in
+            record {
+              ends = (turned.wired.rings u d channel).ends;
+              there =
+                  looked_still (w u.0 d.0) (turned.wires u.0 d.0) (w d.0 u.0) (turned.wires d.0 u.0)
+                  (all.1.looked u d channel).there (still u d channel) (still d u back) (unused u d channel);
+              back =
+                  looked_still (w d.0 u.0) (turned.wires d.0 u.0) (w u.0 d.0) (turned.wires u.0 d.0)
+                  (all.1.looked u d channel).back (still d u back) (still u d channel) (unused d u back);
+            };
+      },
+    )
+
+  -- And its rings were looked at.
+  module _ (zs : List StationState) (looks : LooksOver seats (IsAround place) ys zs) where
+    now : HaveLooked t turned.wires ys zs (IsAround place t)
+    now = looks t turned turned.wires turned.wired.links
+
+    looked : (u d : NodeId) → is_channel t u d ≡ true → AreLooked now.wires_now now.wires_now u d
+    looked u d channel = go (nat_eq from.0 place) refl (nat_eq to.0 place) refl
+      where
+        from : (k : ℕ) × (slice_get (ids_of t) k ≡ Some u)
+        from = place_from u d channel
+
+        to : (k : ℕ) × (slice_get (ids_of t) k ≡ Some d)
+        to = place_from d u (channel-back t u d channel)
+
+        there : (k : ℕ) (n : NodeId) → slice_get (ids_of t) k ≡ Some n → nat_eq k place ≡ true →
+            slice_get (ids_of t) place ≡ Some n
+        there k n node same = ap (slice_get (ids_of t)) (sym (same_number k place same)) ∙ node
+
+        go : (a : Bool) → nat_eq from.0 place ≡ a → (b : Bool) → nat_eq to.0 place ≡ b →
+            AreLooked now.wires_now now.wires_now u d
+        go true p b q =
+            again turned.wires now.wires_now u d (now.seen u d channel (inl (there from.0 u from.1 p)))
+        go false p true q =
+            again turned.wires now.wires_now u d (now.seen u d channel (inr (there to.0 d to.1 q)))
+        go false p false q = elim (now.ways u d channel) [
+          | inl is ↦
+              again w now.wires_now u d (looked-still w w now.wires_now u d (all.1.looked u d channel) (record {
+                there = is.there ∙ others_still from.0 u d from.1 p channel;
+                back = is.back ∙ others_still to.0 d u to.1 q (channel-back t u d channel);
+              }))
+          | inr is ↦ again turned.wires now.wires_now u d is
+        ]
+
+    -- All is settled again.
+    pub settled-around : AreSettled seats zs
+    settled-around = (
+      t,
+      record {
+        connected = looked-connected t seats ys zs (IsAround place) turned looks;
+        wires = now.wires_now;
+        links = now.links;
+        looked = looked;
+      },
+    )

@@ -1,6 +1,6 @@
 -- Looks at the rings of a fleet.
-use Rattle.std.specs.Prelude.{◌≡◌, ◌<◌, ◌==◌, ◌⊎◌, ℕ, true, false, List, Some, slice_get, slice_set}
-use Rattle.std.specs.List.{AllZip}
+use Rattle.std.specs.Prelude.{◌≡◌, ◌<◌, ◌==◌, ◌⊎◌, ℕ, Bool, true, false, List, Some, slice_get, slice_set}
+use Rattle.std.specs.List.{AllZip, list_any}
 use Rattle.ason_base.specs.declared.ids.NodeId.{NodeId}
 use Rattle.ason_base.specs.Network.{Network}
 use Rattle.world_rules.specs.WorldRuns.{is_channel, neighbours}
@@ -40,6 +40,10 @@ pub record HaveMet (place link : ℕ) (e : End) (old new : List StationState) : 
   pub there_now : StationState
   pub looked : StationsAreLooked link here here_now e.link there there_now
   pub stations : new ≡ slice_set (slice_set old place here_now) e.station there_now
+
+-- whether some link of the station was used since it was looked at
+abbrev pub has_used_link : StationState → Bool
+has_used_link s = list_any (λ (l : LinkState). l.used) s.links
 
 -- Of a fleet
 

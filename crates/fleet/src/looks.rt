@@ -1,10 +1,11 @@
 //! Looks at both ends of a ring.
 
-ghost use Rattle.std.specs.Prelude.{◌≡◌, ◌<◌, Some, length, slice_get};
+ghost use Rattle.std.specs.Prelude.{◌≡◌, ◌<◌, Some, false, length, slice_get};
 ghost use Rattle.fleet.specs.declared.seats.Seat.{Seat};
 ghost use Rattle.fleet.specs.Connections.{AreSettled, HaveSeats};
-ghost use Rattle.fleet.specs.Looks.{AreJoined, HaveMet, IsAny, IsAround, IsLinkAt, LooksOver};
+ghost use Rattle.fleet.specs.Looks.{AreJoined, HaveMet, IsAny, IsAround, IsLinkAt, LooksOver, has_used_link};
 ghost use Rattle.fleet.specs.Views.{publishers_of};
+ghost use Rattle.station_doings.specs.States.{StationState};
 
 use crate::seats::{End, Seat};
 use station::Station;
@@ -45,6 +46,21 @@ pub(crate) fn look_around(seats: &[Seat], stations: &mut [Station], place: usize
 {
     for link in 0..seats[place].ends.len() {
         look_over(seats, stations, place, link);
+    }
+}
+
+/// Looks at both ends of each ring of the station at this place, where it used one of its links. Where it used none, no
+/// ring is to be looked at.
+pub(crate) fn look_after(seats: &[Seat], stations: &mut [Station], place: usize)
+    requires seats { HaveSeats seats.now stations.old }
+    requires within { place < length seats.now }
+    requires settled { (s : StationState) → slice_get stations.old place ≡ Some s →
+        has_used_link s ≡ false → AreSettled seats.now stations.old }
+    ensures looks { LooksOver seats.now (IsAround place) stations.old stations.new }
+    ensures publishers { publishers_of stations.new ≡ publishers_of stations.old }
+{
+    if stations[place].has_used_link() {
+        look_around(seats, stations, place);
     }
 }
 

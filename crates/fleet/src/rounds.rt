@@ -10,7 +10,7 @@ ghost use Rattle.fleet.specs.Turning.{fault_after, fault_of, line_count, was_at_
 ghost use Rattle.fleet.specs.Views.{publishers_of};
 
 use crate::fleet::RoundFault;
-use crate::looks::{look_all, look_around};
+use crate::looks::{look_after, look_all};
 use crate::seats::Seat;
 use ason_base::NodeId;
 use ason_io::Gate;
@@ -182,11 +182,11 @@ fn turn_one<G: Gate>(
     ensures fault { result ≡ fault_after station.new.answer node }
     ensures publisher { station.new.publisher ≡ station.old.publisher }
 {
-    station.turns(gate, stride);
+    station.turns_alone(gate, stride);
     fault_after(station.answer(), node)
 }
 
-// The station at this place makes its turns. Its rings are looked at after them.
+// The station at this place makes its turns. Its rings are looked at after them, where it used one of them.
 fn turn_at<G: Gate>(
     seats: &[Seat],
     stations: &mut [Station],
@@ -202,7 +202,7 @@ fn turn_at<G: Gate>(
     ensures publishers { publishers_of stations.new ≡ publishers_of stations.old }
 {
     let fault = turn_one(&mut stations[place], seats[place].id, stride, gate);
-    look_around(seats, stations, place);
+    look_after(seats, stations, place);
     fault
 }
 

@@ -28,16 +28,18 @@ sent-none stamp f l other = record {
   ends = self_ends l;
   into = refl;
   early = refl;
+  same = λ unused. refl;
 }
 
 pub sent-one : (stamp : ℕ) (f : Frame) (l m : LinkState) → is_to f.to l ≡ true →
     view_of m ≡ with_parcel stamp f.bytes (view_of l) → SameEnds l m → m.into ≡ l.into → m.early ≡ l.early →
-    IsSentOver stamp (f ∷ []) l m
-sent-one stamp f l m to view ends into early = record {
+    m.used ≡ true → IsSentOver stamp (f ∷ []) l m
+sent-one stamp f l m to view ends into early used = record {
   view = view ∙ sym (ap (λ b. cond b (with_parcel stamp f.bytes (view_of l)) (view_of l)) to);
   ends = ends;
   into = into;
   early = early;
+  same = λ unused. absurd (cc (used, unused));
 }
 
 -- All links
@@ -118,8 +120,10 @@ nowhere p links none = go (nat_lt (position_or_len p links) (length links)) refl
 -- before any frame
 pub sent-start : (stamp : ℕ) (links : List LinkState) → AllZip (IsSentOver stamp []) links links
 sent-start stamp [] = tt
-sent-start stamp (l ∷ links) =
-    (record { view = refl; ends = self_ends l; into = refl; early = refl }, sent-start stamp links)
+sent-start stamp (l ∷ links) = (
+  record { view = refl; ends = self_ends l; into = refl; early = refl; same = λ unused. refl },
+  sent-start stamp links,
+)
 
 after_more : (stamp : ℕ) (fs : List Frame) (f : Frame) (v : LinkView) →
     after_frames stamp (fs ++ f ∷ []) v ≡ after_frame stamp f (after_frames stamp fs v)
@@ -133,6 +137,8 @@ sent_more stamp fs f l m k a b = record {
   ends = same-ends l m k a.ends b.ends;
   into = b.into ∙ a.into;
   early = b.early ∙ a.early;
+  same = λ unused.
+      let last = b.same unused in last ∙ a.same (ap (λ (x : LinkState). x.used) (sym last) ∙ unused);
 }
 
 -- one frame more

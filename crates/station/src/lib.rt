@@ -8,6 +8,7 @@ mod items;
 mod lines;
 mod links;
 mod noises;
+mod others;
 mod parts;
 mod rings;
 pub mod station;

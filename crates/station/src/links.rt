@@ -2,7 +2,7 @@
 
 ghost use Rattle.std.specs.Prelude.{◌≡◌, ◌+◌, ◌<◌, ◌≤◌, ◌++◌, ◌∷◌, [], MatchOption, Some, length, position};
 ghost use Rattle.std.specs.Prelude.{slice_get, vec_capacity, vec_len};
-ghost use Rattle.std.specs.List.{AllByRecursion, AllZip};
+ghost use Rattle.std.specs.List.{AllByRecursion, AllZip, list_any};
 ghost use Rattle.rtrb.specs.Ring.{known_items};
 ghost use Rattle.station_rings.specs.LinkStates.{IsFetched, IsTaken, LinkState};
 ghost use Rattle.station_doings.specs.Moves.{ArePeersApart, IsChangedAt, IsSentOver, peers_of};
@@ -82,6 +82,13 @@ pub(crate) fn head_at(links: &mut Vec<Link>, place: usize) -> Option<Head>
 {
     let link = &mut links[place];
     link.head()
+}
+
+/// Whether some link was used since it was last looked at.
+pub(crate) fn any_used(links: &[Link]) -> bool
+    ensures { result ≡ list_any (λ (l : LinkState). l.used) links.now }
+{
+    links.iter().any(|link| link.is_used())
 }
 
 /// Takes that frame.

@@ -16,6 +16,7 @@ ghost use Rattle.station.specs.Rings.{GivesTwice, HasTakenAs, HasTakenAt, IsAhea
 use crate::halts::Halt;
 use crate::lines::says;
 use crate::links::{Ahead, head_at, known_at, peer_at, take_at};
+use crate::others::Others;
 use crate::parts::{Parts, enter_frame, enter_last, is_able_for};
 use ason_base::DisturbKind;
 use ason_io::Gate;
@@ -171,8 +172,9 @@ fn take_frame<G: Gate>(parts: &mut Parts, gate: &G, ahead: Ahead) -> Result<(), 
     }
 }
 
-// The frames of the ring at this place are taken until none is found there: 256, and never fewer than were known.
-fn take_ring<G: Gate>(parts: &mut Parts, gate: &G, place: usize) -> Result<(), Halt>
+// The frames of the ring at this place are taken until none is found there: 256, and never fewer than were known. Where
+// the other stations wait, none comes beside those that are known.
+fn take_ring<G: Gate>(parts: &mut Parts, gate: &G, others: Others, place: usize) -> Result<(), Halt>
     requires fit { PartsFit parts.old }
     requires place { place < length parts.old.links.items }
     ensures on { GoesPast result place (state_of parts.old) (state_of parts.new) }
@@ -181,8 +183,12 @@ fn take_ring<G: Gate>(parts: &mut Parts, gate: &G, place: usize) -> Result<(), H
     ensures moves { IsMoving (state_of parts.old) (state_of parts.new) }
     ensures fit { PartsFit parts.new }
 {
+    let known = known_at(&parts.links, place);
+    if known == 0 && others == Others::Waiting {
+        return Ok(());
+    }
     let from = peer_at(&parts.links, place);
-    let count = known_at(&parts.links, place).max(MOST_FRAMES);
+    let count = known.max(MOST_FRAMES);
     for _frame in 0..count {
         match head_at(&mut parts.links, place) {
             None => return Ok(()),
@@ -193,7 +199,7 @@ fn take_ring<G: Gate>(parts: &mut Parts, gate: &G, place: usize) -> Result<(), H
 }
 
 /// The frames of all rings are taken, by neighbour.
-pub(crate) fn take_rings<G: Gate>(parts: &mut Parts, gate: &G) -> Result<(), Halt>
+pub(crate) fn take_rings<G: Gate>(parts: &mut Parts, gate: &G, others: Others) -> Result<(), Halt>
     requires fit { PartsFit parts.old }
     ensures on { Leads result (rings_phase 0) (state_of parts.old) (state_of parts.new) }
     ensures drained { OnOk result (AllZip IsDrained parts.old.links.items parts.new.links.items) }
@@ -202,7 +208,7 @@ pub(crate) fn take_rings<G: Gate>(parts: &mut Parts, gate: &G) -> Result<(), Hal
 {
     let count = parts.links.len();
     for place in 0..count {
-        take_ring(parts, gate, place)?;
+        take_ring(parts, gate, others, place)?;
     }
     Ok(())
 }

@@ -2,7 +2,7 @@
 
 ghost use Rattle.std.specs.Prelude.{◌≡◌, ◌<◌, ◌≤◌, ◌+◌, ◌*◌, ◌^◌, ◌∷◌, ◌++◌, [], ℕ, IfOk, IsSome, IsTrue, OnErr, OnOk};
 ghost use Rattle.std.specs.Prelude.{None, Some, false, length, position, slice_get, true};
-ghost use Rattle.std.specs.List.{AllByRecursion};
+ghost use Rattle.std.specs.List.{AllByRecursion, list_any};
 ghost use Rattle.std.proofs.Props.{props};
 ghost use Rattle.ason_base.specs.Network.{find_node};
 ghost use Rattle.control_channels.specs.Controllers.{ControllerState};
@@ -17,7 +17,8 @@ ghost use Rattle.station.specs.Watched.{IsUnpublished, TellsUpTo, Watches, publi
 ghost use Rattle.channel_frames.specs.Frames.{SpellsNothing};
 
 use crate::desks::Desk;
-use crate::links::{attach, place_of};
+use crate::links::{any_used, attach, place_of};
+use crate::others::Others;
 use crate::parts::Parts;
 use crate::watching::{WatchFault, table_of};
 use crate::{noises, turning};
@@ -118,7 +119,16 @@ impl Station {
         ensures answer { self.new.answer ≡ result }
         ensures publisher { self.new.publisher ≡ self.old.publisher }
     {
-        turning::turn(&mut self.parts, gate, tick)
+        self.turn_beside(gate, Others::Working, tick)
+    }
+
+    // One turn, while the other stations do this.
+    fn turn_beside<G: Gate>(&mut self, gate: &G, others: Others, tick: bool) -> Turn
+        ensures made { HasMadeTurn tick self.old self.new result }
+        ensures answer { self.new.answer ≡ result }
+        ensures publisher { self.new.publisher ≡ self.old.publisher }
+    {
+        turning::turn(&mut self.parts, gate, others, tick)
     }
 
     /// So many turns, the first with a tick. The first that doesn't come to its end is the last; what the last one
@@ -128,21 +138,30 @@ impl Station {
         ensures turns { HaveMadeTurns stride true self.old self.new self.new.answer }
         ensures publisher { self.new.publisher ≡ self.old.publisher }
     {
-        self.turns_from(gate, stride, true);
+        self.turns_from(gate, Others::Working, stride, true);
     }
 
-    // So many turns.
-    fn turns_from<G: Gate>(&mut self, gate: &G, count: u32, tick: bool)
+    /// The same, while no other station works: what isn't known to stand in its rings isn't looked for.
+    pub fn turns_alone<G: Gate>(&mut self, gate: &G, stride: u32)
+        requires { 0 < stride }
+        ensures turns { HaveMadeTurns stride true self.old self.new self.new.answer }
+        ensures publisher { self.new.publisher ≡ self.old.publisher }
+    {
+        self.turns_from(gate, Others::Waiting, stride, true);
+    }
+
+    // So many turns, while the other stations do this.
+    fn turns_from<G: Gate>(&mut self, gate: &G, others: Others, count: u32, tick: bool)
         requires { 0 < count }
         ensures turns { HaveMadeTurns count tick self.old self.new self.new.answer }
         ensures publisher { self.new.publisher ≡ self.old.publisher }
     {
-        let ended = match self.turn(gate, tick) {
+        let ended = match self.turn_beside(gate, others, tick) {
             Turn::Worked(_) | Turn::Idle => true,
             Turn::AtLimit | Turn::Starved => false,
         };
         if ended && count > 1 {
-            self.turns_from(gate, count - 1, false);
+            self.turns_from(gate, others, count - 1, false);
         }
     }
 
@@ -203,6 +222,13 @@ impl Station {
         ensures few { result ≤ 50000 * 2 ^ 40 }
     {
         self.parts.links[place].sent()
+    }
+
+    /// Whether some link was used since it was last looked at: frames were sent or taken over it, or came out of its ring.
+    pub fn has_used_link(&self) -> bool
+        ensures { result ≡ list_any (λ (l : LinkState). l.used) self.now.links }
+    {
+        any_used(&self.parts.links)
     }
 
     /// How many links there are.

@@ -12,6 +12,7 @@ ghost use Rattle.station.specs.Turning.{answer_of, worked};
 use crate::dues::free_due;
 use crate::halts::Halt;
 use crate::items::handle_desk;
+use crate::others::Others;
 use crate::parts::Parts;
 use crate::rings::take_rings;
 use crate::ticks;
@@ -19,7 +20,7 @@ use ason_io::Gate;
 use station_doings::Turn;
 
 // The parts of a turn.
-fn work<G: Gate>(parts: &mut Parts, gate: &G, tick: bool) -> Result<(), Halt>
+fn work<G: Gate>(parts: &mut Parts, gate: &G, others: Others, tick: bool) -> Result<(), Halt>
     requires fit { PartsFit parts.old }
     ensures on { Leads result (turn_phase tick) (state_of parts.old) (state_of parts.new) }
     ensures drained { OnOk result (AllZip IsDrained parts.old.links.items parts.new.links.items) }
@@ -29,7 +30,7 @@ fn work<G: Gate>(parts: &mut Parts, gate: &G, tick: bool) -> Result<(), Halt>
     ticks::tick(parts, gate, tick)?;
     free_due(parts, gate)?;
     handle_desk(parts, gate)?;
-    take_rings(parts, gate)
+    take_rings(parts, gate, others)
 }
 
 // Of a turn that came to its end.
@@ -58,7 +59,7 @@ fn answer_of(ended: Result<(), Halt>, before: usize, after: usize) -> Turn
 
 /// A turn: a tick where it is asked for, the held frames that are due, all items of the desk, then the frames of the
 /// rings.
-pub(crate) fn turn<G: Gate>(parts: &mut Parts, gate: &G, tick: bool) -> Turn
+pub(crate) fn turn<G: Gate>(parts: &mut Parts, gate: &G, others: Others, tick: bool) -> Turn
     requires fit { PartsFit parts.old }
     ensures made { HasMadeTurn tick (state_of parts.old) (state_of parts.new) result }
     ensures answer { parts.new.answer ≡ result }
@@ -66,7 +67,7 @@ pub(crate) fn turn<G: Gate>(parts: &mut Parts, gate: &G, tick: bool) -> Turn
     ensures fit { PartsFit parts.new }
 {
     let before = parts.log.len();
-    let ended = work(parts, gate, tick);
+    let ended = work(parts, gate, others, tick);
     let answer = answer_of(ended, before, parts.log.len());
     parts.answer = answer;
     answer

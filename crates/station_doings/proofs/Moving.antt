@@ -1,11 +1,11 @@
 -- What sending and taking make of one link.
-use Rattle.std.proofs.Common.{◌≡◌, ℕ}
+use Rattle.std.proofs.Common.{◌≡◌, ℕ, true, false}
 use Rattle.std.proofs.Common.{List, [], ◌∷◌, ◌++◌, refl, sym, ap, ◌∙◌, subst, append-nil, append_assoc}
 use mathlib.Core.List.{IsPrefix}
 use Rattle.rtrb.specs.Ring.{received, known_items, sent, SameConsumer, SameProducer}
 use Rattle.control_channels.specs.declared.frames.Frame.{Frame}
 use Rattle.station_sound.specs.declared.parcels.Parcel.{Parcel}
-use Rattle.station_rings.specs.LinkStates.{IsFetched, IsTaken, LinkState, SameEnds, view_of}
+use Rattle.station_rings.specs.LinkStates.{IsFetched, IsStill, IsStillUnlessUsed, IsTaken, LinkState, SameEnds, view_of}
 use Rattle.station_doings.specs.Moves.{HasMoved, IsSentOver, TakesNone}
 use Rattle.station_doings.proofs.Sends.{Sends, sends-frames, sends-same, sends-then}
 
@@ -22,6 +22,10 @@ same_consumer l = ((refl, refl, refl, refl), refl)
 same_producer : (l : LinkState) → SameProducer l.out l.out
 same_producer l = ((refl, refl, refl, refl), refl)
 
+consumer_then : (l m k : LinkState) → SameConsumer l.into m.into → SameConsumer m.into k.into →
+    SameConsumer l.into k.into
+consumer_then l m k a b = ((b.0.0 ∙ a.0.0, b.0.1 ∙ a.0.1, b.0.2 ∙ a.0.2, b.0.3 ∙ a.0.3), b.1 ∙ a.1)
+
 -- what was sent by a link that moved
 pub moved-sends : (l m : LinkState) → HasMoved l m → Sends (view_of l) (view_of m)
 moved-sends l m is = record {
@@ -33,10 +37,43 @@ moved-sends l m is = record {
   standing = is.standing;
 }
 
+-- a link that wasn't used is still
+still-self : (l : LinkState) → l.used ≡ false → IsStill l l
+still-self l unused = record {
+  unused = unused;
+  peer = refl;
+  sent = refl;
+  standing = refl;
+  out = refl;
+  backlog = refl;
+  ends = same_consumer l;
+  came = refl;
+  known = refl;
+  early = refl;
+}
+
+pub still-then : (l m k : LinkState) → IsStill l m → IsStill m k → IsStill l k
+still-then l m k a b = record {
+  unused = a.unused;
+  peer = b.peer ∙ a.peer;
+  sent = b.sent ∙ a.sent;
+  standing = b.standing ∙ a.standing;
+  out = b.out ∙ a.out;
+  backlog = b.backlog ∙ a.backlog;
+  ends = consumer_then l m k a.ends b.ends;
+  came = b.came ∙ a.came;
+  known = b.known ∙ a.known;
+  early = b.early ∙ a.early;
+}
+
+-- of a link that was used nothing is to be shown
+still_used : (l m : LinkState) → m.used ≡ true → IsStillUnlessUsed l m
+still_used l m used unused = absurd (cc (used, unused))
+
 -- a link moved where this was sent and taken, and nothing came
 abbrev pub moved-still : (l m : LinkState) → Sends (view_of l) (view_of m) → SameEnds l m → m.into ≡ l.into →
-    (takes : List Parcel) → l.early ≡ takes ++ m.early → HasMoved l m
-moved-still l m s ends into takes taken = record {
+    (takes : List Parcel) → l.early ≡ takes ++ m.early → IsStillUnlessUsed l m → HasMoved l m
+moved-still l m s ends into takes taken still = record {
   peer = s.peer;
   ends = ends;
   sent = s.sent;
@@ -51,13 +88,14 @@ moved-still l m s ends into takes taken = record {
   known =
       subst (λ c. IsPrefix (received l.into ++ known_items l.into) (received c ++ known_items c)) (sym into)
       (prefix-refl (received l.into ++ known_items l.into));
+  still = still;
 }
 
 -- nothing happened
 pub moved-none : (l : LinkState) → TakesNone l l
 moved-none l = (
   moved-still l l (sends-same (view_of l) (view_of l) refl refl refl refl)
-      (record { out = same_producer l; into = same_consumer l }) refl [] refl,
+      (record { out = same_producer l; into = same_consumer l }) refl [] refl (still-self l),
   refl,
 )
 
@@ -67,10 +105,7 @@ same-ends l m k a b = record {
     (b.out.0.0 ∙ a.out.0.0, b.out.0.1 ∙ a.out.0.1, b.out.0.2 ∙ a.out.0.2, b.out.0.3 ∙ a.out.0.3),
     b.out.1 ∙ a.out.1,
   );
-  into = (
-    (b.into.0.0 ∙ a.into.0.0, b.into.0.1 ∙ a.into.0.1, b.into.0.2 ∙ a.into.0.2, b.into.0.3 ∙ a.into.0.3),
-    b.into.1 ∙ a.into.1,
-  );
+  into = consumer_then l m k a.into b.into;
 }
 
 -- one thing after another
@@ -94,13 +129,17 @@ moved-then l m k a b =
           ∙ append_assoc a.takes m.early b.came ∙ ap (λ ps. a.takes ++ ps) b.taken
           ∙ sym (append_assoc a.takes b.takes k.early);
       known = prefix-trans _ _ _ a.known b.known;
+      still = λ unused. let last = b.still unused in still-then l m k (a.still last.unused) last;
     }
 
 -- frames were sent over it
 pub moved-sent : (stamp : ℕ) (fs : List Frame) (l m : LinkState) → IsSentOver stamp fs l m → TakesNone l m
 moved-sent stamp fs l m is = (
   moved-still l m (subst (Sends (view_of l)) (sym is.view) (sends-frames stamp fs (view_of l))) is.ends is.into []
-      (sym is.early),
+      (sym is.early)
+      (λ unused.
+      let same = sym (is.same unused) in
+      subst (IsStill l) same (still-self l (ap (λ (k : LinkState). k.used) same ∙ unused))),
   refl,
 )
 
@@ -121,6 +160,7 @@ moved-fetched l m is =
         takes = [];
         taken = sym is.early;
         known = is.known;
+        still = is.still;
       },
       refl,
     )
@@ -133,6 +173,6 @@ moved-taken q l m is = (
       (record {
         out = subst (SameProducer l.out) (sym is.out) (same_producer l);
         into = subst (SameConsumer l.into) (sym is.into) (same_consumer l);
-      }) is.into (q ∷ []) is.first,
+      }) is.into (q ∷ []) is.first (still_used l m is.used),
   refl,
 )

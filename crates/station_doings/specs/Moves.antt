@@ -7,7 +7,7 @@ use Rattle.ason_base.specs.declared.ids.NodeId.{NodeId}
 use Rattle.control_channels.specs.declared.frames.Frame.{Frame}
 use Rattle.station_sound.specs.declared.parcels.Parcel.{Parcel}
 use Rattle.station_sound.specs.Links.{after_frames}
-use Rattle.station_rings.specs.LinkStates.{IsTaken, LinkState, SameEnds, gone_of, view_of}
+use Rattle.station_rings.specs.LinkStates.{IsStillUnlessUsed, IsTaken, LinkState, SameEnds, gone_of, view_of}
 use Rattle.station_doings.specs.States.{numbers_of}
 
 -- Frames were sent and taken. Of the frames that were sent the first went to the ring, while fewer than 256 stood there
@@ -25,6 +25,7 @@ pub record HasMoved (old new : LinkState) : Type 0 where
   pub takes : List Parcel
   pub taken : old.early ++ came ≡ takes ++ new.early
   pub known : IsPrefix (received old.into ++ known_items old.into) (received new.into ++ known_items new.into)
+  pub still : IsStillUnlessUsed old new
 
 -- all that was known to stand in the ring was taken
 abbrev pub IsDrained : LinkState → LinkState → Type 0
@@ -40,6 +41,7 @@ pub record IsSentOver (stamp : ℕ) (frames : List Frame) (old new : LinkState) 
   pub ends : SameEnds old new
   pub into : new.into ≡ old.into
   pub early : new.early ≡ old.early
+  pub same : new.used ≡ false → new ≡ old
 
 -- the parcel of this neighbour was taken
 pub record IsTakenOf (u : NodeId) (q : Parcel) (old new : LinkState) : Type 0 where

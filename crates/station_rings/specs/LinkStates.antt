@@ -1,5 +1,5 @@
 -- A link with the ends of its two rings, and what sending, taking and looking make of it.
-use Rattle.std.specs.Prelude.{◌≡◌, ◌≤◌, ◌+◌, ℕ, List, [], ◌∷◌, ◌++◌, length}
+use Rattle.std.specs.Prelude.{◌≡◌, ◌≤◌, ◌+◌, ℕ, Bool, true, false, List, [], ◌∷◌, ◌++◌, length}
 use Rattle.std.specs.List.{AllByRecursion}
 use mathlib.Core.List.{IsPrefix}
 use Rattle.std.specs.declared.alloc.Global.{Global}
@@ -18,6 +18,8 @@ use Rattle.station_rings.specs.Protocols.{AreInOrder}
 -- The ends of the rings stand in it, so that a clause can say of two links that they are the two ends of both rings.
 pub record LinkState : Type 0 where
   pub peer : NodeId
+  -- whether frames were sent or taken since the last look, or came out of the ring
+  pub used : Bool
   -- the number of the last frame that was sent, whether it was dropped or not
   pub sent : ℕ
   -- how many frames stand in the ring, by the sender's own count
@@ -54,6 +56,24 @@ pub record LinkFits (l : LinkState) : Type 0 where
   pub early_few : length l.early ≤ 256
   pub bears : AllByRecursion IsBearing l.early
 
+-- Use
+
+-- since the last look nothing was sent or taken, and nothing came out of the ring
+pub record IsStill (before after : LinkState) : Type 0 where
+  pub unused : before.used ≡ false
+  pub peer : after.peer ≡ before.peer
+  pub sent : after.sent ≡ before.sent
+  pub standing : after.standing ≡ before.standing
+  pub out : after.out ≡ before.out
+  pub backlog : after.backlog ≡ before.backlog
+  pub ends : SameConsumer before.into after.into
+  pub came : received after.into ≡ received before.into
+  pub known : known_items after.into ≡ known_items before.into
+  pub early : after.early ≡ before.early
+
+abbrev pub IsStillUnlessUsed : LinkState → LinkState → Type 0
+IsStillUnlessUsed before after = after.used ≡ false → IsStill before after
+
 -- Sending
 
 -- the same ends of the same rings
@@ -79,9 +99,10 @@ pub record AreFew (a b : LinkState) : Type 0 where
   pub back : IsFew b a
 
 -- A look at the ring from a to b makes c of a and d of b: nothing was sent or taken, all that was handed to the ring is
--- known at its end, early or in the ring, and how many these are is known to the sender.
+-- known at its end, early or in the ring, and how many these are is known to the sender. No use is counted since.
 pub record IsLooked (a c b d : LinkState) : Type 0 where
   pub peer : c.peer ≡ a.peer
+  pub unused : c.used ≡ false
   pub sent : c.sent ≡ a.sent
   pub gone : gone_of c ≡ gone_of a
   pub backlog : c.backlog ≡ []
@@ -113,6 +134,7 @@ pub record IsFetched (before after : LinkState) : Type 0 where
   pub came : received after.into ≡ received before.into ++ more
   pub early : after.early ≡ before.early ++ more
   pub known : IsPrefix (received before.into ++ known_items before.into) (received after.into ++ known_items after.into)
+  pub still : IsStillUnlessUsed before after
 
 -- the first of those that waited early was taken, and it bears something
 pub record IsTaken (parcel : Parcel) (before after : LinkState) : Type 0 where
@@ -124,6 +146,7 @@ pub record IsTaken (parcel : Parcel) (before after : LinkState) : Type 0 where
   pub into : after.into ≡ before.into
   pub first : before.early ≡ parcel ∷ after.early
   pub bears : IsBearing parcel
+  pub used : after.used ≡ true
 
 -- Beginning
 

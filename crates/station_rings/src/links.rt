@@ -1,6 +1,6 @@
 //! The link to a neighbour: the ring into which a station sends, and the ring out of which it takes.
 
-ghost use Rattle.std.specs.Prelude.{◌≡◌, ◌+◌, ◌<◌, ◌≤◌, ◌++◌, ◌∷◌, [], ◌^◌, List, Some, None, IfOk, MatchOption, length, map, slice_get, slice_set};
+ghost use Rattle.std.specs.Prelude.{◌≡◌, ◌+◌, ◌<◌, ◌≤◌, ◌++◌, ◌∷◌, [], ◌^◌, List, Some, None, IfOk, MatchOption, false, length, map, slice_get, slice_set, true};
 ghost use Rattle.std.specs.List.{AllByRecursion};
 ghost use mathlib.Core.List.{IsPrefix};
 ghost use Rattle.rtrb.specs.Ring.{received, known_items, known_free, sent, SameProducer, SameConsumer, IsPair, producer_capacity};
@@ -25,6 +25,7 @@ type Into = Consumer<Parcel, Global, Rising>;
 /// The channel to a neighbour, and the one from it.
 pub struct Link {
     peer: NodeId,
+    used: bool,
     sent: u64,
     standing: usize,
     out: Out,
@@ -40,6 +41,7 @@ impl Model for Link {
 
     ghost view = { λ l. record {
       peer = l.peer;
+      used = l.used;
       sent = l.sent;
       standing = l.standing;
       out = l.out;
@@ -50,6 +52,7 @@ impl Model for Link {
 
     ghost invariant = { λ l. LinkFits (record {
       peer = l.peer;
+      used = l.used;
       sent = l.sent;
       standing = l.standing;
       out = l.out;
@@ -89,8 +92,8 @@ fn put(out: &mut Out, backlog: &mut Parcels, parcel: Parcel)
     }
 }
 
-// Takes a frame out of the ring where none came out before.
-fn fetch(early: &mut Parcels, into: &mut Into)
+// Takes a frame out of the ring where none came out before, and tells whether one came out now.
+fn fetch(early: &mut Parcels, into: &mut Into) -> bool
     requires bears { AllByRecursion IsBearing early.old }
     ensures ends { SameConsumer into.old into.new }
     ensures known { IsPrefix (received into.old ++ known_items into.old)
@@ -100,13 +103,19 @@ fn fetch(early: &mut Parcels, into: &mut Into)
     ensures bears { AllByRecursion IsBearing early.new }
     ensures few { length early.old ≤ 256 → length early.new ≤ 256 }
     ensures none { early.new ≡ [] → known_items into.new ≡ [] }
+    ensures still_early { result ≡ false → early.new ≡ early.old }
+    ensures still_came { result ≡ false → received into.new ≡ received into.old }
+    ensures still_known { result ≡ false → known_items into.new ≡ known_items into.old }
 {
     if !early.is_empty() {
-        return;
+        return false;
     }
     match into.pop() {
-        Ok(parcel) => early.push(parcel),
-        Err(_) => {}
+        Ok(parcel) => {
+            early.push(parcel);
+            true
+        }
+        Err(_) => false,
     }
 }
 
@@ -182,6 +191,13 @@ impl Link {
         self.sent
     }
 
+    /// Whether frames were sent or taken since the last look, or came out of the ring.
+    pub fn is_used(&self) -> bool
+        ensures { result ≡ self.now.used }
+    {
+        self.used
+    }
+
     /// Sends a frame with the stamp of the log's line that sends it. It is dropped exactly where 256
     /// stand in the ring. It takes no memory.
     pub fn send(&mut self, frame: Bytes, stamp: u64)
@@ -192,7 +208,9 @@ impl Link {
         ensures ends { SameEnds self.old self.new }
         ensures into { self.new.into ≡ self.old.into }
         ensures early { self.new.early ≡ self.old.early }
+        ensures used { self.new.used ≡ true }
     {
+        self.used = true;
         self.sent += 1;
         if self.standing < MOST_FRAMES {
             self.standing += 1;
@@ -214,7 +232,9 @@ impl Link {
             ((self.new.early ≡ []) × (known_items self.new.into ≡ []))
             (λ h. IsHead h self.new.early) }
     {
-        fetch(&mut self.early, &mut self.into);
+        if fetch(&mut self.early, &mut self.into) {
+            self.used = true;
+        }
         self.early.head()
     }
 
@@ -223,6 +243,7 @@ impl Link {
         requires { 0 < length self.old.early }
         ensures { IsTaken result self.old self.new }
     {
+        self.used = true;
         match self.early.pop() {
             Some(parcel) => parcel,
             None => unreachable!(),
@@ -241,6 +262,7 @@ impl Drop for Link {
     fn drop(self) {
         let Link {
             peer: _,
+            used: _,
             sent: _,
             standing: _,
             out: _,
@@ -261,6 +283,7 @@ pub fn join(alloc: Global, a: NodeId, b: NodeId) -> Result<(Link, Link), OutOfMe
     let (back_out, into) = ring(alloc)?;
     let here = Link {
         peer: b,
+        used: false,
         sent: 0,
         standing: 0,
         out,
@@ -270,6 +293,7 @@ pub fn join(alloc: Global, a: NodeId, b: NodeId) -> Result<(Link, Link), OutOfMe
     };
     let there = Link {
         peer: a,
+        used: false,
         sent: 0,
         standing: 0,
         out: back_out,
@@ -293,6 +317,8 @@ pub fn look(a: &mut Link, b: &mut Link)
     hand_over(&mut b.out, &mut b.backlog, &mut a.into, &mut a.early);
     a.standing = b.early.len() + b.into.cached_slots();
     b.standing = a.early.len() + a.into.cached_slots();
+    a.used = false;
+    b.used = false;
 }
 
 /// Sends a frame over the link at this place.

@@ -27,4 +27,4 @@ returns c =
     let to : is_to c.args.frame.to l ≡ true = ap (is_to c.args.frame.to) c.index_mut-link.ensures.value ∙ found.1 in
     sent-place c.args.stamp c.args.frame links c.args.place l m at to c.requires.apart
     (sent-one c.args.stamp c.args.frame l m to c.send.ensures.sent c.send.ensures.ends c.send.ensures.into
-    c.send.ensures.early)
+    c.send.ensures.early c.send.ensures.used)

@@ -6,10 +6,29 @@ use Rattle.station.specs.Fits.{state_of}
 use Rattle.station.specs.Leads.{GoesPast}
 use Rattle.station.proofs.Fetching.{drained-last, fetched-goes, fetched-moves, fetched-parts, moved-within}
 use Rattle.station.proofs.Fetching.{place-within, ring-done, ring-starts, with_links}
-use Rattle.station.proofs.Ringing.{drained-none, moved-fetch, moved-take}
+use Rattle.station.proofs.Ringing.{drained-many, drained-none, moved-fetch, moved-take}
 use Rattle.station.proofs.Stepping.{sending-none}
 use Rattle.station.proofs.Working.{moving-then, sending-moves}
 use Rattle.station.proofs.rings.take_ring.Goals as goal
+
+-- nothing is known to stand there
+
+pub returns-then-eq-clause-drained : goal.returns-then-eq-clause-drained
+returns-then-eq-clause-drained g c =
+    let links = c.args.parts.now.links.items in
+    drained-many c.args.place 0 links links (moved-within c.args.place links c.requires.place)
+    (λ l at. let known = c.known_at-known.ensures l at in omega (arith, known, c.if-known-eq0.true))
+
+pub returns-then-eq-clause-on : goal.returns-then-eq-clause-on
+unfolding returns-then-eq-clause-drained
+returns-then-eq-clause-on g c =
+    let s = state_of c.args.parts.now in
+    ring-done c.args.place s s (returns-then-eq-clause-drained g c) (λ first r end leads. leads)
+
+pub returns-then-eq-clause-moves : goal.returns-then-eq-clause-moves
+returns-then-eq-clause-moves g c = sending-moves _ _ (sending-none (state_of c.args.parts.now))
+
+-- the frames
 
 pub loop-frame-init : goal.loop-frame-init
 loop-frame-init g c = record {
@@ -118,8 +137,9 @@ loop-frame-preserved g c =
 
 pub returns-clause-drained : goal.returns-clause-drained
 returns-clause-drained g c =
-    drained-last c.args.place c.known_at.result _ c.max-count.result c.loop-frame._frame c.args.parts.now.links.items
-    c.loop-frame.parts.links.items c.loop-frame.invariant.taken c.known_at.ensures c.max-count.ensures
+    drained-last c.args.place c.known_at-known.result _ c.max-count.result c.loop-frame._frame
+    c.args.parts.now.links.items c.loop-frame.parts.links.items c.loop-frame.invariant.taken c.known_at-known.ensures
+    c.max-count.ensures
     (omega (arith, c.loop-frame-test.false))
 
 pub returns-clause-on : goal.returns-clause-on

@@ -34,6 +34,7 @@ pub returns-else-self-lt-MOST_FRAMES-clause-sent : goal.returns-else-self-lt-MOS
 returns-else-self-lt-MOST_FRAMES-clause-sent c =
     let v : LinkState = record {
       peer = c.self.inside.peer;
+      used = c.self.inside.used;
       sent = c.self.inside.sent;
       standing = c.self.inside.standing;
       out = c.self.inside.out;

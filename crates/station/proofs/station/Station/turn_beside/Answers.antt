@@ -3,7 +3,7 @@ use Rattle.station_doings.specs.Turned.{HasMadeTurn}
 use Rattle.station.specs.Fits.{state_of}
 use Rattle.station.specs.Watched.{with_publisher}
 use Rattle.station.proofs.Watched.{made-watched}
-use Rattle.station.proofs.station.Station.turn.Goals as goal
+use Rattle.station.proofs.station.Station.turn_beside.Goals as goal
 
 pub returns-clause-made : goal.returns-clause-made
 returns-clause-made g c =
