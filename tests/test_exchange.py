@@ -338,6 +338,14 @@ class TableTest(unittest.TestCase):
                 self.assertEqual((ended.status, ended.out), (2, ""))
                 self.assertRegex(ended.err, rf"\A{words[0]}: [^\n]*{told}\n?\Z")
 
+    def test_what_ason_refused_is_passed_on_with_its_status(self) -> None:
+        for said, status in (("refused plan script 3 words", 3), ("stopped at limit a", 6), ("refused input too long", 8)):
+            for words in (("table-csv",), ("table-ietf", str(EXAMPLES / "two.toml"), "-")):
+                with self.subTest(words=words, said=said):
+                    ended = tool(*words, given=said + "\n")
+                    self.assertEqual((ended.status, ended.out), (status, ""))
+                    self.assertRegex(ended.err, rf"\A{words[0]}: [^\n]*ason printed no table: {said}\n\Z")
+
     def test_bad_files(self) -> None:
         with tempfile.TemporaryDirectory() as room:
             for label, data in BAD_FILES.items():

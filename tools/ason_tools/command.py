@@ -6,10 +6,7 @@ import sys
 from collections.abc import Callable
 from typing import NoReturn
 
-from .errors import ToolError
-
-FAILED = 2
-"""The status of a tool that couldn't do what it was asked, or was asked wrongly."""
+from .errors import FAILED, ToolError
 
 
 class Parser(argparse.ArgumentParser):
@@ -36,6 +33,7 @@ def run(body: Callable[[], int]) -> NoReturn:
             sys.stdout.flush()
     except ToolError as error:
         _say(str(error))
+        status = error.status
     except SystemExit as end:
         status = end.code if isinstance(end.code, int) else FAILED
     except OSError as error:

@@ -3,8 +3,16 @@
 from collections.abc import Iterable
 
 
+FAILED = 2
+"""The status of a tool that couldn't do what it was asked, or was asked wrongly."""
+
+
 class ToolError(Exception):
-    """A reason for which a tool can't go on. Its text is one sentence without a full stop."""
+    """A reason for which a tool can't go on, and the status with which it ends then. Its text is one sentence without a full stop."""
+
+    def __init__(self, sentence: str, status: int = FAILED) -> None:
+        super().__init__(sentence)
+        self.status = status
 
 
 def quoted(text: object) -> str:

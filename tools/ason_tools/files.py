@@ -55,7 +55,7 @@ def about(path: str) -> Iterator[None]:
     try:
         yield
     except ToolError as error:
-        raise ToolError(f"{shown(path)}: {error}") from error
+        raise ToolError(f"{shown(path)}: {error}", error.status) from error
 
 
 def place_of(before: str) -> tuple[int, int]:

@@ -110,6 +110,11 @@ class Stopped:
 
     node: str
 
+    @property
+    def status(self) -> int:
+        """The status of `ason` with it."""
+        return 6
+
     def text(self) -> str:
         return f"stopped at limit {self.node}\n"
 
@@ -120,6 +125,11 @@ class Refused:
 
     entry: str | None
     kind: str | None
+
+    @property
+    def status(self) -> int:
+        """The status of `ason` with it."""
+        return 8 if self.entry is None else 3
 
     def text(self) -> str:
         return "refused input too long\n" if self.entry is None else f"refused plan {self.entry} {self.kind}\n"
@@ -179,9 +189,12 @@ class Output:
         return [part for part in self.parts if isinstance(part, Table)]
 
     def table(self, place: int | None = None) -> Table:
-        """The table at this place, from 1, or the last one."""
+        """The table at this place, from 1, or the last one. The error tells what the program printed in place of one."""
         found = self.tables
         if not found:
+            for part in self.parts:
+                if isinstance(part, (Refused, Stopped)):
+                    raise ToolError(f"ason printed no table: {part.text().strip()}", part.status)
             raise ToolError("the output has no table")
         if place is not None and not 1 <= place <= len(found):
             raise ToolError(f"there is no table {place}: the output has {len(found)}")
