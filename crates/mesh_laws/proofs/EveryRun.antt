@@ -18,6 +18,8 @@ use Rattle.mesh_laws.proofs.alone.Law.{every_activation_admitted}
 use Rattle.mesh_laws.proofs.alone.AloneRuns.{run-first}
 use Rattle.mesh_laws.proofs.contends.Law.{no_contend}
 use Rattle.mesh_laws.proofs.crossing.Law.{no_backups_cross}
+use Rattle.mesh_laws.proofs.decided.Answered.{every_lsp_soon}
+use Rattle.mesh_laws.proofs.decided.Decided.{every_call_soon}
 use Rattle.mesh_laws.proofs.reports.Desks.{every_desk_tells}
 use Rattle.mesh_laws.proofs.reports.ReportLaws.{every_report_tells}
 use Rattle.mesh_laws.proofs.ordered.Law.{every_known, every_ordered, every_tidy}
@@ -27,6 +29,7 @@ use Rattle.mesh_laws.proofs.rest.Rests.{every_run_ends, every_run_rests}
 use Rattle.mesh_laws.proofs.restoration.Law.{every_hit_call}
 use Rattle.mesh_laws.proofs.safe.Law.{every_run_safe}
 use Rattle.mesh_laws.proofs.sent.Law.{every_list, every_sent}
+use Rattle.mesh_laws.proofs.soon.Law.{every_hit_call_soon}
 
 pub laws_hold : EveryRunKeepsTheLaws
 laws_hold t events run =
@@ -58,11 +61,14 @@ laws_hold t events run =
       reports = λ valid. every_report_tells t events valid run;
       admitted = λ valid. every_activation_admitted t events valid run;
       restored = λ valid. every_hit_call t events valid run;
+      soon = λ valid. every_hit_call_soon t events valid run;
       uncontended = λ valid. no_contend t events valid run;
       listed = λ valid. every_contend_listed t events valid run;
       shown = λ valid. calm_shown t events valid run;
       rests = λ valid. every_run_rests t events valid run;
       ends = λ valid. every_run_ends t events valid run;
+      answered = every_lsp_soon t events run;
+      decided = every_call_soon t events run;
     }
 
 -- and after each first part of one

@@ -2,6 +2,7 @@ pub mod EveryRun
 pub mod alone
 pub mod contends
 pub mod crossing
+pub mod decided
 pub mod kept
 pub mod ordered
 pub mod reports
@@ -9,4 +10,5 @@ pub mod restoration
 pub mod rest
 pub mod safe
 pub mod sent
+pub mod soon
 pub mod surveyed

@@ -6,8 +6,11 @@ pub mod OrderLaw
 pub mod RestLaw
 pub mod RestorationLaw
 pub mod SafeLaw
+pub mod SetupLaw
+pub mod SoonLaw
 pub mod StateLaws
 pub mod Survey
 pub mod SurveyLaw
+pub mod Sweeps
 pub mod Weights
 pub mod Work

@@ -25,6 +25,8 @@ use Rattle.mesh_laws.specs.OrderLaw.{CallsAreOrdered}
 use Rattle.mesh_laws.specs.RestLaw.{RunEnds, added, handled}
 use Rattle.mesh_laws.specs.RestorationLaw.{RestorationHolds}
 use Rattle.mesh_laws.specs.SafeLaw.{IsSafe}
+use Rattle.mesh_laws.specs.SetupLaw.{CallsAreDecided, LspsAreAnswered}
+use Rattle.mesh_laws.specs.SoonLaw.{RestoredSoon}
 use Rattle.mesh_laws.specs.SurveyLaw.{CalmIsShown, ContendsAreListed}
 
 -- what holds of the state to which these events lead from the start
@@ -81,6 +83,8 @@ pub record LawsHold (t : Network) (events : List MeshEvent) : Type 0 where
   -- so once nothing is under way each guarded call is carried from end to end over fibres that are up, by its backup
   -- where its working LSP is hit
   pub restored : IsTopology t → RestorationHolds t events
+  -- and it is so after as many sweeps as its own routes are long, while nothing else is posted
+  pub soon : IsTopology t → RestoredSoon t events
   -- nor is an activation refused while two groups alone fail that don't contend
   pub uncontended : IsTopology t → UncontendedAreAdmitted t events
   -- and the survey of the state's rows lists all calls that would contend
@@ -91,6 +95,10 @@ pub record LawsHold (t : Network) (events : List MeshEvent) : Type 0 where
   pub rests : IsTopology t → handled events ≤ added t events
   -- so after these only so many can follow while nothing more is posted and no node ticks
   pub ends : IsTopology t → RunEnds t events
+  -- an LSP that was begun so many sweeps ago as its route has hops, there and back, is answered
+  pub answered : LspsAreAnswered t events
+  -- and its call is decided
+  pub decided : CallsAreDecided t events
 
 -- over every network and every run
 abbrev pub EveryRunKeepsTheLaws : Type 0

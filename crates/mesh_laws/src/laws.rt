@@ -20,6 +20,8 @@ ghost use Rattle.mesh_laws.specs.OrderLaw.{EveryCallIsOrdered};
 ghost use Rattle.mesh_laws.specs.RestLaw.{EveryRestIsQuiet, EveryRunEnds, EveryRunRests};
 ghost use Rattle.mesh_laws.specs.RestorationLaw.{EveryHitCallIsRestored};
 ghost use Rattle.mesh_laws.specs.SafeLaw.{EveryRunIsSafe};
+ghost use Rattle.mesh_laws.specs.SetupLaw.{EveryCallIsDecidedSoon, EveryLspIsAnsweredSoon};
+ghost use Rattle.mesh_laws.specs.SoonLaw.{EveryHitCallIsRestoredSoon};
 ghost use Rattle.mesh_laws.specs.SurveyLaw.{NoSurveyedContend};
 
 /// Of every network, every run, and each state to which a run leads:
@@ -91,6 +93,15 @@ ghost use Rattle.mesh_laws.specs.SurveyLaw.{NoSurveyedContend};
 /// backup where it turned and else the working LSP, is joined, Live at each node of its route, and
 /// none of its fibres is physically down, there or back (`restored`).
 ///
+/// How soon. A sweep is a list of events in which each message that was under way as it began is
+/// taken, and each item that was on a desk is handled. Over a topology, once one group has failed
+/// in a calm state in which no message was under way and each desk was empty, and nothing is posted
+/// since: each call that was guarded as it failed, and is hit by it, is restored after as many
+/// sweeps as there are hops from its ingress to the nearest cut, twice as many as its backup has
+/// hops, and one (`soon`). Whatever is posted: once there were as many sweeps since an LSP was
+/// begun as its route has hops, there and back, its leg at the ingress isn't Asked (`answered`),
+/// and no call is asking for it as its working LSP, nor pairing for it as its backup (`decided`).
+///
 /// Rest, over a topology. Of the events of a run that take a message or handle an item of a desk
 /// there are at most so many for each post and each tick (`rests`). So after a run only so many can
 /// follow while nothing more is posted and no node ticks (`ends`), and where no such event is
@@ -128,6 +139,9 @@ pub fn every_run()
     ensures calm { EveryRunStartsCalm }
     ensures admitted { EveryActivationIsAdmitted }
     ensures restored { EveryHitCallIsRestored }
+    ensures soon { EveryHitCallIsRestoredSoon }
+    ensures answered { EveryLspIsAnsweredSoon }
+    ensures decided { EveryCallIsDecidedSoon }
     ensures rests { EveryRunRests }
     ensures ends { EveryRunEnds }
     ensures quiet { EveryRestIsQuiet }

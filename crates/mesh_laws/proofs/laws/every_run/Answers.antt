@@ -11,6 +11,8 @@ use Rattle.lsp_laws.proofs.nodes.Searches.{every_search}
 use Rattle.mesh_laws.proofs.EveryRun.{laws_hold}
 use Rattle.mesh_laws.proofs.alone.Law.{every_activation_admitted, run_starts_calm}
 use Rattle.mesh_laws.proofs.crossing.Law.{no_backups_cross}
+use Rattle.mesh_laws.proofs.decided.Answered.{every_lsp_soon}
+use Rattle.mesh_laws.proofs.decided.Decided.{every_call_soon}
 use Rattle.mesh_laws.proofs.ordered.Law.{every_known, every_ordered, every_tidy}
 use Rattle.mesh_laws.proofs.reports.Desks.{every_desk_tells}
 use Rattle.mesh_laws.proofs.reports.ReportLaws.{every_report_tells}
@@ -18,6 +20,7 @@ use Rattle.mesh_laws.proofs.rest.Rests.{every_rest_quiet, every_run_ends, every_
 use Rattle.mesh_laws.proofs.restoration.Law.{every_hit_call}
 use Rattle.mesh_laws.proofs.safe.Law.{every_run_safe}
 use Rattle.mesh_laws.proofs.sent.Law.{every_list, every_sent}
+use Rattle.mesh_laws.proofs.soon.Law.{every_hit_call_soon}
 use Rattle.mesh_laws.proofs.laws.every_run.Goals as goal
 
 pub returns-clause-labels : goal.returns-clause-labels
@@ -94,6 +97,15 @@ returns-clause-admitted c = every_activation_admitted
 
 pub returns-clause-restored : goal.returns-clause-restored
 returns-clause-restored c = every_hit_call
+
+pub returns-clause-soon : goal.returns-clause-soon
+returns-clause-soon c = every_hit_call_soon
+
+pub returns-clause-answered : goal.returns-clause-answered
+returns-clause-answered c = every_lsp_soon
+
+pub returns-clause-decided : goal.returns-clause-decided
+returns-clause-decided c = every_call_soon
 
 pub returns-clause-rests : goal.returns-clause-rests
 returns-clause-rests c = every_run_rests

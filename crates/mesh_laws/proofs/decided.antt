@@ -1,0 +1,9 @@
+pub mod Answered
+pub mod Asked
+pub mod AskedDown
+pub mod AskedGoal
+pub mod AskedNears
+pub mod AskedRow
+pub mod AskedWas
+pub mod Decided
+pub mod Refused

@@ -1,0 +1,167 @@
+-- Of every run: an LSP isn't Asked for longer than its route has hops, there and back, in sweeps.
+use Rattle.std.proofs.Common.{◌≡◌, ◌+◌, ◌*◌, true, List, [], ◌∷◌, ◌++◌, length, refl, sym, ◌∙◌, subst, arith}
+use Rattle.std.specs.Prelude.{Option, Some, None}
+use Rattle.ason_base.specs.Network.{Network}
+use Rattle.ason_base.specs.Routes.{is_end, makes_route, route_end}
+use Rattle.ason_base.specs.declared.calls.Phase.{Phase}
+use Rattle.ason_base.specs.declared.calls.Phase.TheVariants.{Asked, Held, Armed, Live, Closing, Falling}
+use Rattle.ason_base.specs.declared.ids.Lsp.{Lsp}
+use Rattle.ason_base.specs.declared.ids.NodeId.{NodeId}
+use Rattle.ason_base.specs.declared.steps.Step.{Step}
+use Rattle.ason_base.specs.declared.tables.Leg.{Leg}
+use Rattle.mesh_rules.specs.declared.events.MeshEvent.{MeshEvent}
+use Rattle.mesh_rules.specs.Events.{IsRun, after, first_route, or_route, route_of, sent_at_ingress, step}
+use Rattle.mesh_rules.specs.Legs.{is_asked}
+use Rattle.mesh_rules.specs.Machine.{Mesh, start}
+use Rattle.lsp_laws.specs.CallLaw.{phase_of}
+use Rattle.lsp_laws.specs.HopLaw.{leg_at, mail_between}
+use Rattle.lsp_laws.specs.HopShapes.{AskedLeg, leg_kind, phase_kind}
+use Rattle.lsp_laws.proofs.hops.Chain.{Chain}
+use Rattle.lsp_laws.proofs.hops.HopLaws.{follows}
+use Rattle.lsp_laws.proofs.hops.Planned.{Follows, Planned}
+use Rattle.lsp_laws.proofs.hops.Plans.{Plan, node_at, plan, same_node}
+use Rattle.lsp_laws.proofs.hops.Purposes.{Purpose}
+use Rattle.lsp_laws.proofs.nodes.NodeRuns.{facts-hold}
+use Rattle.mesh_laws.proofs.alone.AloneRuns.{after-append, append-one, run-first}
+use Rattle.mesh_laws.proofs.reports.GentleWords.{is_waiting}
+use Rattle.mesh_laws.specs.SetupLaw.{EveryLspIsAnsweredSoon, IsAskedFor}
+use Rattle.mesh_laws.specs.Sweeps.{AreSweeps}
+use Rattle.mesh_laws.proofs.decided.Asked.{kind_at}
+use Rattle.mesh_laws.proofs.decided.AskedDown.{asked-nears}
+use Rattle.mesh_laws.proofs.decided.AskedGoal.{asked_goal, asked-soon}
+use Rattle.mesh_laws.proofs.soon.Words.{both}
+use Rattle.mesh_laws.proofs.decided.AskedWas.{asked-was}
+use Rattle.mesh_laws.proofs.soon.Soon.{AllGood, reached, nearer}
+
+-- Words
+
+waits-kind : (o : Option Leg) → is_waiting o ≡ true → leg_kind o ≡ AskedLeg
+waits-kind None e = absurd (cc e)
+waits-kind (Some g) e = go g.phase e
+  where
+    go : (f : Phase) → is_asked f ≡ true → phase_kind f ≡ AskedLeg
+    go Asked e = refl
+    go Held e = absurd (cc e)
+    go Armed e = absurd (cc e)
+    go Live e = absurd (cc e)
+    go Closing e = absurd (cc e)
+    go Falling e = absurd (cc e)
+
+phase-waits : (o : Option Leg) → phase_of o ≡ Some Asked → is_waiting o ≡ true
+phase-waits None e = absurd (cc e)
+phase-waits (Some g) e = let is : g.phase ≡ Asked = cc e in rw is refl
+
+-- a route has one end
+one-end : (t : Network) (from a b : NodeId) (route : List Step) → makes_route t from a route ≡ true →
+    makes_route t from b route ≡ true → a ≡ b
+one-end t from a b route first second =
+    go (route_end t from route) (both (is_end (route_end t from route) a) _ first).0
+    (both (is_end (route_end t from route) b) _ second).0
+  where
+    go : (o : Option NodeId) → is_end o a ≡ true → is_end o b ≡ true → a ≡ b
+    go None x y = absurd (cc x)
+    go (Some n) x y = same_node a b (let p : n.0 ≡ a.0 = grind arith in let q : n.0 ≡ b.0 = grind arith in sym p ∙ q)
+
+-- a route that was sent stays
+route-longer : (t : Network) (s : Mesh) (a b : List MeshEvent) (l : Lsp) (route : List Step) →
+    route_of t s a l ≡ Some route → route_of t s (a ++ b) l ≡ Some route
+route-longer t s [] b l route e = absurd (cc e)
+route-longer t s (x ∷ a) b l route e =
+    go (first_route l (sent_at_ingress t s x l)) e (λ h. route-longer t (step t s x) a b l route h)
+  where
+    go : (o : Option (List Step)) → or_route o (route_of t (step t s x) a l) ≡ Some route →
+        (route_of t (step t s x) a l ≡ Some route → route_of t (step t s x) (a ++ b) l ≡ Some route) →
+        or_route o (route_of t (step t s x) (a ++ b) l) ≡ Some route
+    go None h again = again h
+    go (Some r) h again = h
+
+module _ (t : Network) (l : Lsp) (route : List Step) (end : NodeId) where
+  abbrev p : Plan
+  p = plan route end
+
+  -- what is known of the LSP after these events
+  record Known (events : List MeshEvent) : Type 0 where
+    pub purpose : Purpose
+    pub planned : Planned t (after t start events) (route_of t start events) l purpose (plan route end)
+
+  known : (events : List MeshEvent) → IsRun t start events → route_of t start events l ≡ Some route →
+      makes_route t l.ingress end route ≡ true → Known events
+  known events run sent made = go (subst (Follows t (after t start events) (route_of t start events) l) sent (follows t events run l))
+    where
+      go : Follows t (after t start events) (route_of t start events) l (Some route) → Known events
+      go (e, q, pl) =
+          let is : e ≡ end = one-end t l.ingress e end route pl.made made in
+          subst (λ (x : NodeId). Planned t (after t start events) (route_of t start events) l q (plan route x)
+          → Known events) (sym is) (λ x. record { purpose = q; planned = x }) pl
+
+  -- where its leg is Asked at the end, it is Asked all along
+  record Along (done todo : List MeshEvent) : Type 0 where
+    pub good : AllGood t (asked_goal t l (plan route end)) (after t start done) todo
+    pub waits : is_waiting (leg_at (after t start done) l l.ingress) ≡ true
+
+  along : (done todo : List MeshEvent) → IsRun t start (done ++ todo) → route_of t start done l ≡ Some route →
+      makes_route t l.ingress end route ≡ true →
+      is_waiting (leg_at (after t (after t start done) todo) l l.ingress) ≡ true → Along done todo
+  along done [] run sent made waits = record { good = tt; waits = waits }
+  along done (e ∷ todo) run sent made waits =
+      let more : IsRun t start ((done ++ e ∷ []) ++ todo) = subst (IsRun t start) (sym (append-one done e todo)) run in
+      let longer : IsRun t start (done ++ e ∷ []) = run-first t start (done ++ e ∷ []) todo more in
+      let now : IsRun t start done = run-first t start done (e ∷ todo) run in
+      let next : after t start (done ++ e ∷ []) ≡ step t (after t start done) e = after-append t start done (e ∷ []) in
+      let sent' = route-longer t start done (e ∷ []) l route sent in
+      let rest = along (done ++ e ∷ []) todo more sent' made
+      (subst (λ x. is_waiting (leg_at (after t x todo) l l.ingress) ≡ true) (sym next) waits) in
+      let here = known done now sent made in
+      let there = known (done ++ e ∷ []) longer sent' made in
+      let after-it : is_waiting (leg_at (step t (after t start done) e) l l.ingress) ≡ true =
+      subst (λ x. is_waiting (leg_at x l l.ingress) ≡ true) next rest.waits in
+      let before-it = asked-was t (after t start done) l (facts-hold t done now) here.planned.number e after-it in
+      let first : node_at (plan route end) 0 ≡ l.ingress = here.planned.route.first in
+      record {
+        good = (
+          record {
+            purpose = here.purpose;
+            chain = here.planned.chain;
+            asked = subst (λ (n : NodeId). leg_kind (leg_at (after t start done) l n) ≡ AskedLeg) (sym first)
+                (waits-kind (leg_at (after t start done) l l.ingress) before-it);
+            next = there.purpose;
+            still = subst (λ (n : NodeId). leg_kind (leg_at (step t (after t start done) e) l n) ≡ AskedLeg) (sym first)
+                (waits-kind (leg_at (step t (after t start done) e) l l.ingress) after-it);
+            later = subst (λ x. Chain t there.purpose l (plan route end) (leg_at x l) (mail_between x l)) next
+                there.planned.chain;
+          },
+          subst (λ x. AllGood t (asked_goal t l (plan route end)) x todo) next rest.good,
+        );
+        waits = before-it;
+      }
+
+-- The law
+
+answered : (t : Network) (before since : List MeshEvent) → IsRun t start (before ++ since) → (l : Lsp)
+    (route : List Step) → route_of t start before l ≡ Some route →
+    AreSweeps t (2 * length route) (after t start before) since → IsAskedFor (after t start (before ++ since)) l → ⊥
+answered t before since run l route sent sweeps asked =
+    go (subst (Follows t (after t start before) (route_of t start before) l) sent
+    (follows t before (run-first t start before since run) l))
+  where
+    waits : is_waiting (leg_at (after t (after t start before) since) l l.ingress) ≡ true
+    waits = subst (λ x. is_waiting (leg_at x l l.ingress) ≡ true) (after-append t start before since)
+        (phase-waits (leg_at (after t start (before ++ since)) l l.ingress) asked)
+
+    go : Follows t (after t start before) (route_of t start before) l (Some route) → ⊥
+    go (end, q, pl) =
+        let all = along t l route end before since run sent pl.made waits in
+        let kind : kind_at l (plan route end) (after t start before) 0 ≡ AskedLeg =
+        subst (λ (n : NodeId). leg_kind (leg_at (after t start before) l n) ≡ AskedLeg) (sym pl.route.first)
+        (waits-kind (leg_at (after t start before) l l.ingress) all.waits) in
+        let nears = asked-nears t l (plan route end) pl.route in
+        let soon = asked-soon t l (plan route end) (after t start before) q pl.chain kind in
+        reached t (asked_goal t l (plan route end)) nears (2 * length route) (after t start before) since sweeps all.good
+        (nearer t (asked_goal t l (plan route end)) nears (length route + length route) (2 * length route)
+        (after t start before) (omega arith) soon)
+
+-- Every LSP is answered within as many sweeps as its route has hops, there and back.
+pub every_lsp_soon : EveryLspIsAnsweredSoon
+every_lsp_soon t events run l was asked =
+    answered t was.before was.since (subst (IsRun t start) (sym was.parts) run) l was.route was.sent was.sweeps
+    (subst (λ es. IsAskedFor (after t start es) l) (sym was.parts) asked)

@@ -1,0 +1,252 @@
+-- A backup that is being activated: the Path that activates goes down, the Resv comes up, and then the call has turned.
+use Rattle.std.proofs.Common.{◌≡◌, ◌≤◌, ◌<◌, ◌⊎◌, ℕ, zero, suc, ◌+◌, ◌-◌, Bool, true, false, nat_eq, List, [], ◌∷◌, refl, sym, ◌∙◌, ap, subst, arith, inl, inr}
+use Rattle.std.specs.Prelude.{Option, Some}
+use Rattle.std.specs.List.{AllByRecursion}
+use Rattle.ason_base.specs.Network.{Network}
+use Rattle.ason_base.specs.declared.calls.CallState.TheVariants.{Turned}
+use Rattle.ason_base.specs.declared.calls.Phase.{Phase}
+use Rattle.ason_base.specs.declared.calls.Role.{Role}
+use Rattle.ason_base.specs.declared.calls.Phase.TheVariants.{Asked, Held, Armed, Live, Closing, Falling}
+use Rattle.ason_base.specs.declared.ids.CallNo.{CallNo}
+use Rattle.ason_base.specs.declared.ids.Lsp.{Lsp}
+use Rattle.ason_base.specs.declared.ids.NodeId.{NodeId}
+use Rattle.ason_base.specs.declared.messages.Msg.{Msg}
+use Rattle.ason_base.specs.declared.messages.Msg.TheVariants.{Path, Resv}
+use Rattle.ason_base.specs.declared.messages.PathRole.TheVariants.{Back}
+use Rattle.ason_base.specs.declared.tables.CallRec.{CallRec}
+use Rattle.ason_base.specs.declared.tables.Leg.{Leg}
+use Rattle.ason_base.specs.declared.tables.Out.{Out}
+use Rattle.mesh_rules.specs.declared.changes.CallChange.TheVariants as call
+use Rattle.mesh_rules.specs.declared.events.MeshEvent.{MeshEvent}
+use Rattle.mesh_rules.specs.declared.events.MeshEvent.TheVariants.{Take}
+use Rattle.mesh_rules.specs.Calls.{call_with, find_call, is_turning, turned, with_call}
+use Rattle.mesh_rules.specs.Changes.{Answer}
+use Rattle.mesh_rules.specs.Events.{on_first, step}
+use Rattle.mesh_rules.specs.Legs.{is_beyond_asked, with_phase}
+use Rattle.mesh_rules.specs.LocalNodes.{local_node}
+use Rattle.mesh_rules.specs.Machine.{Mesh, commit, without_first}
+use Rattle.mesh_rules.specs.Messages.{arrival, on_message}
+use Rattle.mesh_rules.specs.Resvs.{is_expected}
+use Rattle.mesh_rules.specs.Turns.{decided, has_any}
+use Rattle.mesh_nodes.proofs.CallList.{find-with_call, found-number}
+use Rattle.mesh_nodes.proofs.LegList.{same_lsp-refl}
+use Rattle.lsp_laws.specs.HopLaw.{leg_at, mail_between, messages_of}
+use Rattle.lsp_laws.specs.HopShapes.{IsTorn, LegKind, AskedLeg, phase_kind}
+use Rattle.lsp_laws.proofs.hops.AnswersTaken.{ByArmed, ByAsked, ByTorn, TakesResv, takes_resv}
+use Rattle.lsp_laws.proofs.hops.Chain.{Hop, LegFits, below_or_not}
+use Rattle.lsp_laws.proofs.hops.LegChanges.{previous_none}
+use Rattle.lsp_laws.proofs.hops.LegKinds.{same_phase}
+use Rattle.lsp_laws.proofs.hops.Plans.{IsRoute, Plan, hops, node_at, same}
+use Rattle.lsp_laws.proofs.hops.Purposes.{Purpose, role_of}
+use Rattle.lsp_laws.proofs.hops.Taken.{up_hop}
+use Rattle.mesh_laws.specs.AloneLaw.{is_refusal, sent_in}
+use Rattle.mesh_laws.specs.Sweeps.{takes_one}
+use Rattle.mesh_laws.proofs.soon.OneHop.{Activates, Answers, activation-ends, activation-goes-on, answer-passes, comes-held, is-awaited}
+use Rattle.mesh_laws.proofs.soon.Soon.{ByMail, Goal, IsDone, Soon}
+use Rattle.mesh_laws.proofs.soon.Swept.{StandsIn}
+use Rattle.mesh_laws.proofs.soon.Activating.{HasTurned, SaysActivation, StandsBy, turning_goal}
+use Rattle.mesh_laws.proofs.soon.Words.{take-is}
+
+-- the next message is one of the two
+first-waits : {X : Type 0} (xs : List X) (x : X) → StandsIn xs x [] → (rest : List X) × (xs ≡ x ∷ rest)
+first-waits xs x stands = (stands.later, stands.all)
+
+-- a leg that isn't torn and not Asked takes a Resv where it is Armed alone
+torn-one : (r : Role) (f : Phase) → is_beyond_asked f ≡ true → IsTorn r (phase_kind f) → ⊥
+torn-one r Asked beyond torn = cc beyond
+torn-one r Closing beyond torn = cc beyond
+torn-one r Falling beyond torn = cc beyond
+torn-one r Held beyond torn = elim torn [ ]
+torn-one r Armed beyond torn = elim torn [ ]
+torn-one r Live beyond torn = elim torn [ ]
+
+asked-one : (f : Phase) → is_beyond_asked f ≡ true → phase_kind f ≡ AskedLeg → ⊥
+asked-one Asked beyond is = cc beyond
+asked-one Held beyond is = cc is
+asked-one Armed beyond is = cc is
+asked-one Live beyond is = cc is
+asked-one Closing beyond is = cc is
+asked-one Falling beyond is = cc is
+
+armed-one : (r : Role) (f : Phase) (kind : LegKind) → phase_kind f ≡ kind → is_beyond_asked f ≡ true →
+    TakesResv r kind → f ≡ Armed
+armed-one _ f _ is beyond ByArmed = same_phase f Armed is
+armed-one r f _ is beyond ByAsked = absurd (asked-one f beyond is)
+armed-one r f kind is beyond (ByTorn torn) = absurd (torn-one r f beyond (rw (← is) at torn))
+
+module _ (t : Network) (q : Purpose) (p : Plan) (b : Lsp) (n : NodeId) (k : CallNo) (route : IsRoute t b.ingress p)
+    (first : node_at p 0 ≡ n) (s : Mesh) where
+  abbrev Good : MeshEvent → Type 0
+  Good e = StandsBy t q p b n k s e
+
+  abbrev goal : Goal
+  goal = turning_goal t q p b n k
+
+  -- a Path that activates is taken
+  down : (e : MeshEvent) (j i : ℕ) (m : Msg) → Good e → i < hops p → Activates b m → j + suc i ≡ hops p + hops p →
+      e ≡ Take (node_at p (suc i)) (node_at p i) → StandsIn (s.mail (node_at p i).0 (node_at p (suc i)).0) m [] →
+      Soon goal j (step t s e)
+  down e j i m good below tells left is waits =
+      subst (λ x. Soon goal j (step t s x)) (sym is)
+      (by_end (below_or_not (suc i) (hops p)))
+    where
+      rest : List Msg
+      rest = waits.later
+
+      was : s.mail (node_at p i).0 (node_at p (suc i)).0 ≡
+          Path b tells.egress tells.link tells.route tells.set tells.back (Back true tells.work tells.primary) ∷ rest
+      was = waits.all ∙ ap (λ x. x ∷ rest) tells.is
+
+      none : AllByRecursion (λ o. is_refusal o.msg ≡ false) (sent_in t s (Take (node_at p (suc i)) (node_at p i)))
+      none = subst (λ x. AllByRecursion (λ (o : Out). is_refusal o.msg ≡ false) (sent_in t s x)) is good.none_refused
+
+      held : (g : Leg) × (leg_at s b (node_at p (suc i)) ≡ Some g) × (g.phase ≡ Held)
+      held = comes-held t q s b p i route good.chain below tells.egress tells.link tells.route tells.set tells.back
+          tells.work tells.primary rest was
+
+      by_end : (suc i < hops p) ⊎ (hops p ≤ suc i) →
+          Soon goal j (step t s (Take (node_at p (suc i)) (node_at p i)))
+      by_end (inl small) =
+          let on = activation-goes-on t q s b p i route good.chain below tells.egress tells.link tells.route tells.set
+          tells.back tells.work tells.primary rest was held.0 held.1 held.2 none small in
+          let before = on.2.0 in
+          ByMail (j - 1) (node_at p (suc i)).0 (node_at p (suc (suc i))).0 on.0 before (omega (arith, left, below))
+          (inl (record {
+            place = suc i;
+            below = small;
+            tells = on.1;
+            from = refl;
+            to = refl;
+            left = omega (arith, left, below, small);
+          }))
+          on.2.1
+      by_end (inr end) =
+          let on = activation-ends t q s b p i route good.chain below tells.egress tells.link tells.route tells.set
+          tells.back tells.work tells.primary rest was held.0 held.1 held.2 none end in
+          ByMail i (node_at p (suc i)).0 (node_at p i).0 on.0 on.2.0 (omega (arith, left, below, end))
+          (inr (record { below = below; tells = on.1; from = refl; to = refl })) on.2.1
+
+  -- A Resv is taken
+
+  module _ (good-event : MeshEvent) (good : StandsBy t q p b n k s good-event) (i : ℕ) (below : i < hops p) (m : Msg)
+      (tells : Answers b m)
+      (waits : StandsIn (s.mail (node_at p (suc i)).0 (node_at p i).0) m []) where
+    abbrev rest : List Msg
+    rest = waits.later
+
+    was : s.mail (node_at p (suc i)).0 (node_at p i).0 ≡ Resv b tells.egress tells.link tells.label ∷ rest
+    was = waits.all ∙ ap (λ x. x ∷ rest) tells.is
+
+    leg : (g : Leg) × (leg_at s b (node_at p i) ≡ Some g) × (is_beyond_asked g.phase ≡ true)
+    leg = good.reserved i (omega (arith, below))
+
+    armed : leg.0.phase ≡ Armed
+    armed =
+        let hop : Hop q p i (leg_at s b (node_at p i)) (leg_at s b (node_at p (suc i)))
+        (mail_between s b (node_at p i) (node_at p (suc i)))
+        (Resv b tells.egress tells.link tells.label ∷ messages_of b rest) =
+        up_hop t q s b p i route good.chain below (Resv b tells.egress tells.link tells.label) rest was
+        (same_lsp-refl b) in
+        let takes = takes_resv (role_of q) _ _ _ _ hop.shape in
+        armed-one (role_of q) leg.0.phase (phase_kind leg.0.phase) refl leg.2 (rw (leg.1) at takes)
+
+    -- away from the ingress
+    passes : (j : ℕ) → suc j ≡ i → Soon goal i (step t s (Take (node_at p i) (node_at p (suc i))))
+    passes j is =
+        let on = answer-passes t q s b p i route good.chain below tells.egress tells.link tells.label rest was leg.0
+        leg.1 armed j is in
+        ByMail j (node_at p i).0 (node_at p j).0 on.0 on.2.0 (omega (arith, is))
+        (inr (record {
+          below = omega (arith, is, below);
+          tells = on.1;
+          from = ap (λ (x : ℕ). (node_at p x).0) (sym is);
+          to = refl;
+        }))
+        on.2.1
+
+  -- A Resv comes to the ingress: the call has turned
+
+  decides : (works backs : Bool) → backs ≡ false → (c : CallRec) → (g : Option Leg) → (legs : List Leg) →
+      (decided legs c g Turned works backs).calls ≡ call.Put c ∷ []
+  decides true false e c g legs = refl
+  decides false false e c g legs = refl
+  decides works true e c g legs = absurd (cc e)
+
+  turns-call : (calls : List CallRec) (c : CallRec) → find_call k calls ≡ Some c →
+      find_call k (with_call (turned c) calls) ≡ Some (turned c)
+  turns-call calls c found =
+      let number : c.call ≡ k = found-number k calls c found in
+      let is : nat_eq c.call.0 k.0 ≡ true = rw number (same k.0) in
+      find-with_call (turned c) calls k ∙ rw is refl
+
+  -- what an answer at the ingress makes of the call
+  turned-after : (u d : NodeId) → d ≡ n → (a : Answer) (c : CallRec) → a.calls ≡ call.Put (turned c) ∷ [] →
+      find_call k (s.nodes n.0).calls ≡ Some c →
+      find_call k ((commit (without_first s u.0 d.0) d.0 a).nodes n.0).calls ≡ Some (turned c)
+  turned-after u d is a c calls found = rw (is, same n.0, calls) (turns-call (s.nodes n.0).calls c found)
+
+  module _ (e : MeshEvent) (good : StandsBy t q p b n k s e) (below : 0 < hops p) (m : Msg) (tells : Answers b m)
+      (waits : StandsIn (s.mail (node_at p 1).0 (node_at p 0).0) m []) (g : Leg)
+      (here : leg_at s b (node_at p 0) ≡ Some g) (is_armed : g.phase ≡ Armed) where
+    abbrev d : NodeId
+    d = node_at p 0
+
+    was-first : s.mail (node_at p 1).0 (node_at p 0).0 ≡ Resv b tells.egress tells.link tells.label ∷ waits.later
+    was-first = waits.all ∙ ap (λ x. x ∷ waits.later) tells.is
+
+    fits : LegFits t q b p 0 g
+    fits = rw here at (good.chain.fits 0 (omega arith))
+
+    called : call_with g.lsp (s.nodes d.0).calls ≡ Some good.call
+    called = subst (λ (x : Lsp). call_with x (s.nodes d.0).calls ≡ Some good.call) (sym fits.own)
+        (subst (λ (x : NodeId). call_with b (s.nodes x.0).calls ≡ Some good.call) (sym first) good.named)
+
+    puts-turned : (on_message (local_node t d) (s.nodes d.0) (node_at p 1)
+        (Resv b tells.egress tells.link tells.label)).calls ≡ call.Put (turned good.call) ∷ []
+    puts-turned =
+        let waited : is_expected (arrival b tells.egress (node_at p 1) tells.link) tells.label g ≡ false =
+        rw is_armed refl in
+        let awaited = is-awaited t q s b p 0 route good.chain below tells.egress tells.link tells.label waits.later
+        was-first g here is_armed in
+        let turning : is_turning good.call.state ≡ true = rw (good.turning g here is_armed) refl in
+        let none : has_any good.call.back_reports ≡ false = rw good.unhit refl in
+        rw (here, waited, awaited, previous_none t q b p g fits, called, turning)
+        (decides (has_any good.call.work_reports) (has_any good.call.back_reports) none (turned good.call)
+        (Some (with_phase Live g)) (s.nodes d.0).legs)
+
+    turns : HasTurned n k (step t s (Take (node_at p 0) (node_at p 1)))
+    turns =
+        let a : Answer = on_message (local_node t d) (s.nodes d.0) (node_at p 1)
+        (Resv b tells.egress tells.link tells.label) in
+        record {
+          call = turned good.call;
+          found = subst (λ ms. find_call k ((commit (without_first s (node_at p 1).0 d.0) d.0
+              (on_first (local_node t d) (s.nodes d.0) (node_at p 1) ms)).nodes n.0).calls ≡ Some (turned good.call))
+              (sym was-first)
+              (turned-after (node_at p 1) d first a good.call puts-turned good.found);
+          state = refl;
+        }
+
+  -- Either message
+
+  up : (e : MeshEvent) (good : StandsBy t q p b n k s e) (i : ℕ) (m : Msg) → i < hops p → Answers b m →
+      e ≡ Take (node_at p i) (node_at p (suc i)) → StandsIn (s.mail (node_at p (suc i)).0 (node_at p i).0) m [] →
+      Soon goal i (step t s e)
+  up e good zero m below tells is waits =
+      let l = leg e good 0 below m tells waits in
+      IsDone (subst (λ x. HasTurned n k (step t s x)) (sym is)
+      (turns e good below m tells waits l.0 l.1 (armed e good 0 below m tells waits)))
+  up e good (suc j) m below tells is waits =
+      subst (λ x. Soon goal (suc j) (step t s x)) (sym is) (passes e good (suc j) below m tells waits j refl)
+
+  -- A message that tells of the activation brings it nearer as it is taken.
+  pub activation-nears : (e : MeshEvent) (j u d : ℕ) (m : Msg) → StandsBy t q p b n k s e → SaysActivation p b j u d m →
+      takes_one u d e ≡ 1 → StandsIn (s.mail u d) m [] → Soon (turning_goal t q p b n k) j (step t s e)
+  activation-nears e j u d m good (inl is) one waits =
+      let taken : takes_one (node_at p is.place).0 (node_at p (suc is.place)).0 e ≡ 1 = rw (← is.from, ← is.to) one in
+      down e j is.place m good is.below is.tells is.left
+      (take-is (node_at p is.place) (node_at p (suc is.place)) e taken) (rw (is.from, is.to) at waits)
+  activation-nears e j u d m good (inr is) one waits =
+      let taken : takes_one (node_at p (suc j)).0 (node_at p j).0 e ≡ 1 = rw (← is.from, ← is.to) one in
+      up e good j m is.below is.tells
+      (take-is (node_at p (suc j)) (node_at p j) e taken) (rw (is.from, is.to) at waits)

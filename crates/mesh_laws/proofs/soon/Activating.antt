@@ -1,0 +1,78 @@
+-- A call that has turned, and how far it is from that while its backup is being activated.
+use Rattle.std.proofs.Common.{◌≡◌, ◌≤◌, ◌<◌, ◌⊎◌, ℕ, suc, ◌+◌, true, false, []}
+use Rattle.std.specs.Prelude.{Some}
+use Rattle.std.specs.List.{AllByRecursion}
+use Rattle.ason_base.specs.Network.{Network}
+use Rattle.ason_base.specs.declared.calls.CallState.TheVariants.{Turned, Turning}
+use Rattle.ason_base.specs.declared.calls.Phase.TheVariants.{Armed}
+use Rattle.ason_base.specs.declared.ids.CallNo.{CallNo}
+use Rattle.ason_base.specs.declared.ids.Lsp.{Lsp}
+use Rattle.ason_base.specs.declared.ids.NodeId.{NodeId}
+use Rattle.ason_base.specs.declared.messages.Msg.{Msg}
+use Rattle.ason_base.specs.declared.tables.CallRec.{CallRec}
+use Rattle.ason_base.specs.declared.tables.Leg.{Leg}
+use Rattle.mesh_rules.specs.declared.events.MeshEvent.{MeshEvent}
+use Rattle.mesh_rules.specs.Calls.{call_with, find_call}
+use Rattle.mesh_rules.specs.Legs.{is_beyond_asked}
+use Rattle.mesh_rules.specs.Machine.{Mesh}
+use Rattle.lsp_laws.specs.HopLaw.{leg_at, mail_between}
+use Rattle.lsp_laws.proofs.hops.Chain.{Chain}
+use Rattle.lsp_laws.proofs.hops.Plans.{Plan, hops, node_at}
+use Rattle.lsp_laws.proofs.hops.Purposes.{Purpose}
+use Rattle.mesh_laws.specs.AloneLaw.{is_refusal, sent_in}
+use Rattle.mesh_laws.proofs.soon.OneHop.{Activates, Answers}
+use Rattle.mesh_laws.proofs.soon.Soon.{Goal}
+
+-- The call
+
+-- the call of this number, which has turned
+pub record HasTurned (n : NodeId) (k : CallNo) (s : Mesh) : Type 0 where
+  pub call : CallRec
+  pub found : find_call k (s.nodes n.0).calls ≡ Some call
+  pub state : call.state ≡ Turned
+
+-- How far it is
+
+-- the Path that activates the backup comes from place i: j hops down are left once it is taken, and all of them up
+pub record ComesDown (p : Plan) (b : Lsp) (j u d : ℕ) (m : Msg) : Type 0 where
+  pub place : ℕ
+  pub below : place < hops p
+  pub tells : Activates b m
+  pub from : u ≡ (node_at p place).0
+  pub to : d ≡ (node_at p (suc place)).0
+  pub left : j + suc place ≡ hops p + hops p
+
+-- a Resv comes to place i: so many hops are left
+pub record ComesUp (p : Plan) (b : Lsp) (j u d : ℕ) (m : Msg) : Type 0 where
+  pub below : j < hops p
+  pub tells : Answers b m
+  pub from : u ≡ (node_at p (suc j)).0
+  pub to : d ≡ (node_at p j).0
+
+-- either of the two
+abbrev pub SaysActivation : Plan → Lsp → ℕ → ℕ → ℕ → Msg → Type 0
+SaysActivation p b j u d m = ComesDown p b j u d m ⊎ ComesUp p b j u d m
+
+-- What is known of the state and the event: the backup b of the call k at its ingress n has the plan p.
+pub record StandsBy (t : Network) (q : Purpose) (p : Plan) (b : Lsp) (n : NodeId) (k : CallNo) (s : Mesh)
+    (e : MeshEvent) : Type 0 where
+  pub chain : Chain t q b p (leg_at s b) (mail_between s b)
+  -- each leg of the backup is Held, Armed or Live
+  pub reserved : (i : ℕ) → i ≤ hops p → (g : Leg) × (leg_at s b (node_at p i) ≡ Some g) ×
+      (is_beyond_asked g.phase ≡ true)
+  pub none_refused : AllByRecursion (λ o. is_refusal o.msg ≡ false) (sent_in t s e)
+  pub call : CallRec
+  pub found : find_call k (s.nodes n.0).calls ≡ Some call
+  pub named : call_with b (s.nodes n.0).calls ≡ Some call
+  -- it turns while its leg is Armed, and no fibre of the backup is reported
+  pub turning : (g : Leg) → leg_at s b (node_at p 0) ≡ Some g → g.phase ≡ Armed → call.state ≡ Turning
+  pub unhit : call.back_reports ≡ []
+
+-- that the call has turned
+abbrev pub turning_goal : Network → Purpose → Plan → Lsp → NodeId → CallNo → Goal
+turning_goal t q p b n k = record {
+  Good = StandsBy t q p b n k;
+  Done = HasTurned n k;
+  Says = SaysActivation p b;
+  Tells = λ j m i. ⊥;
+}

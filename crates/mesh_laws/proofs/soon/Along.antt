@@ -1,0 +1,173 @@
+-- Along the events since the failure what the goal needs is there at each state.
+use Rattle.std.proofs.Common.{append-nil, ◌≡◌, ℕ, suc, Bool, true, false, nat_eq, List, [], ◌∷◌, ◌++◌, refl, sym, ◌∙◌, ap, subst}
+use Rattle.std.specs.Prelude.{◌&&◌, Some, slice_get}
+use Rattle.std.specs.List.{AllByRecursion}
+use Rattle.ason_base.specs.Network.{IsTopology, Network, find_link}
+use Rattle.ason_base.specs.declared.calls.CallState.{CallState}
+use Rattle.ason_base.specs.declared.calls.CallState.TheVariants.{Asking, Bare, Blocked, Guarded, Pairing, Stuck, Turned, Turning}
+use Rattle.ason_base.specs.declared.commands.DeskItem.{DeskItem}
+use Rattle.ason_base.specs.declared.commands.DeskItem.TheVariants.{Order, Alarm, Clear}
+use Rattle.ason_base.specs.declared.commands.Group.{Group}
+use Rattle.ason_base.specs.declared.ids.CallNo.{CallNo}
+use Rattle.ason_base.specs.declared.steps.Step.{Step}
+use Rattle.ason_base.specs.declared.tables.CallRec.{CallRec}
+use Rattle.mesh_rules.specs.declared.events.MeshEvent.{MeshEvent}
+use Rattle.mesh_rules.specs.declared.events.MeshEvent.TheVariants.{Take, Desk, Tick, Learn, Post}
+use Rattle.mesh_rules.specs.Calls.{find_call}
+use Rattle.mesh_rules.specs.Events.{IsRun, after, is_enabled, route_of, step}
+use Rattle.mesh_rules.specs.LocalNodes.{local_node, own_link}
+use Rattle.mesh_rules.specs.Machine.{Mesh, start}
+use Rattle.lsp_laws.specs.StandLaw.{StandsOn, has_backup, is_first_release, is_released_by, is_standing_call}
+use Rattle.lsp_laws.proofs.nodes.CallsStand.{every_call_stands}
+use Rattle.lsp_laws.proofs.nodes.NodeRuns.{facts-hold}
+use Rattle.lsp_laws.proofs.hops.Plans.{node_at}
+use Rattle.mesh_laws.specs.AloneLaw.{AllConcern, NoneRefused}
+use Rattle.mesh_laws.proofs.alone.AloneRuns.{after-append, append-one, run-first}
+use Rattle.mesh_laws.proofs.soon.CallGoesOn.{call-goes_on}
+use Rattle.mesh_laws.proofs.soon.ToldCalls.{IsTold}
+use Rattle.mesh_laws.proofs.soon.NoneUp.{IsAlarm, NoneUp, none-up}
+use Rattle.ason_base.specs.Lsps.{has_fibre}
+use Rattle.mesh_laws.proofs.soon.Noticed.{failure_goal, fibre_of}
+use Rattle.mesh_laws.proofs.soon.Roles.{Fixed, Roles, Scene}
+use Rattle.mesh_laws.proofs.soon.Scenes.{scene}
+use Rattle.mesh_laws.proofs.soon.Soon.{AllGood}
+use Rattle.mesh_laws.proofs.soon.Struck.{alarm-known}
+use Rattle.mesh_laws.proofs.soon.Swept.{append-assoc}
+use Rattle.mesh_laws.specs.SoonLaw.{PostsNothing}
+
+-- a call that has its backup stands
+pub backed-standing : (f : CallState) → has_backup f ≡ true → is_standing_call f ≡ true
+backed-standing Guarded e = refl
+backed-standing Turning e = refl
+backed-standing Turned e = refl
+backed-standing Stuck e = refl
+backed-standing Bare e = refl
+backed-standing Pairing e = refl
+backed-standing Asking e = absurd (cc e)
+backed-standing Blocked e = absurd (cc e)
+
+-- a desk of alarms releases nothing
+no-release : (k : CallNo) (items : List DeskItem) → AllByRecursion IsAlarm items → is_first_release k items ≡ false
+no-release k [] all = refl
+no-release k (Order c ∷ items) all = absurd all.0
+no-release k (Alarm f ∷ items) all = refl
+no-release k (Clear f ∷ items) all = absurd all.0
+
+and-none : (b : Bool) → (b && false) ≡ false
+and-none true = refl
+and-none false = refl
+
+-- nor does any other event, while no order waits
+pub unreleased : (s : Mesh) (n : ℕ) (k : CallNo) (e : MeshEvent) → NoneUp s → is_released_by s n k e ≡ false
+unreleased s n k (Take d u) none = refl
+unreleased s n k (Desk m) none = rw (no-release k (s.desks n) (none.desks n)) (and-none (nat_eq m.0 n))
+unreleased s n k (Tick m) none = refl
+unreleased s n k (Learn m l) none = refl
+unreleased s n k (Post c) none = refl
+
+-- the last event of a run is enabled
+enabled-last : (t : Network) (s : Mesh) (done : List MeshEvent) (e : MeshEvent) → IsRun t s (done ++ e ∷ []) →
+    is_enabled t (after t s done) e ≡ true
+enabled-last t s [] e run = run.0
+enabled-last t s (x ∷ done) e run = enabled-last t (step t s x) done e run.1
+
+module _ (t : Network) (valid : IsTopology t) (g : Group) (r : Roles) (fixed : Fixed t r) (hop : Step)
+    (there : slice_get r.work_plan.route r.place ≡ Some hop) (link_found : find_link t hop.link ≡ Some r.link)
+    (own : own_link (local_node t (node_at r.work_plan (suc r.place))) r.link.id ≡ Some r.link) where
+  -- what is known of the call after these events
+  pub record Known (events : List MeshEvent) : Type 0 where
+    pub concern : AllConcern t g (after t start events)
+    pub none_up : NoneUp (after t start events)
+    pub work_sent : route_of t start events r.work ≡ Some r.work_plan.route
+    pub back_sent : route_of t start events r.back ≡ Some r.back_plan.route
+    pub call : CallRec
+    pub found : find_call r.call ((after t start events).nodes r.ingress.0).calls ≡ Some call
+    pub is_work : call.work ≡ Some r.work
+    pub is_back : call.back ≡ Some r.back
+    pub work_end : call.egress ≡ r.work_plan.egress
+    pub back_end : call.egress ≡ r.back_plan.egress
+    pub backed : has_backup call.state ≡ true
+    pub told : IsTold call
+
+  -- what the laws tell of each state since
+  pub record Tells (events : List MeshEvent) : Type 0 where
+    pub concern : AllConcern t g (after t start events)
+    pub work_sent : route_of t start events r.work ≡ Some r.work_plan.route
+    pub back_sent : route_of t start events r.back ≡ Some r.back_plan.route
+    pub unstuck : (c : CallRec) → find_call r.call ((after t start events).nodes r.ingress.0).calls ≡ Some c →
+        c.state ≡ Stuck → ⊥
+    pub unhit : (c : CallRec) → find_call r.call ((after t start events).nodes r.ingress.0).calls ≡ Some c →
+        c.back ≡ Some r.back → c.back_reports ≡ []
+
+  its-scene : (events : List MeshEvent) → IsRun t start events → Tells events → Known events →
+      Scene t r (after t start events)
+  its-scene events run tells known =
+      scene t valid events run g known.concern known.none_up r fixed known.call known.found known.is_work known.is_back
+      known.work_end known.back_end known.work_sent known.back_sent hop there link_found known.backed known.told
+      (tells.unstuck known.call known.found) (tells.unhit known.call known.found known.is_back)
+
+  -- over one event
+  known-step : (events : List MeshEvent) (e : MeshEvent) → IsRun t start events →
+      is_enabled t (after t start events) e ≡ true → PostsNothing e → Tells (events ++ e ∷ []) → Known events →
+      Known (events ++ e ∷ [])
+  known-step events e run enabled only tells known = go
+    where
+      s : Mesh
+      s = after t start events
+
+      next : after t start (events ++ e ∷ []) ≡ step t (after t start events) e
+      next = after-append t start events (e ∷ [])
+
+      on : (d : CallRec) × (find_call r.call ((step t (after t start events) e).nodes r.ingress.0).calls ≡ Some d) ×
+          StandsOn known.call d
+      on = every_call_stands t events run e enabled r.ingress.0 r.call known.call known.found
+          (backed-standing known.call.state known.backed)
+          (unreleased (after t start events) r.ingress.0 r.call e known.none_up)
+
+      go : Known (events ++ e ∷ [])
+      go = record {
+        concern = tells.concern;
+        none_up = subst NoneUp (sym next) (none-up t (after t start events) e only known.none_up);
+        work_sent = tells.work_sent;
+        back_sent = tells.back_sent;
+        call = on.0;
+        found = subst (λ (x : Mesh). find_call r.call (x.nodes r.ingress.0).calls ≡ Some on.0) (sym next) on.1;
+        is_work = on.2.work ∙ known.is_work;
+        is_back = (on.2.back known.backed).1 ∙ known.is_back;
+        work_end = on.2.egress ∙ known.work_end;
+        back_end = on.2.egress ∙ known.back_end;
+        backed = (on.2.back known.backed).0;
+        told = (call-goes_on r.call known.call known.told known.backed t (after t start events) r.ingress.0 on.0
+            (λ m. ((facts-hold t events run).node m).calls_rise) known.found known.none_up e only on.1).told;
+      }
+
+  -- Since the failure all is as the goal needs it.
+  pub all-good : (done todo : List MeshEvent) → IsRun t start (done ++ todo) → AllByRecursion PostsNothing todo →
+      NoneRefused t (after t start done) todo →
+      ((first later : List MeshEvent) → first ++ later ≡ todo → Tells (done ++ first)) → Known done →
+      AllGood t (failure_goal t r) (after t start done) todo
+  all-good done [] run only none tells known = tt
+  all-good done (e ∷ todo) run only none tells known =
+      let s : Mesh = after t start done in
+      let now : IsRun t start done = run-first t start done (e ∷ todo) run in
+      let more : IsRun t start ((done ++ e ∷ []) ++ todo) = subst (IsRun t start) (sym (append-one done e todo)) run in
+      let longer : IsRun t start (done ++ e ∷ []) = run-first t start (done ++ e ∷ []) todo more in
+      let next : after t start (done ++ e ∷ []) ≡ step t s e = after-append t start done (e ∷ []) in
+      let told_now : Tells done = subst Tells (append-nil done) (tells [] (e ∷ todo) refl) in
+      let told_then : Tells (done ++ e ∷ []) = tells (e ∷ []) todo refl in
+      let known' = known-step done e now (enabled-last t start done e longer) only.0 told_then known in (
+        record {
+          here = its-scene done now told_now known;
+          next = subst (Scene t r) next (its-scene (done ++ e ∷ []) longer told_then known');
+          none_refused = none.0;
+          posts_nothing = only.0;
+          alarmed = λ rest is was.
+              subst (λ x. has_fibre ((step t s x).nodes (node_at r.work_plan (suc r.place)).0).down
+              (fibre_of r) ≡ true) (sym is)
+              (alarm-known t s (node_at r.work_plan (suc r.place)) r.link rest own was);
+        },
+        subst (λ x. AllGood t (failure_goal t r) x todo) next
+            (all-good (done ++ e ∷ []) todo more only.1 (subst (λ x. NoneRefused t x todo) (sym next) none.2)
+            (λ first later parts. subst Tells (sym (append-assoc done (e ∷ []) first))
+            (tells (e ∷ first) later (ap (λ xs. e ∷ xs) parts))) known'),
+      )

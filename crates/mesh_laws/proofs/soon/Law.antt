@@ -1,0 +1,147 @@
+-- A guarded call that is hit is restored within so many sweeps.
+use Rattle.std.proofs.Common.{append-nil, ◌≡◌, ◌≤◌, ℕ, ◌+◌, Bool, true, false, List, [], ◌∷◌, ◌++◌, length, refl, sym, ◌∙◌, ap, subst, arith}
+use Rattle.std.specs.Prelude.{Option, Some}
+use Rattle.std.specs.List.{AllByRecursion}
+use Rattle.std.proofs.lemmas.List.Elements.{recursion_from_All}
+use Rattle.ason_base.specs.Network.{IsTopology, Network}
+use Rattle.ason_base.specs.declared.calls.CallState.TheVariants.{Turned}
+use Rattle.ason_base.specs.declared.commands.Command.TheVariants.{Fail}
+use Rattle.ason_base.specs.declared.commands.Group.{Group}
+use Rattle.ason_base.specs.declared.ids.CallNo.{CallNo}
+use Rattle.ason_base.specs.declared.ids.Lsp.{Lsp}
+use Rattle.ason_base.specs.declared.steps.Step.{Step}
+use Rattle.ason_base.specs.declared.tables.CallRec.{CallRec}
+use Rattle.mesh_rules.specs.declared.events.MeshEvent.{MeshEvent}
+use Rattle.mesh_rules.specs.declared.events.MeshEvent.TheVariants.{Post}
+use Rattle.mesh_rules.specs.Calls.{find_call}
+use Rattle.mesh_rules.specs.Events.{IsRun, after, route_of, step}
+use Rattle.mesh_rules.specs.Machine.{Mesh, start}
+use Rattle.mesh_nodes.proofs.CallList.{found-call-all}
+use Rattle.lsp_laws.specs.JoinedLaw.{CallIsJoined, IsJoinedFor, IsLive}
+use Rattle.lsp_laws.specs.StandLaw.{IsUnreleased, StandsOn, has_backup}
+use Rattle.lsp_laws.proofs.hops.Joined.{every_call_joined}
+use Rattle.lsp_laws.proofs.nodes.CallsStand.{every_call_stands_until_released}
+use Rattle.mesh_laws.specs.RestorationLaw.{carrier, is_guarded, is_hit, is_route_cut}
+use Rattle.mesh_laws.proofs.alone.AloneRuns.{after-append, append-one}
+use Rattle.mesh_laws.proofs.alone.Risks.{not_beside}
+use Rattle.mesh_laws.proofs.restoration.Cuts.{cut-concerns}
+use Rattle.mesh_laws.specs.SoonLaw.{EveryHitCallIsRestoredSoon, IsRestoredAt, IsStruck, cut_in, hops_in, hops_to_cut, route_for}
+use Rattle.mesh_laws.specs.Sweeps.{AreSweeps}
+use Rattle.mesh_laws.proofs.soon.Along.{backed-standing, unreleased}
+use Rattle.mesh_laws.proofs.soon.AtFailure.{concern-to, first-alarms, only-takes, route-stays}
+use Rattle.mesh_laws.proofs.soon.TurnedInTime.{all-run, apart, back-route, base-run, found-then, hit-group, its, turned-in-time, work-route}
+use Rattle.mesh_laws.proofs.soon.NoneUp.{NoneUp, none-up}
+use Rattle.mesh_laws.specs.SoonLaw.{PostsNothing}
+
+run-later : (t : Network) (s : Mesh) (a b : List MeshEvent) → IsRun t s (a ++ b) → IsRun t (after t s a) b
+run-later t s [] b run = run
+run-later t s (e ∷ a) b run = run-later t (step t s e) a b run.1
+
+none-released : (t : Network) (s : Mesh) (n : ℕ) (k : CallNo) (es : List MeshEvent) → NoneUp s →
+    AllByRecursion PostsNothing es → IsUnreleased t s n k es
+none-released t s n k [] none only = tt
+none-released t s n k (e ∷ es) none only =
+    (unreleased s n k e none, none-released t (step t s e) n k es (none-up t s e only.0 none) only.1)
+
+module _ (t : Network) (valid : IsTopology t) (events : List MeshEvent) (run : IsRun t start events) (g : Group)
+    (struck : IsStruck t events g) (n : ℕ) (m : CallNo) (c : CallRec)
+    (found : find_call m ((after t start struck.before).nodes n).calls ≡ Some c)
+    (guarded : is_guarded ((after t start struck.before).nodes n) c ≡ true)
+    (hit : is_hit t (struck.before ++ Post (Fail g) ∷ []) c.work ≡ true) where
+  abbrev base : List MeshEvent
+  base = struck.before ++ Post (Fail g) ∷ []
+
+  abbrev end : List MeshEvent
+  end = (struck.before ++ Post (Fail g) ∷ []) ++ struck.since
+
+  abbrev work : List Step
+  work = (work-route t valid events run g struck n m c found guarded hit).0
+
+  abbrev back : List Step
+  back = (back-route t valid events run g struck n m c found guarded hit).0
+
+  abbrev backup : Lsp
+  backup = (its t valid events run g struck n m c found guarded hit).back
+
+  whole : IsRun t start ((struck.before ++ Post (Fail g) ∷ []) ++ struck.since)
+  whole = all-run t valid events run g struck n m c found guarded hit
+
+  backed : has_backup c.state ≡ true
+  backed = subst (λ x. has_backup x ≡ true) (sym (its t valid events run g struck n m c found guarded hit).state) refl
+
+  on : (d : CallRec) × (find_call m ((after t (after t start (struck.before ++ Post (Fail g) ∷ [])) struck.since).nodes
+      n).calls ≡ Some d) × StandsOn c d
+  on = every_call_stands_until_released t base (base-run t valid events run g struck n m c found guarded hit) struck.since
+      (run-later t start base struck.since whole) n m c
+      (found-then t valid events run g struck n m c found guarded hit) (backed-standing c.state backed)
+      (none-released t (after t start base) n m struck.since (first-alarms t valid events run g struck)
+      (only-takes t valid events run g struck))
+
+  back-up : is_hit t ((struck.before ++ Post (Fail g) ∷ []) ++ struck.since) (Some backup) ≡ false
+  back-up =
+      let sent : route_of t start end backup ≡ Some back =
+      route-stays t start base struck.since backup back
+      (back-route t valid events run g struck n m c found guarded hit).1 in
+      subst (λ (o : Option (List Step)). is_route_cut t (after t start end).failed o ≡ false) (sym sent)
+      (go (is_route_cut t (after t start end).failed (Some back)) refl)
+    where
+      go : (b : Bool) → is_route_cut t (after t start end).failed (Some back) ≡ b → b ≡ false
+      go false e = refl
+      go true e =
+          absurd (not_beside t g work back (apart t valid events run g struck n m c found guarded hit)
+          (hit-group t valid events run g struck n m c found guarded hit)
+          (cut-concerns t (after t start end).failed g back
+          (concern-to t valid events run g struck struck.since [] (append-nil struck.since)).failed e))
+
+  -- Within so many sweeps the call is restored.
+  restored-in-time : (k : ℕ) →
+      AreSweeps t k (after t start (struck.before ++ Post (Fail g) ∷ [])) struck.since →
+      (1 + hops_to_cut t (after t start (struck.before ++ Post (Fail g) ∷ [])).failed work) + (length back + length back) ≤ k
+      → IsRestoredAt t events n m
+  restored-in-time k sweeps enough =
+      let has = turned-in-time t valid events run g struck n m c found guarded hit k sweeps enough in
+      let at_end : after t start end ≡ after t (after t start base) struck.since =
+      after-append t start base struck.since in
+      let d : CallRec = has.call in
+      let there : find_call m ((after t start end).nodes n).calls ≡ Some has.call =
+      subst (λ (x : Mesh). find_call m (x.nodes n).calls ≡ Some has.call) (sym at_end) has.found in
+      let one : on.0 ≡ has.call = (let some : Some on.0 ≡ Some has.call = sym (on.1) ∙ has.found in cc some) in
+      let is_back : has.call.back ≡ Some backup =
+      subst (λ (x : CallRec). x.back ≡ Some backup) one
+      ((on.2.back backed).1 ∙ (its t valid events run g struck n m c found guarded hit).is_back) in
+      let carried : carrier has.call ≡ has.call.back = rw has.state refl in
+      let all = recursion_from_All (λ (x : CallRec). CallIsJoined t end x x.state) ((after t start end).nodes n).calls
+      (every_call_joined t end whole n) in
+      let state : CallIsJoined t end has.call has.call.state =
+      found-call-all (λ (x : CallRec). CallIsJoined t end x x.state) m ((after t start end).nodes n).calls has.call there
+      all in
+      let joins : CallIsJoined t end has.call Turned = subst (CallIsJoined t end has.call) has.state state in
+      subst (λ xs. IsRestoredAt t xs n m) (append-one struck.before (Post (Fail g)) struck.since ∙ struck.parts)
+      (record {
+        call = has.call;
+        found = there;
+        restored = record {
+          turned = λ h. has.state;
+          joined = subst (IsJoinedFor t end IsLive has.call) (sym carried) joins.1;
+          up = subst (λ o. is_hit t end o ≡ false) (sym (carried ∙ is_back)) back-up;
+        };
+      })
+
+-- The law
+
+-- Each guarded call that is hit is restored within so many sweeps.
+pub every_hit_call_soon : EveryHitCallIsRestoredSoon
+every_hit_call_soon t events valid run g struck k sweeps n m c found guarded hit enough =
+    let base : List MeshEvent = struck.before ++ Post (Fail g) ∷ [] in
+    let call = its t valid events run g struck n m c found guarded hit in
+    let one = work-route t valid events run g struck n m c found guarded hit in
+    let two = back-route t valid events run g struck n m c found guarded hit in
+    let at_work : route_for t base c.work ≡ Some one.0 =
+    subst (λ (o : Option Lsp). route_for t base o ≡ Some one.0) (sym call.is_work) one.1 in
+    let at_back : route_for t base c.back ≡ Some two.0 =
+    subst (λ (o : Option Lsp). route_for t base o ≡ Some two.0) (sym call.is_back) two.1 in
+    let a : cut_in t (after t start base).failed (route_for t base c.work) ≡
+    hops_to_cut t (after t start base).failed one.0 =
+    ap (cut_in t (after t start base).failed) at_work in
+    let b : hops_in (route_for t base c.back) ≡ length two.0 = ap hops_in at_back in
+    restored-in-time t valid events run g struck n m c found guarded hit k sweeps (omega (arith, enough, a, b))
