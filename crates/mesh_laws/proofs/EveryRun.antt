@@ -20,6 +20,7 @@ use Rattle.mesh_laws.proofs.contends.Law.{no_contend}
 use Rattle.mesh_laws.proofs.crossing.Law.{no_backups_cross}
 use Rattle.mesh_laws.proofs.decided.Answered.{every_lsp_soon}
 use Rattle.mesh_laws.proofs.decided.Decided.{every_call_soon}
+use Rattle.mesh_laws.proofs.home.Law.{every_run_at_home}
 use Rattle.mesh_laws.proofs.reports.Desks.{every_desk_tells}
 use Rattle.mesh_laws.proofs.reports.ReportLaws.{every_report_tells}
 use Rattle.mesh_laws.proofs.ordered.Law.{every_known, every_ordered, every_tidy}
@@ -51,6 +52,7 @@ laws_hold t events run =
       known = every_known t events run;
       one_leg = hops.0;
       hops = hops.1;
+      home = λ valid. every_run_at_home t events valid run;
       safe = every_run_safe t events run;
       joined = every_call_joined t events run;
       wavelengths = every_call_keeps t events run;

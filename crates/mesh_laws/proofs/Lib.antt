@@ -3,6 +3,7 @@ pub mod alone
 pub mod contends
 pub mod crossing
 pub mod decided
+pub mod home
 pub mod kept
 pub mod ordered
 pub mod reports

@@ -20,6 +20,7 @@ use Rattle.lsp_laws.specs.WavelengthLaw.{CallsKeepWavelengths}
 use Rattle.mesh_laws.specs.AloneLaw.{ActivationsAreAdmitted}
 use Rattle.mesh_laws.specs.ContendLaw.{UncontendedAreAdmitted}
 use Rattle.mesh_laws.specs.HeardLaw.{ListsAreLawful}
+use Rattle.mesh_laws.specs.HomeLaw.{StaysAtHome}
 use Rattle.mesh_laws.specs.KnownLaw.{KnownFibresComeIn}
 use Rattle.mesh_laws.specs.OrderLaw.{CallsAreOrdered}
 use Rattle.mesh_laws.specs.RestLaw.{RunEnds, added, handled}
@@ -61,6 +62,8 @@ pub record LawsHold (t : Network) (events : List MeshEvent) : Type 0 where
   -- each hop of each LSP has a shape of the table
   pub one_leg : HasOneLegEach (after t start events)
   pub hops : (l : Lsp) → LspFits t (after t start events) l (route_of t start events l)
+  -- over a topology messages are under way between neighbours alone, and items stand on nodes' desks alone
+  pub home : IsTopology t → StaysAtHome t (after t start events)
   -- no label of a fibre is cross-connected for two LSPs
   pub safe : IsSafe t (after t start events)
   -- each call that stands is cross-connected from end to end; the backup of a guarded or a stuck one is reserved so,

@@ -14,6 +14,7 @@ ghost use Rattle.lsp_laws.specs.WavelengthLaw.{EveryCallKeepsItsWavelengths};
 ghost use Rattle.mesh_laws.specs.AloneLaw.{EveryActivationIsAdmitted, EveryRunStartsCalm};
 ghost use Rattle.mesh_laws.specs.ContendLaw.{NoContend};
 ghost use Rattle.mesh_laws.specs.HeardLaw.{EveryListIsLawful};
+ghost use Rattle.mesh_laws.specs.HomeLaw.{EveryRunStaysAtHome};
 ghost use Rattle.mesh_laws.specs.KnownLaw.{EveryKnownFibreComesIn};
 ghost use Rattle.mesh_laws.specs.StateLaws.{EveryRunKeepsTheLaws};
 ghost use Rattle.mesh_laws.specs.OrderLaw.{EveryCallIsOrdered};
@@ -61,19 +62,20 @@ ghost use Rattle.mesh_laws.specs.SurveyLaw.{NoSurveyedContend};
 /// leg that isn't torn is the back label in of the one before it, which the Paths on their way to
 /// it bear; where a leg is torn with a label out and the next node has let go, the message that
 /// says so is on its way; Notifies go up these hops alone, and each names the node that it comes
-/// from or one beyond it (`hops`). No label of a fibre is cross-connected for two LSPs, on their
-/// way there or back (`safe`). Each call that is neither asking nor blocked is joined: its working
-/// LSP is Live at each node of its route, each label out being the next node's label in; the backup
-/// of a guarded or a stuck call is joined so, Held at each node, or still Live where the call went
-/// back and the Path that takes the activation back hasn't come; that of a turned call is joined
-/// Live at each node, and that of a turning call Held, Armed or Live. These LSPs of a two-way call
-/// have a back label in at each node but the egress, which is the next node's back label out, and
-/// those of a one-way call have none (`joined`). Along the routes of these LSPs the wavelength
-/// changes at converting nodes alone, and is on each link one of those of the link; so it is with
-/// the one on which an LSP of a two-way call comes back, and one of a one-way call has none there
-/// (`wavelengths`). The route of each backup leads from end to end, has no risk in common with that
-/// of the working LSP which its call has, or had, and shares no node with it between the ends
-/// (`beside`).
+/// from or one beyond it (`hops`). Over a topology messages are under way between neighbours alone,
+/// and items stand on nodes' desks alone (`home`). No label of a fibre is cross-connected for two
+/// LSPs, on their way there or back (`safe`). Each call that is neither asking nor blocked is
+/// joined: its working LSP is Live at each node of its route, each label out being the next node's
+/// label in; the backup of a guarded or a stuck call is joined so, Held at each node, or still Live
+/// where the call went back and the Path that takes the activation back hasn't come; that of a
+/// turned call is joined Live at each node, and that of a turning call Held, Armed or Live. These
+/// LSPs of a two-way call have a back label in at each node but the egress, which is the next
+/// node's back label out, and those of a one-way call have none (`joined`). Along the routes of
+/// these LSPs the wavelength changes at converting nodes alone, and is on each link one of those of
+/// the link; so it is with the one on which an LSP of a two-way call comes back, and one of a
+/// one-way call has none there (`wavelengths`). The route of each backup leads from end to end, has
+/// no risk in common with that of the working LSP which its call has, or had, and shares no node
+/// with it between the ends (`beside`).
 ///
 /// Links. What a node learnt of them are rows of the network (`learnt`); over a topology routes can
 /// be asked of what it knows (`searchable`). Over a topology the leg of a backup, at any node,
@@ -127,6 +129,7 @@ pub fn every_run()
     ensures reported { EveryReportIsOfItsRoute }
     ensures known { EveryKnownFibreComesIn }
     ensures hops { EveryHopHasAShape }
+    ensures home { EveryRunStaysAtHome }
     ensures safe { EveryRunIsSafe }
     ensures joined { EveryCallIsJoined }
     ensures wavelengths { EveryCallKeepsItsWavelengths }

@@ -13,6 +13,7 @@ use Rattle.mesh_laws.proofs.alone.Law.{every_activation_admitted, run_starts_cal
 use Rattle.mesh_laws.proofs.crossing.Law.{no_backups_cross}
 use Rattle.mesh_laws.proofs.decided.Answered.{every_lsp_soon}
 use Rattle.mesh_laws.proofs.decided.Decided.{every_call_soon}
+use Rattle.mesh_laws.proofs.home.Law.{every_run_at_home}
 use Rattle.mesh_laws.proofs.ordered.Law.{every_known, every_ordered, every_tidy}
 use Rattle.mesh_laws.proofs.reports.Desks.{every_desk_tells}
 use Rattle.mesh_laws.proofs.reports.ReportLaws.{every_report_tells}
@@ -67,6 +68,9 @@ returns-clause-known c = every_known
 
 pub returns-clause-hops : goal.returns-clause-hops
 returns-clause-hops c = every_hop
+
+pub returns-clause-home : goal.returns-clause-home
+returns-clause-home c = every_run_at_home
 
 pub returns-clause-safe : goal.returns-clause-safe
 returns-clause-safe c = every_run_safe
