@@ -36,3 +36,4 @@ pub mod SetupKeeps
 pub mod Sharing
 pub mod States
 pub mod TickKeeps
+pub mod TurnedCalls

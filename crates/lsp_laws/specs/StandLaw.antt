@@ -81,3 +81,16 @@ abbrev pub EveryCallStandsUntilReleased : Type 0
 EveryCallStandsUntilReleased =
     (t : Network) (events : List MeshEvent) → IsRun t start events → (later : List MeshEvent) →
     IsRun t (after t start events) later → CallsStandOver t (after t start events) later
+
+-- Over one event: a turned call goes back only where no fibre of its working LSP is reported to be down.
+abbrev pub TurnedCallsStay : Network → Mesh → MeshEvent → Type 0
+TurnedCallsStay t s e =
+    (n : ℕ) (k : CallNo) (c d : CallRec) → find_call k (s.nodes n).calls ≡ Some c →
+    find_call k ((step t s e).nodes n).calls ≡ Some d → c.state ≡ Turned → (d.state ≡ Turned → ⊥) →
+    d.work_reports ≡ []
+
+-- over every network, after every run, over each event that is enabled there
+abbrev pub EveryTurnedCallStays : Type 0
+EveryTurnedCallStays =
+    (t : Network) (events : List MeshEvent) → IsRun t start events → (e : MeshEvent) →
+    IsTrue (is_enabled t (after t start events) e) → TurnedCallsStay t (after t start events) e

@@ -44,9 +44,9 @@ use Rattle.mesh_rules.specs.State.{NodeState}
 use Rattle.mesh_nodes.specs.Order.{CallsRise}
 use Rattle.mesh_nodes.proofs.Alarms.{all-append}
 use Rattle.mesh_nodes.proofs.CallList.{all-calls_found}
-use Rattle.mesh_nodes.proofs.Cases.{both_left, both_right, if_cases}
+use Rattle.mesh_nodes.proofs.Cases.{both_left, both_right, if_cases, not-true}
 use Rattle.lsp_laws.specs.ReportLaw.{IsOfRoute}
-use Rattle.lsp_laws.proofs.nodes.CallMoves.{IsSameCall, revised-call, to-guarded, to-stuck, to-turning, waits-more}
+use Rattle.lsp_laws.proofs.nodes.CallMoves.{IsSameCall, MayLeave, by-test, revised-call, to-guarded, to-stuck, to-turning, waits-more}
 use Rattle.lsp_laws.proofs.nodes.CallChanges.{ArePut, EachCall, MayGo}
 use Rattle.lsp_laws.proofs.nodes.CallsHold.{message-holds, protect-holds, release-holds}
 use Rattle.lsp_laws.proofs.nodes.SetupsHold.{setup-holds}
@@ -111,24 +111,24 @@ module _ (t : Network) (s : Mesh) (n : NodeId) (o : Routes) (f : EachFollows t s
         IsGiven t (grown n o a) n d × Unit {0}
     same-puts a c d is here = (keeps a c d is here, tt)
 
-    turn-puts : (legs : List Leg) (c : CallRec) (b : Option Leg) → IsGiven t o n c → Puts (turn legs c b)
-    turn-puts legs c None here = same-puts (turn legs c None) c c (same-call t o c) here
-    turn-puts legs c (Some b) here =
+    turn-puts : (legs : List Leg) (c : CallRec) (b : Option Leg) → MayLeave c → IsGiven t o n c → Puts (turn legs c b)
+    turn-puts legs c None may here = same-puts (turn legs c None) c c (same-call t o c) here
+    turn-puts legs c (Some b) may here =
         if_cases Puts (is_held b.phase) (turn_to legs c b) (call_put c)
         (λ h. if_cases Puts (is_contended legs b) (call_put (stuck c (Code busy_code))) (arms c b)
         (λ busy. same-puts (call_put (stuck c (Code busy_code))) c (stuck c (Code busy_code))
-        (revised-call (IsOfRoute t o) c _ refl refl refl refl (to-stuck (IsOfRoute t o) c (Code busy_code) refl)) here)
+        (revised-call (IsOfRoute t o) c _ refl refl refl refl (to-stuck (IsOfRoute t o) c (Code busy_code) refl may)) here)
         (λ free. same-puts (arms c b) c (turning c)
-        (revised-call (IsOfRoute t o) c _ refl refl refl refl (to-turning (IsOfRoute t o) c)) here))
+        (revised-call (IsOfRoute t o) c _ refl refl refl refl (to-turning (IsOfRoute t o) c may)) here))
         (λ h. same-puts (call_put c) c c (same-call t o c) here)
 
-    back-puts : (a : Answer) (c : CallRec) (b : Option Leg) → IsGiven t o n c →
+    back-puts : (a : Answer) (c : CallRec) (b : Option Leg) → MayLeave c → IsGiven t o n c →
         ArePut (IsGiven t (grown n o a) n) (go_back c b).calls
-    back-puts a c None here = same-puts a c c (same-call t o c) here
-    back-puts a c (Some b) here =
+    back-puts a c None may here = same-puts a c c (same-call t o c) here
+    back-puts a c (Some b) may here =
         if_cases (λ x. ArePut (IsGiven t (grown n o a) n) x.calls) (is_in_use b.phase) (disarms c b) (call_put c)
         (λ h. same-puts a c (guarded c)
-        (revised-call (IsOfRoute t o) c _ refl refl refl refl (to-guarded (IsOfRoute t o) c)) here)
+        (revised-call (IsOfRoute t o) c _ refl refl refl refl (to-guarded (IsOfRoute t o) c may)) here)
         (λ h. same-puts a c c (same-call t o c) here)
 
     retry-puts : (from : NodeId) (k : CallNo) (c : Option CallRec) → find_call k (s.nodes n.0).calls ≡ c →
@@ -138,7 +138,8 @@ module _ (t : Network) (s : Mesh) (n : NodeId) (o : Routes) (f : EachFollows t s
         if_cases Puts (nat_eq from.0 n.0) (retries (s.nodes n.0) c) nothing
         (λ h. if_cases Puts (is_stuck c.state && (has_any c.work_reports && not (has_any c.back_reports)))
         (turn (s.nodes n.0).legs c (leg_of c.back (s.nodes n.0).legs)) nothing
-        (λ stuck. turn-puts (s.nodes n.0).legs c (leg_of c.back (s.nodes n.0).legs) (each n k c is)) (λ stuck. tt))
+        (λ stuck. turn-puts (s.nodes n.0).legs c (leg_of c.back (s.nodes n.0).legs)
+        (by-test c is_stuck refl (both_left (is_stuck c.state) _ stuck)) (each n k c is)) (λ stuck. tt))
         (λ h. tt)
 
     revert-puts : (from : NodeId) (k : CallNo) (c : Option CallRec) → find_call k (s.nodes n.0).calls ≡ c →
@@ -149,6 +150,7 @@ module _ (t : Network) (s : Mesh) (n : NodeId) (o : Routes) (f : EachFollows t s
         (λ h. if_cases Puts (is_turned c.state && not (has_any c.work_reports))
         (go_back c (leg_of c.back (s.nodes n.0).legs)) nothing
         (λ waits. back-puts (go_back c (leg_of c.back (s.nodes n.0).legs)) c (leg_of c.back (s.nodes n.0).legs)
+        (λ turned. not-true (has_any c.work_reports) (both_right (is_turned c.state) _ waits))
         (each n k c is)) (λ waits. tt))
         (λ h. tt)
 
@@ -162,7 +164,9 @@ module _ (t : Network) (s : Mesh) (n : NodeId) (o : Routes) (f : EachFollows t s
         (not (nat_eq t.wait 0) && (is_turned c.state && not (has_any c.work_reports))) (waits t.wait legs c) nothing
         (λ waiting. if_cases (λ x. ArePut (IsGiven t (grown n o a) n) x.calls) (nat_le t.wait (c.ticks + 1))
         (go_back c (leg_of c.back legs)) (call_put (record c { ticks = c.ticks + 1 }))
-        (λ over. back-puts a c (leg_of c.back legs) here)
+        (λ over. back-puts a c (leg_of c.back legs)
+        (λ turned. not-true (has_any c.work_reports)
+        (both_right (is_turned c.state) _ (both_right (not (nat_eq t.wait 0)) _ waiting))) here)
         (λ over. same-puts a c (record c { ticks = c.ticks + 1 })
         (record {
           egress = refl;

@@ -1,5 +1,5 @@
 -- What a rule makes of a call: it stands and keeps its backup where it did, its cause and its ticks fit its state, and
--- what holds of each report goes on to hold.
+-- what holds of each report goes on to hold; and it goes back only where nothing is reported of its working LSP.
 use Rattle.std.proofs.Common.{Bool, true, false, cond, ◌⊎◌, inl, inr, ◌≡◌, ◌+◌, ℕ, not, nat_eq, List, [], ◌∷◌, ◌++◌, refl, sym, ap, subst, ◌∙◌}
 use Rattle.std.specs.Prelude.{◌&&◌, ◌||◌, Option, Some, None}
 use Rattle.std.specs.List.{AllByRecursion}
@@ -40,6 +40,19 @@ bare-lone _ e h = cc e
 pub pairing-lone : (f : CallState) → is_pairing f ≡ true → has_backup f ≡ true → ⊥
 pairing-lone Pairing e h = cc h
 pairing-lone _ e h = cc e
+
+-- A call may leave the state turned where nothing is reported of its working LSP.
+abbrev pub MayLeave : CallRec → Type 0
+MayLeave c = c.state ≡ Turned → has_any c.work_reports ≡ false
+
+-- one in another state may
+pub in-other : (c : CallRec) (f : CallState) → c.state ≡ f → (f ≡ Turned → ⊥) → MayLeave c
+in-other c f is other turned = absurd (other (sym is ∙ turned))
+
+-- as where a test tells so
+pub by-test : (c : CallRec) (test : CallState → Bool) → test Turned ≡ false → test c.state ≡ true → MayLeave c
+by-test c test none is turned =
+    let never : test Turned ≡ true = subst (λ f. test f ≡ true) turned is in absurd (cc (none, never))
 
 pub asking-stands : (f : CallState) → is_asking f ≡ true → is_standing_call f ≡ true → ⊥
 asking-stands f asking h = let never = subst (λ f. is_standing_call f ≡ true) (asking-is f asking) h in cc never
@@ -96,41 +109,60 @@ module _ (Rep : Lsp → Fibre → Type 0) where
     pub back : has_backup c.state ≡ true → (has_backup d.state ≡ true) × (d.back ≡ c.back)
     pub tidy : IsTidy c → IsTidy d
     pub told : ReportsAreOf Rep c → ReportsAreOf Rep d
+    pub turned : c.state ≡ Turned → (d.state ≡ Turned) ⊎ (has_any d.work_reports ≡ false)
 
   pub moves-none : (c : CallRec) → Moves c c
-  moves-none c = record { number = refl; stands = λ e. e; back = λ e. (e, refl); tidy = λ e. e; told = λ h. h }
+  moves-none c = record {
+    number = refl;
+    stands = λ e. e;
+    back = λ e. (e, refl);
+    tidy = λ e. e;
+    told = λ h. h;
+    turned = λ h. inl h;
+  }
 
-  pub moves-then : (c d e : CallRec) → Moves c d → Moves d e → Moves c e
-  moves-then c d e first second = record {
+  -- the second one leaves what is reported of the working LSP
+  pub moves-then : (c d e : CallRec) → Moves c d → Moves d e → e.work_reports ≡ d.work_reports → Moves c e
+  moves-then c d e first second same = record {
     number = second.number ∙ first.number;
     stands = λ h. second.stands (first.stands h);
     back = λ h. let b = first.back h in let a = second.back b.0 in (a.0, a.1 ∙ b.1);
     tidy = λ h. second.tidy (first.tidy h);
     told = λ h. second.told (first.told h);
+    turned = λ h. elim (first.turned h) [
+      | inl stays ↦ second.turned stays
+      | inr none ↦ inr (subst (λ fibres. has_any fibres ≡ false) (sym same) none)
+    ];
   }
 
   -- a state in which the call has its backup, with a cause that fits and no ticks
   to-backed : (c : CallRec) (f : CallState) (cause : Cause) → is_standing_call f ≡ true → has_backup f ≡ true →
-      fits_cause f cause ≡ true → Moves c (record c { state = f; cause = cause; ticks = 0 })
-  to-backed c f cause stands backed fits = record {
+      fits_cause f cause ≡ true → (c.state ≡ Turned → (f ≡ Turned) ⊎ (has_any c.work_reports ≡ false)) →
+      Moves c (record c { state = f; cause = cause; ticks = 0 })
+  to-backed c f cause stands backed fits turned = record {
     number = refl;
     stands = λ e. stands;
     back = λ e. (backed, refl);
     tidy = λ e. record { cause = fits; ticks = refl; paired = backed-paired f cause c.protected backed };
     told = λ h. record { work = h.work; back = h.back };
+    turned = turned;
   }
 
-  pub to-guarded : (c : CallRec) → Moves c (guarded c)
-  to-guarded c = to-backed c Guarded Unset refl refl refl
+  pub to-guarded : (c : CallRec) → MayLeave c → Moves c (guarded c)
+  to-guarded c may = to-backed c Guarded Unset refl refl refl (λ h. inr (may h))
 
-  pub to-turning : (c : CallRec) → Moves c (turning c)
-  to-turning c = to-backed c Turning Unset refl refl refl
+  pub to-turning : (c : CallRec) → MayLeave c → Moves c (turning c)
+  to-turning c may = to-backed c Turning Unset refl refl refl (λ h. inr (may h))
 
   pub to-turned : (c : CallRec) → Moves c (turned c)
-  to-turned c = to-backed c Turned Unset refl refl refl
+  to-turned c = to-backed c Turned Unset refl refl refl (λ h. inl refl)
 
-  pub to-stuck : (c : CallRec) (cause : Cause) → is_unset cause ≡ false → Moves c (stuck c cause)
-  to-stuck c cause known = to-backed c Stuck cause refl refl (ap not known)
+  pub to-stuck : (c : CallRec) (cause : Cause) → is_unset cause ≡ false → MayLeave c → Moves c (stuck c cause)
+  to-stuck c cause known may = to-backed c Stuck cause refl refl (ap not known) (λ h. inr (may h))
+
+  -- a turned call has its backup
+  lone-never : {X : Type 0} (c : CallRec) → IsLone c → c.state ≡ Turned → X
+  lone-never c lone turned = absurd (lone (subst (λ f. has_backup f ≡ true) (sym turned) refl))
 
   pub to-bare : (c : CallRec) → IsLone c → c.protected ≡ false → Moves c (bare c)
   to-bare c lone plain = record {
@@ -139,6 +171,7 @@ module _ (Rep : Lsp → Fibre → Type 0) where
     back = λ e. absurd (lone e);
     tidy = λ e. record { cause = refl; ticks = refl; paired = ap not plain };
     told = λ h. record { work = h.work; back = h.back };
+    turned = λ h. lone-never c lone h;
   }
 
   pub to-unbacked : (c : CallRec) (cause : Cause) → is_unset cause ≡ false → IsLone c → Moves c (unbacked c cause)
@@ -148,6 +181,7 @@ module _ (Rep : Lsp → Fibre → Type 0) where
     back = λ e. absurd (lone e);
     tidy = λ e. record { cause = refl; ticks = refl; paired = rw known refl };
     told = λ h. record { work = h.work; back = tt };
+    turned = λ h. lone-never c lone h;
   }
 
   pub to-pairing : (c : CallRec) (l : Lsp) → IsLone c → Moves c (pairing c l)
@@ -157,6 +191,7 @@ module _ (Rep : Lsp → Fibre → Type 0) where
     back = λ e. absurd (lone e);
     tidy = λ e. record { cause = refl; ticks = refl; paired = refl };
     told = λ h. record { work = h.work; back = tt };
+    turned = λ h. lone-never c lone h;
   }
 
   pub to-blocked : (c : CallRec) (cause : Cause) → is_unset cause ≡ false → is_asking c.state ≡ true →
@@ -167,6 +202,7 @@ module _ (Rep : Lsp → Fibre → Type 0) where
     back = λ e. absurd (asking-lone c.state asking e);
     tidy = λ e. record { cause = ap not known; ticks = refl; paired = refl };
     told = λ h. record { work = tt; back = h.back };
+    turned = λ h. lone-never c (asking-lone c.state asking) h;
   }
 
   -- a tick more, where the call waits
@@ -178,6 +214,7 @@ module _ (Rep : Lsp → Fibre → Type 0) where
     back = λ e. (e, refl);
     tidy = λ e. record { cause = e.cause; ticks = or_right (nat_eq (c.ticks + 1) 0) _ waits; paired = e.paired };
     told = λ h. record { work = h.work; back = h.back };
+    turned = λ h. inl h;
   }
 
   -- A call that a rule puts in the place of this one: the same was asked for, and it has the same working LSP or none,
@@ -197,11 +234,11 @@ module _ (Rep : Lsp → Fibre → Type 0) where
 
   pub still : (c d e : CallRec) → IsSameCall c d → e.egress ≡ d.egress → e.protected ≡ d.protected →
       e.backup ≡ d.backup →
-      e.work ≡ d.work → Moves d e → IsSameCall c e
-  still c d e same egress protected backup work moves = record {
+      e.work ≡ d.work → e.work_reports ≡ d.work_reports → Moves d e → IsSameCall c e
+  still c d e same egress protected backup work reports moves = record {
     egress = egress ∙ same.egress;
     protected = protected ∙ same.protected;
     backup = backup ∙ same.backup;
     work = elim same.work [ inl is ↦ inl (work ∙ is) | inr is ↦ inr (work ∙ is.0, is.1) ];
-    moves = moves-then c d e same.moves moves;
+    moves = moves-then c d e same.moves moves reports;
   }

@@ -1,6 +1,6 @@
 -- What holds of a call after a step of it at its ingress, where it holds of a call by what was asked for and by its
 -- working LSP.
-use Rattle.std.proofs.Common.{Bool, true, false, inr, ◌≡◌, List, refl}
+use Rattle.std.proofs.Common.{Bool, true, false, inl, inr, ◌≡◌, List, refl}
 use Rattle.std.specs.Prelude.{Option, Some, None, is_some, nat_lt, drop}
 use Rattle.ason_base.specs.declared.calls.CallState.TheVariants.{Asking, Bare, Blocked, Guarded, Pairing, Stuck, Turned, Turning}
 use Rattle.ason_base.specs.declared.calls.CallState.{CallState}
@@ -33,7 +33,7 @@ use Rattle.mesh_nodes.specs.Order.{CallsRise}
 use Rattle.mesh_nodes.proofs.Cases.{if_cases}
 use Rattle.mesh_nodes.proofs.CallList.{called-found, called-names}
 use Rattle.lsp_laws.specs.CallLaw.{is_unset}
-use Rattle.lsp_laws.proofs.nodes.CallMoves.{IsLone, IsSameCall, Moves, asking-lone, of-after, other_one, pairing-lone, reported-ticks, revised-call, still, to-bare, to-blocked, to-guarded, to-pairing, to-stuck, to-turned, to-turning, to-unbacked}
+use Rattle.lsp_laws.proofs.nodes.CallMoves.{IsLone, IsSameCall, MayLeave, Moves, asking-lone, by-test, in-other, of-after, other_one, pairing-lone, reported-ticks, revised-call, still, to-bare, to-blocked, to-guarded, to-pairing, to-stuck, to-turned, to-turning, to-unbacked}
 use Rattle.lsp_laws.proofs.nodes.CallChanges.{AreChanges, EachCall}
 
 -- P holds of each call before the rule, and R of those that the rule puts in their places; G of those that go
@@ -98,49 +98,52 @@ module _ (Rep : Lsp → Fibre → Type 0) (G : CallNo → Type 0) (P R : CallRec
   -- A call turns, or decides
 
   module _ (c : CallRec) (here : P c) where
-    pub holds-turn : (d : CallRec) (o : Option Leg) → IsSameCall Rep c d → Holds (turn s.legs d o)
-    holds-turn d None same = (keeps c d same here, tt)
-    holds-turn d (Some b) same =
+    pub holds-turn : (d : CallRec) (o : Option Leg) → MayLeave d → IsSameCall Rep c d → Holds (turn s.legs d o)
+    holds-turn d None may same = (keeps c d same here, tt)
+    holds-turn d (Some b) may same =
         if_cases Holds (is_held b.phase) _ _
         (λ e. if_cases Holds (is_contended s.legs b) _ _
         (λ f. (
-          keeps c (stuck d (Code busy_code)) (still Rep c d (stuck d (Code busy_code)) same refl refl refl refl
-              (to-stuck Rep d (Code busy_code) refl)) here,
+          keeps c (stuck d (Code busy_code)) (still Rep c d (stuck d (Code busy_code)) same refl refl refl refl refl
+              (to-stuck Rep d (Code busy_code) refl may)) here,
           tt,
         ))
-        (λ f. (keeps c (turning d) (still Rep c d (turning d) same refl refl refl refl (to-turning Rep d)) here, tt)))
+        (λ f. (keeps c (turning d) (still Rep c d (turning d) same refl refl refl refl refl (to-turning Rep d may)) here, tt)))
         (λ e. (keeps c d same here, tt))
 
-    pub holds-go_back : (d : CallRec) (o : Option Leg) → IsSameCall Rep c d → Holds (go_back d o)
-    holds-go_back d None same = (keeps c d same here, tt)
-    holds-go_back d (Some b) same =
+    pub holds-go_back : (d : CallRec) (o : Option Leg) → MayLeave d → IsSameCall Rep c d → Holds (go_back d o)
+    holds-go_back d None may same = (keeps c d same here, tt)
+    holds-go_back d (Some b) may same =
         if_cases Holds (is_in_use b.phase) _ _
-        (λ e. (keeps c (guarded d) (still Rep c d (guarded d) same refl refl refl refl (to-guarded Rep d)) here, tt))
+        (λ e. (keeps c (guarded d) (still Rep c d (guarded d) same refl refl refl refl refl (to-guarded Rep d may)) here, tt))
         (λ e. (keeps c d same here, tt))
 
-    pub holds-decided : (d : CallRec) (o : Option Leg) (state : CallState) (works backs : Bool) → IsSameCall Rep c d →
-        Holds (decided s.legs d o state works backs)
-    holds-decided d o Asking works backs same = (keeps c d same here, tt)
-    holds-decided d o Blocked works backs same = (keeps c d same here, tt)
-    holds-decided d o Bare works backs same = (keeps c d same here, tt)
-    holds-decided d o Pairing works backs same = (keeps c d same here, tt)
-    holds-decided d o Guarded true false same = holds-turn d o same
-    holds-decided d o Guarded true true same = (
-      keeps c (stuck d BackDown) (still Rep c d (stuck d BackDown) same refl refl refl refl
-          (to-stuck Rep d BackDown refl)) here,
+    pub holds-decided : (d : CallRec) (o : Option Leg) (state : CallState) (works backs : Bool) → d.state ≡ state →
+        has_any d.work_reports ≡ works → IsSameCall Rep c d → Holds (decided s.legs d o state works backs)
+    holds-decided d o Asking works backs is w same = (keeps c d same here, tt)
+    holds-decided d o Blocked works backs is w same = (keeps c d same here, tt)
+    holds-decided d o Bare works backs is w same = (keeps c d same here, tt)
+    holds-decided d o Pairing works backs is w same = (keeps c d same here, tt)
+    holds-decided d o Guarded true false is some same = holds-turn d o (in-other d Guarded is (λ e. cc e)) same
+    holds-decided d o Guarded true true is some same = (
+      keeps c (stuck d BackDown) (still Rep c d (stuck d BackDown) same refl refl refl refl refl
+          (to-stuck Rep d BackDown refl (in-other d Guarded is (λ e. cc e)))) here,
       tt,
     )
-    holds-decided d o Guarded false backs same = (keeps c d same here, tt)
-    holds-decided d o Turning works backs same = (keeps c d same here, tt)
-    holds-decided d o Turned true backs same = (keeps c d same here, tt)
-    holds-decided d o Turned false true same = holds-go_back d o same
-    holds-decided d o Turned false false same = (keeps c d same here, tt)
-    holds-decided d o Stuck true backs same = (keeps c d same here, tt)
-    holds-decided d o Stuck false backs same =
-        (keeps c (guarded d) (still Rep c d (guarded d) same refl refl refl refl (to-guarded Rep d)) here, tt)
+    holds-decided d o Guarded false backs is w same = (keeps c d same here, tt)
+    holds-decided d o Turning works backs is w same = (keeps c d same here, tt)
+    holds-decided d o Turned true backs is w same = (keeps c d same here, tt)
+    holds-decided d o Turned false true is none same = holds-go_back d o (λ e. none) same
+    holds-decided d o Turned false false is w same = (keeps c d same here, tt)
+    holds-decided d o Stuck true backs is w same = (keeps c d same here, tt)
+    holds-decided d o Stuck false backs is none same = (
+      keeps c (guarded d) (still Rep c d (guarded d) same refl refl refl refl refl
+          (to-guarded Rep d (in-other d Stuck is (λ e. cc e)))) here,
+      tt,
+    )
 
     pub holds-decide : (d : CallRec) (o : Option Leg) → IsSameCall Rep c d → Holds (decide s.legs d o)
-    holds-decide d o same = holds-decided d o d.state (has_any d.work_reports) (has_any d.back_reports) same
+    holds-decide d o same = holds-decided d o d.state (has_any d.work_reports) (has_any d.back_reports) refl refl same
 
   -- What a message makes of the call of an LSP
 
@@ -157,7 +160,7 @@ module _ (Rep : Lsp → Fibre → Type 0) (G : CallNo → Type 0) (P R : CallRec
       (λ e. stays c (bare c) refl refl refl refl (to-bare Rep c (asking-lone c.state a) e) here)) (λ e. tt))
       (λ e. if_cases Holds (is_pairing c.state) _ _
       (λ e. holds-decide c here (guarded c) (Some g)
-      (revised-call Rep c (guarded c) refl refl refl refl (to-guarded Rep c))) (λ e. tt))
+      (revised-call Rep c (guarded c) refl refl refl refl (to-guarded Rep c (by-test c is_pairing refl e)))) (λ e. tt))
 
   pub holds-call_turned : (l : Lsp) (b : Leg) (o : Option CallRec) → call_with l s.calls ≡ o → Holds (call_turned s b o)
   holds-call_turned l b None is = tt
@@ -172,7 +175,8 @@ module _ (Rep : Lsp → Fibre → Type 0) (G : CallNo → Type 0) (P R : CallRec
   holds-call_contended l b (Some c) is =
       if_cases Holds (is_turning c.state) _ _
       (λ e. holds-decide c (called l c is) (stuck c (Code busy_code)) (Some b)
-      (revised-call Rep c (stuck c (Code busy_code)) refl refl refl refl (to-stuck Rep c (Code busy_code) refl)))
+      (revised-call Rep c (stuck c (Code busy_code)) refl refl refl refl (to-stuck Rep c (Code busy_code) refl
+      (by-test c is_turning refl e))))
       (λ e. tt)
 
   pub holds-call_refused : (code : ErrCode) (g : Leg) (o : Option CallRec) → call_with g.lsp s.calls ≡ o →
@@ -204,6 +208,7 @@ module _ (Rep : Lsp → Fibre → Type 0) (G : CallNo → Type 0) (P R : CallRec
           paired = h.paired;
         };
         told = λ h. record { work = of-after Rep c.work l down f c.work_reports e of h.work; back = h.back };
+        turned = λ h. inl h;
       }))
       (λ e. revised-call Rep c (with_back_reports c (fibres_after down f c.back_reports)) refl refl refl refl (record {
         number = refl;
@@ -215,6 +220,7 @@ module _ (Rep : Lsp → Fibre → Type 0) (G : CallNo → Type 0) (P R : CallRec
           back = of-after Rep c.back l down f c.back_reports
               (other_one (is_lsp c.work l) (is_lsp c.back l) e named) of h.back;
         };
+        turned = λ h. inl h;
       }))
 
   pub holds-call_reported : (l : Lsp) (down : Bool) (f : Fibre) (o : Option CallRec) → call_with l s.calls ≡ o →

@@ -1,0 +1,177 @@
+-- A turned call goes back only where nothing is reported of its working LSP.
+use Rattle.std.proofs.Common.{◌⊎◌, ◌≡◌, ℕ, Bool, true, false, cond, nat_eq, List, [], ◌∷◌, refl, sym, subst, ◌∙◌, arith, inl, inr}
+use Rattle.std.specs.Prelude.{Option, Some, None}
+use Rattle.ason_base.specs.declared.commands.Command.TheVariants.{Setup, Release, Protect, Retry, Revert, Fail, Repair}
+use Rattle.ason_base.specs.declared.commands.Command.{Command}
+use Rattle.ason_base.specs.declared.commands.DeskItem.{DeskItem}
+use Rattle.ason_base.specs.declared.commands.DeskItem.TheVariants.{Order, Alarm, Clear}
+use Rattle.ason_base.specs.declared.ids.CallNo.{CallNo}
+use Rattle.ason_base.specs.declared.ids.NodeId.{NodeId}
+use Rattle.ason_base.specs.declared.messages.Msg.{Msg}
+use Rattle.ason_base.specs.declared.network.LinkSpec.{LinkSpec}
+use Rattle.ason_base.specs.declared.tables.CallRec.{CallRec}
+use Rattle.ason_base.specs.Network.{Network, find_link, row_of}
+use Rattle.mesh_rules.specs.declared.events.MeshEvent.{MeshEvent}
+use Rattle.mesh_rules.specs.declared.events.MeshEvent.TheVariants.{Take, Desk, Tick, Learn, Post}
+use Rattle.mesh_rules.specs.Calls.{find_call}
+use Rattle.mesh_rules.specs.Changes.{Answer, changed, learns, nothing}
+use Rattle.mesh_rules.specs.Events.{after, on_first, on_first_item, posted, step}
+use Rattle.mesh_rules.specs.KnownRows.{has_row, known_rows}
+use Rattle.mesh_rules.specs.Learnt.{on_link}
+use Rattle.mesh_rules.specs.LocalNodes.{LocalNode, local_node}
+use Rattle.mesh_rules.specs.Machine.{Mesh, commit, start, without_first, without_item}
+use Rattle.mesh_rules.specs.Orders.{on_item}
+use Rattle.mesh_rules.specs.Setups.{SetupRequest, setup_with}
+use Rattle.mesh_rules.specs.State.{NodeState}
+use Rattle.mesh_rules.specs.Waits.{on_tick}
+use Rattle.mesh_nodes.specs.Order.{CallsRise}
+use Rattle.mesh_nodes.proofs.CallList.{found-number}
+use Rattle.mesh_nodes.proofs.Cases.{if_cases}
+use Rattle.lsp_laws.proofs.nodes.CallMoves.{IsSameCall}
+use Rattle.lsp_laws.proofs.nodes.CallsHold.{alarm-holds, clear-holds, message-holds, protect-holds, release-holds, retry-holds, revert-holds, tick-holds}
+use Rattle.lsp_laws.proofs.nodes.SetupsHold.{setup-holds}
+use Rattle.lsp_laws.proofs.nodes.Facts.{MeshFacts}
+use Rattle.lsp_laws.proofs.nodes.NodeRuns.{facts-hold}
+use Rattle.lsp_laws.specs.StandLaw.{EveryTurnedCallStays}
+use Rattle.ason_base.specs.declared.calls.CallState.TheVariants.{Turned}
+use Rattle.ason_base.specs.declared.ids.Fibre.{Fibre}
+use Rattle.mesh_rules.specs.Turns.{has_any}
+use Rattle.lsp_laws.proofs.nodes.CallChanges.{ArePut, EachCall, MayGo, OfAny, each-after}
+
+-- k is the number of the call c before the rule
+module _ (k : CallNo) (c : CallRec) where
+  -- of this number there is just this call
+  abbrev IsOne : CallRec → Type 0
+  IsOne d = d.call ≡ k → d ≡ c
+
+  -- and it stays turned, unless nothing is reported of its working LSP
+  abbrev Stays : CallRec → Type 0
+  Stays d = d.call ≡ k → c.state ≡ Turned → (d.state ≡ Turned) ⊎ (has_any d.work_reports ≡ false)
+
+  keeps : (d e : CallRec) → IsSameCall OfAny d e → IsOne d → Stays e
+  keeps d e same one number turned =
+      let is : d ≡ c = one (sym same.moves.number ∙ number) in
+      same.moves.turned (subst (λ (x : CallRec). x.state ≡ Turned) (sym is) turned)
+
+  module _ (p : LocalNode) (s : NodeState) (rise : CallsRise s.calls) (found : find_call k s.calls ≡ Some c) where
+    one : EachCall IsOne s.calls
+    one m d there number =
+        let at : m ≡ k = sym (found-number m s.calls d there) ∙ number in
+        let there' : find_call k s.calls ≡ Some d = subst (λ x. find_call x s.calls ≡ Some d) at there in
+        cc (found, there')
+
+    setup-stays : (w : SetupRequest) (o : Option CallRec) → find_call w.call s.calls ≡ o →
+        ArePut Stays (setup_with p s w o).calls
+    setup-stays w (Some d) known = tt
+    setup-stays w None known =
+        setup-holds MayGo p s w (λ a. Stays) (λ a cause known number. never number)
+        (λ route out over first ordered has number. never number) None
+      where
+        never : {X : Type 0} → w.call ≡ k → X
+        never number =
+            let none : find_call k s.calls ≡ None = subst (λ x. find_call x s.calls ≡ None) number known in
+            absurd (cc (none, found))
+
+    item-stays : (i : DeskItem) → ArePut Stays (on_item p s i).calls
+    item-stays (Order (Setup j from to protected both via backup)) =
+        setup-stays
+        (record { call = j; from = from; egress = to; protected = protected; both = both; via = via; backup = backup })
+        (find_call j s.calls) refl
+    item-stays (Order (Release j from)) =
+        release-holds OfAny MayGo IsOne Stays keeps p s (λ g m j f found first into. tt) rise one from
+        (find_call j s.calls) (λ d there. tt)
+    item-stays (Order (Protect j from)) =
+        protect-holds OfAny MayGo IsOne Stays keeps p s (λ g m j f found first into. tt) rise one j from
+        (find_call j s.calls) refl
+    item-stays (Order (Retry j from)) =
+        retry-holds OfAny MayGo IsOne Stays keeps p s (λ g m j f found first into. tt) rise one j from
+        (find_call j s.calls) refl
+    item-stays (Order (Revert j from)) =
+        revert-holds OfAny MayGo IsOne Stays keeps p s (λ g m j f found first into. tt) rise one j from
+        (find_call j s.calls) refl
+    item-stays (Order (Fail g)) = tt
+    item-stays (Order (Repair g)) = tt
+    item-stays (Alarm f) = alarm-holds OfAny MayGo IsOne Stays keeps p s (λ g m j f found first into. tt) rise one f
+    item-stays (Clear f) = clear-holds OfAny MayGo IsOne Stays keeps p s (λ g m j f found first into. tt) rise one f
+
+    first_item-stays : (items : List DeskItem) → ArePut Stays (on_first_item p s items).calls
+    first_item-stays [] = tt
+    first_item-stays (i ∷ items) = item-stays i
+
+    first-stays : (u : NodeId) (ms : List Msg) → ArePut Stays (on_first p s u ms).calls
+    first-stays u [] = tt
+    first-stays u (m ∷ ms) = message-holds OfAny MayGo IsOne Stays keeps p s (λ g m j f found first into. tt) rise one u m
+
+    ticks-stay : ArePut Stays (on_tick p s).calls
+    ticks-stay = tick-holds OfAny MayGo IsOne Stays keeps p s (λ g m j f found first into. tt) rise one
+
+    link-stays : (o : Option LinkSpec) → ArePut Stays (on_link p s o).calls
+    link-stays None = tt
+    link-stays (Some l) =
+        if_cases (λ a. ArePut Stays a.calls) (has_row (known_rows p s) l.id) nothing (learns (row_of l))
+        (λ known. tt) (λ new. tt)
+
+  module _ (s : Mesh) (n : ℕ) (rise : (m : ℕ) → CallsRise (s.nodes m).calls)
+      (found : find_call k (s.nodes n).calls ≡ Some c) where
+    itself : EachCall Stays (s.nodes n).calls
+    itself m d there number turned =
+        let at : m ≡ k = sym (found-number m (s.nodes n).calls d there) ∙ number in
+        let there' : find_call k (s.nodes n).calls ≡ Some d =
+        subst (λ x. find_call x (s.nodes n).calls ≡ Some d) at there in
+        let is : c ≡ d = (let some : Some c ≡ Some d = sym found ∙ there' in cc some) in
+        inl (subst (λ (x : CallRec). x.state ≡ Turned) is turned)
+
+    -- an answer is carried out at the node m, over any desks and messages
+    committed : (x : Mesh) → x.nodes ≡ s.nodes → (m : NodeId) (a : Answer) → (n ≡ m.0 → ArePut Stays a.calls) →
+        EachCall Stays ((commit x m.0 a).nodes n).calls
+    committed x same m a here = go (nat_eq n m.0) refl
+      where
+        at-node : EachCall Stays (x.nodes n).calls
+        at-node = subst (λ (nodes : ℕ → NodeState). EachCall Stays (nodes n).calls) (sym same) itself
+
+        go : (b : Bool) → nat_eq n m.0 ≡ b → EachCall Stays (cond b (changed (x.nodes n) a) (x.nodes n)).calls
+        go true e = let is : n ≡ m.0 = grind arith in each-after Stays a.calls (x.nodes n).calls (here is) at-node
+        go false e = at-node
+
+    at : (m : NodeId) → n ≡ m.0 → find_call k (s.nodes m.0).calls ≡ Some c
+    at m is = subst (λ x. find_call k (s.nodes x).calls ≡ Some c) is found
+
+    step-stays : (t : Network) (e : MeshEvent) → EachCall Stays ((step t s e).nodes n).calls
+    step-stays t (Take d u) =
+        committed (without_first s u.0 d.0) refl d (on_first (local_node t d) (s.nodes d.0) u (s.mail u.0 d.0))
+        (λ is. first-stays (local_node t d) (s.nodes d.0) (rise d.0) (at d is) u (s.mail u.0 d.0))
+    step-stays t (Desk m) =
+        committed (without_item s m.0) refl m (on_first_item (local_node t m) (s.nodes m.0) (s.desks m.0))
+        (λ is. first_item-stays (local_node t m) (s.nodes m.0) (rise m.0) (at m is) (s.desks m.0))
+    step-stays t (Tick m) =
+        committed s refl m (on_tick (local_node t m) (s.nodes m.0))
+        (λ is. ticks-stay (local_node t m) (s.nodes m.0) (rise m.0) (at m is))
+    step-stays t (Learn m l) =
+        committed s refl m (on_link (local_node t m) (s.nodes m.0) (find_link t l))
+        (λ is. link-stays (local_node t m) (s.nodes m.0) (rise m.0) (at m is) (find_link t l))
+    step-stays t (Post x) =
+        subst (λ (nodes : ℕ → NodeState). EachCall Stays (nodes n).calls) (sym (posted-nodes x)) itself
+      where
+        posted-nodes : (x : Command) → (posted t s x).nodes ≡ s.nodes
+        posted-nodes (Setup j from to protected both via backup) = refl
+        posted-nodes (Release j from) = refl
+        posted-nodes (Protect j from) = refl
+        posted-nodes (Retry j from) = refl
+        posted-nodes (Revert j from) = refl
+        posted-nodes (Fail g) = refl
+        posted-nodes (Repair g) = refl
+
+none-reported : (fibres : List Fibre) → has_any fibres ≡ false → fibres ≡ []
+none-reported [] e = refl
+none-reported (f ∷ fibres) e = absurd (cc e)
+
+-- A turned call stays so, over each event, while a fibre of its working LSP is reported.
+pub every_turned_call_stays : EveryTurnedCallStays
+every_turned_call_stays t events run e enabled n k c d found later turned left =
+    let s : Mesh = after t start events in
+    let facts : MeshFacts t s = facts-hold t events run in
+    elim (step-stays k c s n (λ m. (facts.node m).calls_rise) found t e k d later
+    (found-number k ((step t s e).nodes n).calls d later) turned) [
+      | inl stays ↦ absurd (left stays)
+      | inr none ↦ none-reported d.work_reports none
+    ]
