@@ -17,11 +17,13 @@ no_lines : (n : NodeId) (ds : List Deed) → [] ≡ map (line_of n) ds → ds �
 no_lines n [] e = refl
 no_lines n (d ∷ ds) e = absurd (cc (e))
 
-record Runs (t : Network) (hists : Histories) (w : World) (m : List Entry) : Type 0 where
-  run : IsRun t w (events_of m)
-  parts : (n : ℕ) → Agrees n (after t w (events_of m)) (alone t (at n) (hists n))
+-- the run of a merge from a world to which part of what happened has led
+pub record Runs (t : Network) (hists : Histories) (w : World) (m : List Entry) : Type 0 where
+  pub run : IsRun t w (events_of m)
+  pub parts : (n : ℕ) → Agrees n (after t w (events_of m)) (alone t (at n) (hists n))
 
-runs : (t : Network) (hists : Histories) → AreHistories t hists → (m : List Entry) (s : ℕ) → Ascends s m → (w : World)
+-- What is left of a merge goes on from there.
+pub runs : (t : Network) (hists : Histories) → AreHistories t hists → (m : List Entry) (s : ℕ) → Ascends s m → (w : World)
     (before ahead : ℕ → List Deed) → Fits t hists w before ahead m → Runs t hists w m
 runs t hists are [] s up w before ahead f = record {
   run = tt;

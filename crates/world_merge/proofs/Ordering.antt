@@ -24,7 +24,8 @@ at_least e f b =
     ⊎_elim (λ (h : e.stamp < f.stamp). omega (arith, h))
     (λ (h : (e.stamp ≡ f.stamp) × (place_of e.node ≤ place_of f.node)). omega (arith, h.0)) b
 
-ascends : (s : ℕ) (m : List Entry) → AllByRecursion (λ (f : Entry). s ≤ f.stamp) m → IsSorted m → Ascends s m
+-- stamps of a sorted list never fall
+pub ascends : (s : ℕ) (m : List Entry) → AllByRecursion (λ (f : Entry). s ≤ f.stamp) m → IsSorted m → Ascends s m
 ascends s [] all sorted = tt
 ascends s (e ∷ m) all sorted = (all.0, ascends e.stamp m (go m sorted.0) sorted.1)
   where
@@ -32,7 +33,8 @@ ascends s (e ∷ m) all sorted = (all.0, ascends e.stamp m (go m sorted.0) sorte
     go [] all = tt
     go (f ∷ m) all = (at_least e f all.0, go m all.1)
 
-from_zero : (m : List Entry) → AllByRecursion (λ (f : Entry). 0 ≤ f.stamp) m
+-- nor is one below 0
+pub from_zero : (m : List Entry) → AllByRecursion (λ (f : Entry). 0 ≤ f.stamp) m
 from_zero [] = tt
 from_zero (e ∷ m) = (omega arith, from_zero m)
 

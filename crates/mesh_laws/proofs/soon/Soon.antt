@@ -9,7 +9,7 @@ use Rattle.mesh_rules.specs.Events.{after, step}
 use Rattle.mesh_rules.specs.Machine.{Mesh}
 use Rattle.mesh_laws.proofs.alone.AloneRuns.{after-append}
 use Rattle.mesh_laws.specs.Sweeps.{AreSweeps, IsSweep, handles_one, takes_one}
-use Rattle.mesh_laws.proofs.soon.Swept.{Goes, IsHandled, IsTaken, Keeps, MovesUp, StandsIn, Turn, desk-turn, mail-turn, swept-desk, swept-mail}
+use Rattle.mesh_laws.proofs.soon.Swept.{Goes, GetsHandled, GetsTaken, Keeps, MovesUp, StandsIn, Turn, desk-turn, mail-turn, swept-desk, swept-mail}
 
 -- Good: what holds of each state and of the event that comes there. Done: the goal. Says j u d m: the message m from u to
 -- d tells that the goal is j sweeps off once it is taken. Tells j n i: so does an item of the desk of n.
@@ -98,11 +98,11 @@ module _ (t : Network) (x : Goal) (nears : Nears t x) where
       Soon x k (after t s es)
   soon-swept s es k sweep good (IsDone done) = soon-along s es k good (IsDone done)
   soon-swept s es k sweep good (ByMail j u d m before less says stands) =
-      let is : IsTaken t s es u d m = swept-mail t s es u d m before stands sweep in
+      let is : GetsTaken t s es u d m = swept-mail t s es u d m before stands sweep in
       from-there s is.first is.event is.later es j k is.parts (omega (arith, less)) good
       (λ here. nears.says (after t s is.first) is.event j u d m here says is.takes is.waits)
   soon-swept s es k sweep good (ByDesk j n i before less tells stands) =
-      let is : IsHandled t s es n i = swept-desk t s es n i before stands sweep in
+      let is : GetsHandled t s es n i = swept-desk t s es n i before stands sweep in
       from-there s is.first is.event is.later es j k is.parts (omega (arith, less)) good
       (λ here. nears.tells (after t s is.first) is.event j n i here tells is.handles is.waits)
 

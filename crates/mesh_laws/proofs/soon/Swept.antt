@@ -176,7 +176,7 @@ desk-turn t s e n i before stands =
 -- Sweeps
 
 -- in these events the message is taken, being then the first of its list
-pub record IsTaken (t : Network) (s : Mesh) (es : List MeshEvent) (u d : ℕ) (m : Msg) : Type 0 where
+pub record GetsTaken (t : Network) (s : Mesh) (es : List MeshEvent) (u d : ℕ) (m : Msg) : Type 0 where
   pub first : List MeshEvent
   pub event : MeshEvent
   pub later : List MeshEvent
@@ -186,13 +186,13 @@ pub record IsTaken (t : Network) (s : Mesh) (es : List MeshEvent) (u d : ℕ) (m
 
 -- What stands behind fewer messages than are taken is taken.
 is-taken : (t : Network) (s : Mesh) (es : List MeshEvent) (u d : ℕ) (m : Msg) (before : List Msg) →
-    StandsIn (s.mail u d) m before → length before < taken u d es → IsTaken t s es u d m
+    StandsIn (s.mail u d) m before → length before < taken u d es → GetsTaken t s es u d m
 is-taken t s [] u d m before stands few = absurd (omega arith)
 is-taken t s (e ∷ es) u d m before stands few =
     go (mail-turn t s e u d m before stands)
     (λ cs up less. is-taken t (step t s e) es u d m cs up less)
   where
-    later : IsTaken t (step t s e) es u d m → IsTaken t s (e ∷ es) u d m
+    later : GetsTaken t (step t s e) es u d m → GetsTaken t s (e ∷ es) u d m
     later more = record {
       first = e ∷ more.first;
       event = more.event;
@@ -204,7 +204,7 @@ is-taken t s (e ∷ es) u d m before stands few =
 
     go : Turn (takes_one u d e) ((step t s e).mail u d) m before →
         ((cs : List Msg) → StandsIn ((step t s e).mail u d) m cs → length cs < taken u d es →
-        IsTaken t (step t s e) es u d m) → IsTaken t s (e ∷ es) u d m
+        GetsTaken t (step t s e) es u d m) → GetsTaken t s (e ∷ es) u d m
     go (Goes one none) again = record {
       first = [];
       event = e;
@@ -223,14 +223,14 @@ behind-less x (c ∷ before) later = let h = behind-less x before later in omega
 
 -- In a sweep each message that was under way as it began is taken.
 pub swept-mail : (t : Network) (s : Mesh) (es : List MeshEvent) (u d : ℕ) (m : Msg) (before : List Msg) →
-    StandsIn (s.mail u d) m before → IsSweep s es → IsTaken t s es u d m
+    StandsIn (s.mail u d) m before → IsSweep s es → GetsTaken t s es u d m
 swept-mail t s es u d m before stands sweep =
     let less : length before < length (s.mail u d) = rw stands.all (behind-less m before stands.later) in
     let all = sweep.mail u d in
     is-taken t s es u d m before stands (omega (arith, less, all))
 
 -- the event that handles the item
-pub record IsHandled (t : Network) (s : Mesh) (es : List MeshEvent) (n : ℕ) (i : DeskItem) : Type 0 where
+pub record GetsHandled (t : Network) (s : Mesh) (es : List MeshEvent) (n : ℕ) (i : DeskItem) : Type 0 where
   pub first : List MeshEvent
   pub event : MeshEvent
   pub later : List MeshEvent
@@ -239,13 +239,13 @@ pub record IsHandled (t : Network) (s : Mesh) (es : List MeshEvent) (n : ℕ) (i
   pub waits : StandsIn ((after t s first).desks n) i []
 
 is-handled : (t : Network) (s : Mesh) (es : List MeshEvent) (n : ℕ) (i : DeskItem) (before : List DeskItem) →
-    StandsIn (s.desks n) i before → length before < handled_at n es → IsHandled t s es n i
+    StandsIn (s.desks n) i before → length before < handled_at n es → GetsHandled t s es n i
 is-handled t s [] n i before stands few = absurd (omega arith)
 is-handled t s (e ∷ es) n i before stands few =
     go (desk-turn t s e n i before stands)
     (λ cs up less. is-handled t (step t s e) es n i cs up less)
   where
-    later : IsHandled t (step t s e) es n i → IsHandled t s (e ∷ es) n i
+    later : GetsHandled t (step t s e) es n i → GetsHandled t s (e ∷ es) n i
     later more = record {
       first = e ∷ more.first;
       event = more.event;
@@ -257,7 +257,7 @@ is-handled t s (e ∷ es) n i before stands few =
 
     go : Turn (handles_one n e) ((step t s e).desks n) i before →
         ((cs : List DeskItem) → StandsIn ((step t s e).desks n) i cs → length cs < handled_at n es →
-        IsHandled t (step t s e) es n i) → IsHandled t s (e ∷ es) n i
+        GetsHandled t (step t s e) es n i) → GetsHandled t s (e ∷ es) n i
     go (Goes one none) again = record {
       first = [];
       event = e;
@@ -272,7 +272,7 @@ is-handled t s (e ∷ es) n i before stands few =
 
 -- In a sweep each item that was on a desk as it began is handled.
 pub swept-desk : (t : Network) (s : Mesh) (es : List MeshEvent) (n : ℕ) (i : DeskItem) (before : List DeskItem) →
-    StandsIn (s.desks n) i before → IsSweep s es → IsHandled t s es n i
+    StandsIn (s.desks n) i before → IsSweep s es → GetsHandled t s es n i
 swept-desk t s es n i before stands sweep =
     let less : length before < length (s.desks n) = rw stands.all (behind-less i before stands.later) in
     let all = sweep.desks n in

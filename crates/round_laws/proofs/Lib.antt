@@ -1,0 +1,15 @@
+pub mod Climbing
+pub mod Counting
+pub mod Fleets
+pub mod GoingOn
+pub mod Hearing
+pub mod Keeping
+pub mod Numbers
+pub mod Quiet
+pub mod Reached
+pub mod Sending
+pub mod Since
+pub mod Sorting
+pub mod Standing
+pub mod Sweeping
+pub mod Taking

@@ -1,0 +1,186 @@
+-- Where nothing is unacknowledged, nothing is missing in the rings; and a post leaves that so.
+use Rattle.std.proofs.Common.{inl, inr, ◌≡◌, ◌≤◌, ◌+◌, ℕ, Bool, true, false, nat_eq, List, [], ◌∷◌, ◌++◌, length, refl, sym, ap, ◌∙◌, subst, append-nil, arith}
+use Rattle.ason_base.specs.declared.ids.NodeId.{NodeId}
+use Rattle.ason_base.specs.declared.commands.Command.{Command}
+use Rattle.ason_base.specs.declared.commands.Command.TheVariants.{Setup, Release, Protect, Retry, Revert, Fail, Repair}
+use Rattle.ason_base.specs.declared.commands.Entry.{Entry}
+use Rattle.ason_base.specs.declared.commands.Event.{Event}
+use Rattle.ason_base.specs.declared.commands.Event.TheVariants.{Post}
+use Rattle.ason_base.specs.declared.messages.Msg.{Msg}
+use Rattle.std.proofs.lemmas.List.{length-append}
+use Rattle.channel_frames.specs.declared.frames.Content.{Content}
+use Rattle.ason_base.specs.Network.{Network}
+use Rattle.hop_reliable.specs.Schedules.{BothWays, HopEnd, IsSettled}
+use Rattle.hop_reliable.proofs.Flow.{Flow}
+use Rattle.hop_reliable.proofs.Schedule.{settled_is_delivered}
+use Rattle.world_rules.specs.Worlds.{World, start}
+use Rattle.world_rules.specs.WorldRuns.{after, posted, step}
+use Rattle.world_rules.proofs.Reached.{AreReached, are-reached-run, are-reached-start}
+use Rattle.world_merge.specs.Deeds.{Posted}
+use Rattle.world_merge.specs.Histories.{at}
+use Rattle.world_merge.specs.Logs.{line_of}
+use Rattle.world_merge.specs.Merges.{events_of}
+use Rattle.round_rules.specs.Doings.{Did, Doing}
+use Rattle.round_rules.specs.Records.{IsRecord, Record, world_of}
+use Rattle.round_rules.specs.Rings.{count_of, got_from, is_in, standing}
+use Rattle.round_laws.specs.FleetLaw.{AllAcknowledged, IsPostOf, NewIsOnlySent, OnlySent, QuietHasAll, RoundsKeepSent}
+use Rattle.round_laws.specs.GoingOn.{GoesOn}
+use Rattle.round_laws.specs.Rings.{channel_of, contents_of, handed_up_at, sent_to}
+use Rattle.round_laws.specs.WholeRounds.{LeadsTo}
+use Rattle.round_laws.proofs.Climbing.{climbs_all}
+use Rattle.round_laws.proofs.GoingOn.{merges-go_on}
+use Rattle.round_rules.specs.Rounds.{DropsAt, IsRoundAt, MayDrop}
+use Rattle.round_laws.proofs.Standing.{receiver-is, sender-is, sends-on}
+use Rattle.round_laws.proofs.Numbers.{in_either}
+use Rattle.std.specs.Prelude.{◌||◌}
+use Rattle.std.specs.List.{AllByRecursion}
+use Rattle.round_laws.proofs.Sending.{Brings}
+use Rattle.round_laws.proofs.Sweeping.{flows, take_length}
+use Rattle.round_laws.proofs.Taking.{got-append}
+
+-- a run leads to it
+pub reached-by : (t : Network) (es : List Event) (w : World) → LeadsTo t es w → AreReached w
+reached-by t es w leads = subst AreReached leads.leads (are-reached-run t es (start t) leads.run (are-reached-start t))
+
+-- all that was sent was handed up
+pub all_up : (w : World) → AreReached w → (u d : ℕ) → nat_eq u d ≡ false → (w.ends u d).hop.unacked ≡ [] →
+    (w.ends u d).hop.sent ≤ (w.ends d u).hop.handed_up
+all_up w r u d other none =
+    let f : Flow (w.ends u d) (w.ends d u) = flows w r u d other in
+    let reached = r.apart u d other in
+    let settled : IsSettled (w.ends u d) (w.ends d u) =
+    (subst (BothWays IsSettled) reached.leads (settled_is_delivered reached.schedule)).0 in
+    let up : length (w.ends d u).up ≡ (w.ends d u).hop.handed_up =
+    ap (λ (ms : List Msg). length ms) f.prefix
+    ∙ take_length (w.ends d u).hop.handed_up (w.ends u d).given f.within in
+    let all : length (w.ends d u).up ≡ length (w.ends u d).given = ap (λ (ms : List Msg). length ms) (settled none) in
+    let count = f.count in
+    omega (arith, up, all, count)
+
+-- Where nothing is unacknowledged, rings have all.
+pub quiet-has_all : QuietHasAll
+quiet-has_all t r es leads none only u d on =
+    let other : nat_eq u.0 d.0 ≡ false = grind (arith, on) in
+    let up : sent_to t r u d ≤ handed_up_at t r d u =
+    all_up (world_of t r) (reached-by t es (world_of t r) leads) u.0 d.0 other (none u.0 d.0) in
+    record {
+      has = then _ _ _ up (climbs_all (handed_up_at t r d u) (contents_of (channel_of t r u d) (standing t r u d)));
+      got = (only u d on).got;
+      dropped = (only u d on).dropped;
+    }
+  where
+    then : (a b c : ℕ) → a ≤ b → b ≤ c → a ≤ c
+    then a b c f g = omega (arith, f, g)
+
+-- Posts
+
+-- a post as a run of one event
+pub post_goes_on : (t : Network) (c : Command) (old new : Record) → IsRecord t old → IsRecord t new →
+    IsPostOf t c old new → (m : List Entry) × (events_of m ≡ Post c ∷ []) × GoesOn t old new m
+post_goes_on t c old new is_old is_new is = (
+  m,
+  refl,
+  merges-go_on t old new (λ n. Did (Posted is.stamp c) ∷ []) m is_old is_new is.doings
+      (record { ascends = (omega arith, tt); parts = λ n. refl }),
+)
+  where
+    m : List Entry
+    m = line_of (at 0) (Posted is.stamp c) ∷ []
+
+same_ends : (t : Network) (w : World) (c : Command) (u d : ℕ) → (posted t w c).ends u d ≡ w.ends u d
+same_ends t w (Setup n from to protected both via backup) u d = refl
+same_ends t w (Release n from) u d = refl
+same_ends t w (Protect n from) u d = refl
+same_ends t w (Retry n from) u d = refl
+same_ends t w (Revert n from) u d = refl
+same_ends t w (Fail g) u d = refl
+same_ends t w (Repair g) u d = refl
+
+-- a post leaves that so
+pub acknowledged_on : (t : Network) (c : Command) (old new : Record) → IsRecord t old → IsRecord t new →
+    IsPostOf t c old new → AllAcknowledged t old → AllAcknowledged t new
+acknowledged_on t c old new is_old is_new is none u d =
+    let p = post_goes_on t c old new is_old is_new is in
+    let leads : step t (world_of t old) (Post c) ≡ world_of t new =
+    ap (after t (world_of t old)) (sym p.1) ∙ p.2.leads in
+    ap (λ (w : World). (w.ends u d).hop.unacked) (sym leads)
+    ∙ ap (λ (e : HopEnd). e.hop.unacked) (same_ends t (world_of t old) c u d) ∙ none u d
+
+-- and so it does with what was taken or dropped
+pub only_on : (t : Network) (c : Command) (old new : Record) → IsPostOf t c old new → OnlySent t old → OnlySent t new
+only_on t c old new is only u d on = record {
+  got = λ k in_it. more k ((only u d on).got k (sym (ap (λ ks. is_in ks k) same_got) ∙ in_it));
+  dropped = λ k in_it. more k ((only u d on).dropped k (sym (ap (λ ks. is_in ks k) (is.dropped u.0 d.0)) ∙ in_it));
+}
+  where
+    same_got : got_from u (new.doings d.0) ≡ got_from u (old.doings d.0)
+    same_got =
+        ap (got_from u) (is.doings d.0) ∙ got-append u (old.doings d.0) (Did (Posted is.stamp c) ∷ [])
+        ∙ append-nil (got_from u (old.doings d.0))
+
+    brings : Brings (channel_of t old u d) (channel_of t new u d) (sent_to t old u d) (sent_to t new u d)
+    brings = sends-on t u d old new (Did (Posted is.stamp c) ∷ []) (is.doings u.0)
+
+    more : (k : ℕ) → k ≤ count_of t old u d → k ≤ count_of t new u d
+    more k le =
+        let longer : count_of t new u d ≡ count_of t old u d + length brings.more =
+        ap (λ (cs : List Content). length cs) brings.whole ∙ length-append (channel_of t old u d) brings.more in
+        omega (arith, le, longer)
+
+-- Every round keeps that only what was sent is taken or dropped
+
+more_sent : (t : Network) (u d : NodeId) (old new : Record) (added : List Doing) →
+    new.doings u.0 ≡ old.doings u.0 ++ added → count_of t old u d ≤ count_of t new u d
+more_sent t u d old new added all =
+    let brings : Brings (channel_of t old u d) (channel_of t new u d) (sent_to t old u d) (sent_to t new u d) =
+    sends-on t u d old new added all in
+    let longer : count_of t new u d ≡ count_of t old u d + length brings.more =
+    ap (λ (cs : List Content). length cs) brings.whole ∙ length-append (channel_of t old u d) brings.more in
+    omega (arith, longer)
+
+all_within : (t : Network) (old new : Record) (u d : NodeId) (ks : List ℕ) →
+    AllByRecursion (MayDrop t old new u d) ks → (k : ℕ) → is_in ks k ≡ true → k ≤ count_of t new u d
+all_within t old new u d [] all k is = absurd (cc (is))
+all_within t old new u d (j ∷ ks) all k is = go (nat_eq j k) refl is (all_within t old new u d ks all.1 k)
+  where
+    go : (b : Bool) → nat_eq j k ≡ b → (b || is_in ks k) ≡ true → (is_in ks k ≡ true → k ≤ count_of t new u d) →
+        k ≤ count_of t new u d
+    go true e is rest =
+        let same : j ≡ k = grind (arith, e) in
+        let low : j ≤ count_of t new u d = all.0.within in
+        omega (arith, same, low)
+    go false e is rest = rest is
+
+-- A round takes and drops only what was sent.
+pub rounds-keep_sent : RoundsKeepSent
+rounds-keep_sent t lines old new is only u d on = record {
+  got = λ k in_it. elim (in_either (got_from u (old.doings d.0)) (got_from u to.added) k
+      (sym (ap (λ ks. is_in ks k) got) ∙ in_it)) [
+        | inl early ↦ let low = (only u d on).got k early in omega (arith, low, more)
+        | inr late ↦ (to.sent u k late).1
+      ];
+  dropped = λ k in_it. elim (in_either (old.dropped u.0 d.0) drops.more k
+      (sym (ap (λ ks. is_in ks k) drops.all) ∙ in_it)) [
+        | inl early ↦ let low = (only u d on).dropped k early in omega (arith, low, more)
+        | inr late ↦ all_within t old new u d drops.more drops.may k late
+      ];
+}
+  where
+    to : IsRoundAt t lines old new d
+    to = is.nodes d (receiver-is t u d on)
+
+    from : IsRoundAt t lines old new u
+    from = is.nodes u (sender-is t u d on)
+
+    drops : DropsAt t old new u d
+    drops = is.drops u d
+
+    got : got_from u (new.doings d.0) ≡ got_from u (old.doings d.0) ++ got_from u to.added
+    got = ap (got_from u) to.all ∙ got-append u (old.doings d.0) to.added
+
+    more : count_of t old u d ≤ count_of t new u d
+    more = more_sent t u d old new from.added from.all
+
+-- At first nothing was taken or dropped.
+pub new-is_only_sent : NewIsOnlySent
+new-is_only_sent t u d on = record { got = λ k is. absurd (cc (is)); dropped = λ k is. absurd (cc (is)) }

@@ -1,0 +1,118 @@
+-- After a failure of one group in a calm and quiet fleet, whole rounds restore each guarded call that it hits, in as many
+-- rounds as its routes are long.
+use Rattle.std.specs.Prelude.{◌≡◌, ◌≤◌, ◌<◌, ℕ, zero, suc, true, List, [], ◌∷◌, ◌++◌, Some, IsTrue}
+use Rattle.ason_base.specs.declared.ids.NodeId.{NodeId}
+use Rattle.ason_base.specs.declared.ids.CallNo.{CallNo}
+use Rattle.ason_base.specs.declared.commands.Command.{Command}
+use Rattle.ason_base.specs.declared.commands.Command.TheVariants.{Fail}
+use Rattle.ason_base.specs.declared.commands.Disturb.{Disturb}
+use Rattle.ason_base.specs.declared.commands.Event.{Event}
+use Rattle.ason_base.specs.declared.commands.Event.TheVariants.{Post}
+use Rattle.ason_base.specs.declared.commands.Group.{Group}
+use Rattle.ason_base.specs.declared.tables.CallRec.{CallRec}
+use Rattle.ason_base.specs.Network.{IsTopology, Network}
+use Rattle.mesh_rules.specs.Calls.{find_call}
+use Rattle.mesh_laws.specs.AloneLaw.{Calm}
+use Rattle.mesh_laws.specs.RestorationLaw.{is_guarded, is_hit}
+use Rattle.mesh_laws.specs.SoonLaw.{IsRestoredAt, sweeps_for}
+use Rattle.world_rules.specs.Images.{image, mesh_events}
+use Rattle.world_rules.specs.WorldLaws.{IsWithoutMessages}
+use Rattle.world_rules.specs.WorldRuns.{is_channel}
+use Rattle.world_rules.specs.Worlds.{start}
+use Rattle.world_merge.specs.Deeds.{Posted}
+use Rattle.round_rules.specs.Doings.{Did}
+use Rattle.round_rules.specs.Records.{IsRecord, Record, new_record, world_of}
+use Rattle.round_rules.specs.Rounds.{IsRound}
+use Rattle.round_rules.specs.Rings.{count_of, got_from, is_in}
+use Rattle.round_laws.specs.Rings.{RingsHaveAll}
+use Rattle.round_laws.specs.WholeRounds.{IsDelivered, IsWholeRound, LeadsTo}
+use Rattle.round_rules.specs.Lines.{says}
+
+-- Records
+
+-- on this channel only what was sent is taken or dropped
+pub record OnlySentOn (t : Network) (r : Record) (u d : NodeId) : Type 0 where
+  pub got : (k : ℕ) → is_in (got_from u (r.doings d.0)) k ≡ true → k ≤ count_of t r u d
+  pub dropped : (k : ℕ) → is_in (r.dropped u.0 d.0) k ≡ true → k ≤ count_of t r u d
+
+abbrev pub OnlySent : Network → Record → Type 0
+OnlySent t r = (u d : NodeId) → is_channel t u d ≡ true → OnlySentOn t r u d
+
+-- no message is unacknowledged
+abbrev pub AllAcknowledged : Network → Record → Type 0
+AllAcknowledged t r = (u d : ℕ) → ((world_of t r).ends u d).hop.unacked ≡ []
+
+-- then nothing is missing, whatever stands in the rings
+abbrev pub QuietHasAll : Type 0
+QuietHasAll =
+    (t : Network) (r : Record) (es : List Event) → LeadsTo t es (world_of t r) → AllAcknowledged t r → OnlySent t r →
+    RingsHaveAll t r
+
+-- the command is posted: at every number, with one stamp
+pub record IsPostOf (t : Network) (c : Command) (old new : Record) : Type 0 where
+  pub stamp : ℕ
+  pub doings : (n : ℕ) → new.doings n ≡ old.doings n ++ Did (Posted stamp c) ∷ []
+  pub dropped : (u d : ℕ) → new.dropped u d ≡ old.dropped u d
+
+-- every round keeps that, whatever is lost in it, and every post; and nothing was taken or dropped at first
+abbrev pub RoundsKeepSent : Type 0
+RoundsKeepSent =
+    (t : Network) (lines : List Disturb) (old new : Record) → IsRound t lines old new → OnlySent t old → OnlySent t new
+
+abbrev pub PostsKeepSent : Type 0
+PostsKeepSent =
+    (t : Network) (c : Command) (old new : Record) → IsPostOf t c old new → OnlySent t old → OnlySent t new
+
+abbrev pub NewIsOnlySent : Type 0
+NewIsOnlySent = (t : Network) → OnlySent t new_record
+
+-- the world of every record is that to which some run leads
+abbrev pub RecordsAreReached : Type 0
+RecordsAreReached =
+    (t : Network) (r : Record) → IsTopology t → IsRecord t r → (es : List Event) × LeadsTo t es (world_of t r)
+
+-- so many whole rounds, one after the other
+abbrev pub AreWholeRounds : Network → ℕ → Record → Record → Type 0
+AreWholeRounds t zero old new = old ≡ new
+AreWholeRounds t (suc k) old new =
+    (lines : List Disturb) × (mid : Record) × IsWholeRound t lines old mid × IsRecord t mid
+    × AreWholeRounds t k mid new
+
+-- A round in which no frame is dropped; and lines that say `lose` or `hold` name frames alone that were sent before this
+-- record was made.
+pub record IsWholeSince (t : Network) (lines : List Disturb) (since old new : Record) : Type 0 where
+  pub round : IsRound t lines old new
+  pub kept : (u d : ℕ) → new.dropped u d ≡ old.dropped u d
+  pub delivered : (u d : NodeId) (k : ℕ) → count_of t since u d < k → IsDelivered (says lines u d k)
+
+-- so many of these
+abbrev pub AreWholeSince : Network → Record → ℕ → Record → Record → Type 0
+AreWholeSince t since zero old new = old ≡ new
+AreWholeSince t since (suc k) old new =
+    (lines : List Disturb) × (mid : Record) × IsWholeSince t lines since old mid × IsRecord t mid
+    × AreWholeSince t since k mid new
+
+-- they are whole rounds, where no message was unacknowledged in that record, and posts alone were made since
+abbrev pub SinceAreWhole : Type 0
+SinceAreWhole =
+    (t : Network) (es : List Event) (c : Command) (since old new : Record) (k : ℕ) → LeadsTo t es (world_of t since) →
+    AllAcknowledged t since → IsPostOf t c since old → AreWholeSince t since k old new → AreWholeRounds t k old new
+
+-- The law
+
+-- These rounds are a run, and the calls that the group hits are restored at its end.
+pub record RestoresSoon (t : Network) (es : List Event) (g : Group) (k : ℕ) (old new : Record) : Type 0 where
+  pub later : List Event
+  pub leads : LeadsTo t (es ++ Post (Fail g) ∷ later) (world_of t new)
+  pub restored : (n : ℕ) (m : CallNo) (c : CallRec) → find_call m ((world_of t old).nodes n).calls ≡ Some c →
+      IsTrue (is_guarded ((world_of t old).nodes n) c) →
+      IsTrue (is_hit t (mesh_events t (start t) (es ++ Post (Fail g) ∷ [])) c.work) →
+      sweeps_for t (mesh_events t (start t) (es ++ Post (Fail g) ∷ [])) c ≤ k →
+      IsRestoredAt t (mesh_events t (start t) (es ++ Post (Fail g) ∷ later)) n m
+
+abbrev pub FleetsRestoreSoon : Type 0
+FleetsRestoreSoon =
+    (t : Network) (es : List Event) (old posted new : Record) (g : Group) (k : ℕ) → IsTopology t → IsRecord t old →
+    LeadsTo t es (world_of t old) → OnlySent t old → IsWithoutMessages (world_of t old) → Calm (image (world_of t old)) →
+    IsPostOf t (Fail g) old posted → IsRecord t posted → AreWholeSince t old k posted new →
+    RestoresSoon t es g k old new

@@ -1,0 +1,6 @@
+//! Laws of rounds in which no frame is lost: each is a sweep, so failures are restored in as many.
+#![tactic(auto)]
+
+pub mod laws;
+
+pub use laws::{every_failure, every_made_record, every_round};
