@@ -14,15 +14,13 @@ pub mod Noticed
 pub mod Notices
 pub mod OneHop
 pub mod ReportComes
+pub mod ReportsStay
 pub mod Roles
 pub mod Routed
 pub mod Scenes
 pub mod Soon
 pub mod Struck
 pub mod Swept
-pub mod ToldAnswers
-pub mod ToldCalls
-pub mod ToldMessages
 pub mod TurnedInTime
 pub mod Unhit
 pub mod Words

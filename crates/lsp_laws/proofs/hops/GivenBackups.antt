@@ -46,7 +46,7 @@ use Rattle.mesh_nodes.proofs.Alarms.{all-append}
 use Rattle.mesh_nodes.proofs.CallList.{all-calls_found}
 use Rattle.mesh_nodes.proofs.Cases.{both_left, both_right, if_cases, not-true}
 use Rattle.lsp_laws.specs.ReportLaw.{IsOfRoute}
-use Rattle.lsp_laws.proofs.nodes.CallMoves.{IsSameCall, MayLeave, by-test, revised-call, to-guarded, to-stuck, to-turning, waits-more}
+use Rattle.lsp_laws.proofs.nodes.CallMoves.{IsSameCall, MayLeave, by-test, not-guarded, revised-call, to-guarded, to-stuck, to-turning, waits-more, whole-turned}
 use Rattle.lsp_laws.proofs.nodes.CallChanges.{ArePut, EachCall, MayGo}
 use Rattle.lsp_laws.proofs.nodes.CallsHold.{message-holds, protect-holds, release-holds}
 use Rattle.lsp_laws.proofs.nodes.SetupsHold.{setup-holds}
@@ -139,7 +139,7 @@ module _ (t : Network) (s : Mesh) (n : NodeId) (o : Routes) (f : EachFollows t s
         (λ h. if_cases Puts (is_stuck c.state && (has_any c.work_reports && not (has_any c.back_reports)))
         (turn (s.nodes n.0).legs c (leg_of c.back (s.nodes n.0).legs)) nothing
         (λ stuck. turn-puts (s.nodes n.0).legs c (leg_of c.back (s.nodes n.0).legs)
-        (by-test c is_stuck refl (both_left (is_stuck c.state) _ stuck)) (each n k c is)) (λ stuck. tt))
+        (by-test c is_stuck refl refl (both_left (is_stuck c.state) _ stuck)) (each n k c is)) (λ stuck. tt))
         (λ h. tt)
 
     revert-puts : (from : NodeId) (k : CallNo) (c : Option CallRec) → find_call k (s.nodes n.0).calls ≡ c →
@@ -150,7 +150,8 @@ module _ (t : Network) (s : Mesh) (n : NodeId) (o : Routes) (f : EachFollows t s
         (λ h. if_cases Puts (is_turned c.state && not (has_any c.work_reports))
         (go_back c (leg_of c.back (s.nodes n.0).legs)) nothing
         (λ waits. back-puts (go_back c (leg_of c.back (s.nodes n.0).legs)) c (leg_of c.back (s.nodes n.0).legs)
-        (λ turned. not-true (has_any c.work_reports) (both_right (is_turned c.state) _ waits))
+        (whole-turned c (not-guarded c is_turned refl (both_left (is_turned c.state) _ waits))
+        (not-true (has_any c.work_reports) (both_right (is_turned c.state) _ waits)))
         (each n k c is)) (λ waits. tt))
         (λ h. tt)
 
@@ -165,8 +166,10 @@ module _ (t : Network) (s : Mesh) (n : NodeId) (o : Routes) (f : EachFollows t s
         (λ waiting. if_cases (λ x. ArePut (IsGiven t (grown n o a) n) x.calls) (nat_le t.wait (c.ticks + 1))
         (go_back c (leg_of c.back legs)) (call_put (record c { ticks = c.ticks + 1 }))
         (λ over. back-puts a c (leg_of c.back legs)
-        (λ turned. not-true (has_any c.work_reports)
-        (both_right (is_turned c.state) _ (both_right (not (nat_eq t.wait 0)) _ waiting))) here)
+        (whole-turned c
+        (not-guarded c is_turned refl (both_left (is_turned c.state) _ (both_right (not (nat_eq t.wait 0)) _ waiting)))
+        (not-true (has_any c.work_reports)
+        (both_right (is_turned c.state) _ (both_right (not (nat_eq t.wait 0)) _ waiting)))) here)
         (λ over. same-puts a c (record c { ticks = c.ticks + 1 })
         (record {
           egress = refl;

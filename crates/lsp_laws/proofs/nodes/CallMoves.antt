@@ -1,5 +1,6 @@
 -- What a rule makes of a call: it stands and keeps its backup where it did, its cause and its ticks fit its state, and
--- what holds of each report goes on to hold; and it goes back only where nothing is reported of its working LSP.
+-- what holds of each report goes on to hold; and it turns only where something is reported of its
+-- working LSP, and goes back only where nothing is.
 use Rattle.std.proofs.Common.{Bool, true, false, cond, ◌⊎◌, inl, inr, ◌≡◌, ◌+◌, ℕ, not, nat_eq, List, [], ◌∷◌, ◌++◌, refl, sym, ap, subst, ◌∙◌}
 use Rattle.std.specs.Prelude.{◌&&◌, ◌||◌, Option, Some, None}
 use Rattle.std.specs.List.{AllByRecursion}
@@ -41,18 +42,32 @@ pub pairing-lone : (f : CallState) → is_pairing f ≡ true → has_backup f �
 pairing-lone Pairing e h = cc h
 pairing-lone _ e h = cc e
 
--- A call may leave the state turned where nothing is reported of its working LSP.
-abbrev pub MayLeave : CallRec → Type 0
-MayLeave c = c.state ≡ Turned → has_any c.work_reports ≡ false
+-- A call may leave its state: a turned one where nothing is reported of its working LSP, a guarded one where something is.
+pub record MayLeave (c : CallRec) : Type 0 where
+  pub turned : c.state ≡ Turned → has_any c.work_reports ≡ false
+  pub guarded : c.state ≡ Guarded → has_any c.work_reports ≡ true
 
--- one in another state may
-pub in-other : (c : CallRec) (f : CallState) → c.state ≡ f → (f ≡ Turned → ⊥) → MayLeave c
-in-other c f is other turned = absurd (other (sym is ∙ turned))
+-- one in another state may, where a test tells of it
+pub by-test : (c : CallRec) (test : CallState → Bool) → test Turned ≡ false → test Guarded ≡ false →
+    test c.state ≡ true → MayLeave c
+by-test c test none apart is = record {
+  turned = λ e. (let never : test Turned ≡ true = subst (λ f. test f ≡ true) e is in absurd (cc (none, never)));
+  guarded = λ e. (let never : test Guarded ≡ true = subst (λ f. test f ≡ true) e is in absurd (cc (apart, never)));
+}
 
--- as where a test tells so
-pub by-test : (c : CallRec) (test : CallState → Bool) → test Turned ≡ false → test c.state ≡ true → MayLeave c
-by-test c test none is turned =
-    let never : test Turned ≡ true = subst (λ f. test f ≡ true) turned is in absurd (cc (none, never))
+-- a guarded one that is hit
+pub hit-guarded : (c : CallRec) → c.state ≡ Guarded → has_any c.work_reports ≡ true → MayLeave c
+hit-guarded c is some = record { turned = λ e. absurd (let never = sym is ∙ e in cc never); guarded = λ e. some }
+
+-- and a turned one whose working LSP is whole
+pub whole-turned : (c : CallRec) → (c.state ≡ Guarded → ⊥) → has_any c.work_reports ≡ false → MayLeave c
+whole-turned c other none = record { turned = λ e. none; guarded = λ e. absurd (other e) }
+
+-- a state that a test tells of isn't guarded, where the test doesn't tell of that
+pub not-guarded : (c : CallRec) (test : CallState → Bool) → test Guarded ≡ false → test c.state ≡ true →
+    c.state ≡ Guarded → ⊥
+not-guarded c test apart is e =
+    let never : test Guarded ≡ true = subst (λ f. test f ≡ true) e is in cc (apart, never)
 
 pub asking-stands : (f : CallState) → is_asking f ≡ true → is_standing_call f ≡ true → ⊥
 asking-stands f asking h = let never = subst (λ f. is_standing_call f ≡ true) (asking-is f asking) h in cc never
@@ -110,6 +125,7 @@ module _ (Rep : Lsp → Fibre → Type 0) where
     pub tidy : IsTidy c → IsTidy d
     pub told : ReportsAreOf Rep c → ReportsAreOf Rep d
     pub turned : c.state ≡ Turned → (d.state ≡ Turned) ⊎ (has_any d.work_reports ≡ false)
+    pub guarded : c.state ≡ Guarded → (d.state ≡ Guarded) ⊎ (has_any d.work_reports ≡ true)
 
   pub moves-none : (c : CallRec) → Moves c c
   moves-none c = record {
@@ -119,6 +135,7 @@ module _ (Rep : Lsp → Fibre → Type 0) where
     tidy = λ e. e;
     told = λ h. h;
     turned = λ h. inl h;
+    guarded = λ h. inl h;
   }
 
   -- the second one leaves what is reported of the working LSP
@@ -133,36 +150,40 @@ module _ (Rep : Lsp → Fibre → Type 0) where
       | inl stays ↦ second.turned stays
       | inr none ↦ inr (subst (λ fibres. has_any fibres ≡ false) (sym same) none)
     ];
+    guarded = λ h. elim (first.guarded h) [
+      | inl stays ↦ second.guarded stays
+      | inr some ↦ inr (subst (λ fibres. has_any fibres ≡ true) (sym same) some)
+    ];
   }
 
   -- a state in which the call has its backup, with a cause that fits and no ticks
   to-backed : (c : CallRec) (f : CallState) (cause : Cause) → is_standing_call f ≡ true → has_backup f ≡ true →
-      fits_cause f cause ≡ true → (c.state ≡ Turned → (f ≡ Turned) ⊎ (has_any c.work_reports ≡ false)) →
-      Moves c (record c { state = f; cause = cause; ticks = 0 })
-  to-backed c f cause stands backed fits turned = record {
+      fits_cause f cause ≡ true → MayLeave c → Moves c (record c { state = f; cause = cause; ticks = 0 })
+  to-backed c f cause stands backed fits may = record {
     number = refl;
     stands = λ e. stands;
     back = λ e. (backed, refl);
     tidy = λ e. record { cause = fits; ticks = refl; paired = backed-paired f cause c.protected backed };
     told = λ h. record { work = h.work; back = h.back };
-    turned = turned;
+    turned = λ h. inr (may.turned h);
+    guarded = λ h. inr (may.guarded h);
   }
 
   pub to-guarded : (c : CallRec) → MayLeave c → Moves c (guarded c)
-  to-guarded c may = to-backed c Guarded Unset refl refl refl (λ h. inr (may h))
+  to-guarded c may = to-backed c Guarded Unset refl refl refl may
 
   pub to-turning : (c : CallRec) → MayLeave c → Moves c (turning c)
-  to-turning c may = to-backed c Turning Unset refl refl refl (λ h. inr (may h))
+  to-turning c may = to-backed c Turning Unset refl refl refl may
 
-  pub to-turned : (c : CallRec) → Moves c (turned c)
-  to-turned c = to-backed c Turned Unset refl refl refl (λ h. inl refl)
+  pub to-turned : (c : CallRec) → MayLeave c → Moves c (turned c)
+  to-turned c may = to-backed c Turned Unset refl refl refl may
 
   pub to-stuck : (c : CallRec) (cause : Cause) → is_unset cause ≡ false → MayLeave c → Moves c (stuck c cause)
-  to-stuck c cause known may = to-backed c Stuck cause refl refl (ap not known) (λ h. inr (may h))
+  to-stuck c cause known may = to-backed c Stuck cause refl refl (ap not known) may
 
-  -- a turned call has its backup
-  lone-never : {X : Type 0} (c : CallRec) → IsLone c → c.state ≡ Turned → X
-  lone-never c lone turned = absurd (lone (subst (λ f. has_backup f ≡ true) (sym turned) refl))
+  -- a turned call has its backup, and so has a guarded one
+  lone-never : {X : Type 0} (c : CallRec) (f : CallState) → has_backup f ≡ true → IsLone c → c.state ≡ f → X
+  lone-never c f backed lone is = absurd (lone (subst (λ x. has_backup x ≡ true) (sym is) backed))
 
   pub to-bare : (c : CallRec) → IsLone c → c.protected ≡ false → Moves c (bare c)
   to-bare c lone plain = record {
@@ -171,7 +192,8 @@ module _ (Rep : Lsp → Fibre → Type 0) where
     back = λ e. absurd (lone e);
     tidy = λ e. record { cause = refl; ticks = refl; paired = ap not plain };
     told = λ h. record { work = h.work; back = h.back };
-    turned = λ h. lone-never c lone h;
+    turned = λ h. lone-never c Turned refl lone h;
+    guarded = λ h. lone-never c Guarded refl lone h;
   }
 
   pub to-unbacked : (c : CallRec) (cause : Cause) → is_unset cause ≡ false → IsLone c → Moves c (unbacked c cause)
@@ -181,7 +203,8 @@ module _ (Rep : Lsp → Fibre → Type 0) where
     back = λ e. absurd (lone e);
     tidy = λ e. record { cause = refl; ticks = refl; paired = rw known refl };
     told = λ h. record { work = h.work; back = tt };
-    turned = λ h. lone-never c lone h;
+    turned = λ h. lone-never c Turned refl lone h;
+    guarded = λ h. lone-never c Guarded refl lone h;
   }
 
   pub to-pairing : (c : CallRec) (l : Lsp) → IsLone c → Moves c (pairing c l)
@@ -191,7 +214,8 @@ module _ (Rep : Lsp → Fibre → Type 0) where
     back = λ e. absurd (lone e);
     tidy = λ e. record { cause = refl; ticks = refl; paired = refl };
     told = λ h. record { work = h.work; back = tt };
-    turned = λ h. lone-never c lone h;
+    turned = λ h. lone-never c Turned refl lone h;
+    guarded = λ h. lone-never c Guarded refl lone h;
   }
 
   pub to-blocked : (c : CallRec) (cause : Cause) → is_unset cause ≡ false → is_asking c.state ≡ true →
@@ -202,7 +226,8 @@ module _ (Rep : Lsp → Fibre → Type 0) where
     back = λ e. absurd (asking-lone c.state asking e);
     tidy = λ e. record { cause = ap not known; ticks = refl; paired = refl };
     told = λ h. record { work = tt; back = h.back };
-    turned = λ h. lone-never c (asking-lone c.state asking) h;
+    turned = λ h. lone-never c Turned refl (asking-lone c.state asking) h;
+    guarded = λ h. lone-never c Guarded refl (asking-lone c.state asking) h;
   }
 
   -- a tick more, where the call waits
@@ -215,6 +240,7 @@ module _ (Rep : Lsp → Fibre → Type 0) where
     tidy = λ e. record { cause = e.cause; ticks = or_right (nat_eq (c.ticks + 1) 0) _ waits; paired = e.paired };
     told = λ h. record { work = h.work; back = h.back };
     turned = λ h. inl h;
+    guarded = λ h. inl h;
   }
 
   -- A call that a rule puts in the place of this one: the same was asked for, and it has the same working LSP or none,

@@ -1,6 +1,6 @@
 -- What holds of a call after a step of it at its ingress, where it holds of a call by what was asked for and by its
 -- working LSP.
-use Rattle.std.proofs.Common.{Bool, true, false, inl, inr, ◌≡◌, List, refl}
+use Rattle.std.proofs.Common.{Bool, true, false, inl, inr, ◌≡◌, List, refl, sym, subst, ◌∙◌}
 use Rattle.std.specs.Prelude.{Option, Some, None, is_some, nat_lt, drop}
 use Rattle.ason_base.specs.declared.calls.CallState.TheVariants.{Asking, Bare, Blocked, Guarded, Pairing, Stuck, Turned, Turning}
 use Rattle.ason_base.specs.declared.calls.CallState.{CallState}
@@ -19,7 +19,7 @@ use Rattle.ason_base.specs.Lsps.{is_lsp}
 use Rattle.ason_base.specs.Risks.{unknown_link}
 use Rattle.mesh_rules.specs.declared.limits.TheConstants.{LAST_NUMBER}
 use Rattle.mesh_rules.specs.CallSteps.{call_answered, call_contended, call_refused, call_turned}
-use Rattle.mesh_rules.specs.Calls.{bare, blocked, call_with, guarded, is_asking, is_pairing, is_turned, is_turning, names, pairing, stuck, turned, turning, unbacked}
+use Rattle.mesh_rules.specs.Calls.{bare, blocked, call_with, guarded, is_asking, is_pairing, is_stuck, is_turned, is_turning, names, pairing, stuck, turned, turning, unbacked}
 use Rattle.mesh_rules.specs.Changes.{Answer}
 use Rattle.mesh_rules.specs.FirstLegs.{first_link, is_full, lacks_first_back}
 use Rattle.mesh_rules.specs.KnownRows.{known_rows}
@@ -33,7 +33,7 @@ use Rattle.mesh_nodes.specs.Order.{CallsRise}
 use Rattle.mesh_nodes.proofs.Cases.{if_cases}
 use Rattle.mesh_nodes.proofs.CallList.{called-found, called-names}
 use Rattle.lsp_laws.specs.CallLaw.{is_unset}
-use Rattle.lsp_laws.proofs.nodes.CallMoves.{IsLone, IsSameCall, MayLeave, Moves, asking-lone, by-test, in-other, of-after, other_one, pairing-lone, reported-ticks, revised-call, still, to-bare, to-blocked, to-guarded, to-pairing, to-stuck, to-turned, to-turning, to-unbacked}
+use Rattle.lsp_laws.proofs.nodes.CallMoves.{IsLone, IsSameCall, MayLeave, Moves, asking-lone, by-test, hit-guarded, of-after, other_one, pairing-lone, reported-ticks, revised-call, still, to-bare, to-blocked, to-guarded, to-pairing, to-stuck, to-turned, to-turning, to-unbacked, whole-turned}
 use Rattle.lsp_laws.proofs.nodes.CallChanges.{AreChanges, EachCall}
 
 -- P holds of each call before the rule, and R of those that the rule puts in their places; G of those that go
@@ -124,21 +124,21 @@ module _ (Rep : Lsp → Fibre → Type 0) (G : CallNo → Type 0) (P R : CallRec
     holds-decided d o Blocked works backs is w same = (keeps c d same here, tt)
     holds-decided d o Bare works backs is w same = (keeps c d same here, tt)
     holds-decided d o Pairing works backs is w same = (keeps c d same here, tt)
-    holds-decided d o Guarded true false is some same = holds-turn d o (in-other d Guarded is (λ e. cc e)) same
+    holds-decided d o Guarded true false is some same = holds-turn d o (hit-guarded d is some) same
     holds-decided d o Guarded true true is some same = (
       keeps c (stuck d BackDown) (still Rep c d (stuck d BackDown) same refl refl refl refl refl
-          (to-stuck Rep d BackDown refl (in-other d Guarded is (λ e. cc e)))) here,
+          (to-stuck Rep d BackDown refl (hit-guarded d is some))) here,
       tt,
     )
     holds-decided d o Guarded false backs is w same = (keeps c d same here, tt)
     holds-decided d o Turning works backs is w same = (keeps c d same here, tt)
     holds-decided d o Turned true backs is w same = (keeps c d same here, tt)
-    holds-decided d o Turned false true is none same = holds-go_back d o (λ e. none) same
+    holds-decided d o Turned false true is none same = holds-go_back d o (whole-turned d (λ e. (let never = sym is ∙ e in cc never)) none) same
     holds-decided d o Turned false false is w same = (keeps c d same here, tt)
     holds-decided d o Stuck true backs is w same = (keeps c d same here, tt)
     holds-decided d o Stuck false backs is none same = (
       keeps c (guarded d) (still Rep c d (guarded d) same refl refl refl refl refl
-          (to-guarded Rep d (in-other d Stuck is (λ e. cc e)))) here,
+          (to-guarded Rep d (by-test d is_stuck refl refl (subst (λ f. is_stuck f ≡ true) (sym is) refl)))) here,
       tt,
     )
 
@@ -160,14 +160,14 @@ module _ (Rep : Lsp → Fibre → Type 0) (G : CallNo → Type 0) (P R : CallRec
       (λ e. stays c (bare c) refl refl refl refl (to-bare Rep c (asking-lone c.state a) e) here)) (λ e. tt))
       (λ e. if_cases Holds (is_pairing c.state) _ _
       (λ e. holds-decide c here (guarded c) (Some g)
-      (revised-call Rep c (guarded c) refl refl refl refl (to-guarded Rep c (by-test c is_pairing refl e)))) (λ e. tt))
+      (revised-call Rep c (guarded c) refl refl refl refl (to-guarded Rep c (by-test c is_pairing refl refl e)))) (λ e. tt))
 
   pub holds-call_turned : (l : Lsp) (b : Leg) (o : Option CallRec) → call_with l s.calls ≡ o → Holds (call_turned s b o)
   holds-call_turned l b None is = tt
   holds-call_turned l b (Some c) is =
       if_cases Holds (is_turning c.state) _ _
       (λ e. holds-decide c (called l c is) (turned c) (Some b)
-      (revised-call Rep c (turned c) refl refl refl refl (to-turned Rep c))) (λ e. tt)
+      (revised-call Rep c (turned c) refl refl refl refl (to-turned Rep c (by-test c is_turning refl refl e)))) (λ e. tt)
 
   pub holds-call_contended : (l : Lsp) (b : Leg) (o : Option CallRec) → call_with l s.calls ≡ o →
       Holds (call_contended s b o)
@@ -176,7 +176,7 @@ module _ (Rep : Lsp → Fibre → Type 0) (G : CallNo → Type 0) (P R : CallRec
       if_cases Holds (is_turning c.state) _ _
       (λ e. holds-decide c (called l c is) (stuck c (Code busy_code)) (Some b)
       (revised-call Rep c (stuck c (Code busy_code)) refl refl refl refl (to-stuck Rep c (Code busy_code) refl
-      (by-test c is_turning refl e))))
+      (by-test c is_turning refl refl e))))
       (λ e. tt)
 
   pub holds-call_refused : (code : ErrCode) (g : Leg) (o : Option CallRec) → call_with g.lsp s.calls ≡ o →
@@ -209,6 +209,7 @@ module _ (Rep : Lsp → Fibre → Type 0) (G : CallNo → Type 0) (P R : CallRec
         };
         told = λ h. record { work = of-after Rep c.work l down f c.work_reports e of h.work; back = h.back };
         turned = λ h. inl h;
+        guarded = λ h. inl h;
       }))
       (λ e. revised-call Rep c (with_back_reports c (fibres_after down f c.back_reports)) refl refl refl refl (record {
         number = refl;
@@ -221,6 +222,7 @@ module _ (Rep : Lsp → Fibre → Type 0) (G : CallNo → Type 0) (P R : CallRec
               (other_one (is_lsp c.work l) (is_lsp c.back l) e named) of h.back;
         };
         turned = λ h. inl h;
+        guarded = λ h. inl h;
       }))
 
   pub holds-call_reported : (l : Lsp) (down : Bool) (f : Fibre) (o : Option CallRec) → call_with l s.calls ≡ o →

@@ -50,7 +50,7 @@ use Rattle.mesh_nodes.proofs.Cases.{both_left, both_right, if_cases, not-true}
 use Rattle.mesh_nodes.proofs.LegList.{found-lsp}
 use Rattle.mesh_nodes.proofs.CallList.{all-calls_found}
 use Rattle.mesh_nodes.proofs.ByKind.{by-message}
-use Rattle.lsp_laws.proofs.nodes.CallMoves.{IsLone, IsSameCall, bare-lone, by-test, moves-none, revised-call, waits-more}
+use Rattle.lsp_laws.proofs.nodes.CallMoves.{IsLone, IsSameCall, bare-lone, by-test, moves-none, not-guarded, revised-call, waits-more, whole-turned}
 use Rattle.lsp_laws.proofs.nodes.CallChanges.{AreChanges, EachCall, put-both}
 use Rattle.lsp_laws.proofs.nodes.CallSteps.{holds-call_answered, holds-call_contended, holds-call_refused, holds-call_reported, holds-call_turned, holds-go_back, holds-pair, holds-turn, stays}
 
@@ -222,7 +222,7 @@ module _ (Rep : Lsp → Fibre → Type 0) (G : CallNo → Type 0) (P R : CallRec
       if_cases Holds (nat_eq from.0 p.id.0) _ _
       (λ e. if_cases Holds (is_stuck c.state && (has_any c.work_reports && not (has_any c.back_reports))) _ _
       (λ f. holds-turn Rep G P R keeps p s rise each c (each k c is) c (leg_of c.back s.legs)
-      (by-test c is_stuck refl (both_left (is_stuck c.state) _ f))
+      (by-test c is_stuck refl refl (both_left (is_stuck c.state) _ f))
       (revised-call Rep c c refl refl refl refl (moves-none Rep c))) (λ f. tt))
       (λ e. tt)
 
@@ -230,7 +230,8 @@ module _ (Rep : Lsp → Fibre → Type 0) (G : CallNo → Type 0) (P R : CallRec
   holds-reverts c here =
       if_cases Holds (is_turned c.state && not (has_any c.work_reports)) _ _
       (λ e. holds-go_back Rep G P R keeps p s rise each c here c (leg_of c.back s.legs)
-      (λ turned. not-true (has_any c.work_reports) (both_right (is_turned c.state) _ e))
+      (whole-turned c (not-guarded c is_turned refl (both_left (is_turned c.state) _ e))
+      (not-true (has_any c.work_reports) (both_right (is_turned c.state) _ e)))
       (revised-call Rep c c refl refl refl refl (moves-none Rep c))) (λ e. tt)
 
   pub revert-holds : (k : CallNo) (from : NodeId) (o : Option CallRec) → find_call k s.calls ≡ o →
@@ -246,8 +247,10 @@ module _ (Rep : Lsp → Fibre → Type 0) (G : CallNo → Type 0) (P R : CallRec
       if_cases Holds (not (nat_eq p.wait 0) && (is_turned c.state && not (has_any c.work_reports))) _ _
       (λ waits. if_cases Holds (nat_le p.wait (c.ticks + 1)) _ _
       (λ f. holds-go_back Rep G P R keeps p s rise each c here c (leg_of c.back s.legs)
-      (λ turned. not-true (has_any c.work_reports)
-      (both_right (is_turned c.state) _ (both_right (not (nat_eq p.wait 0)) _ waits)))
+      (whole-turned c
+      (not-guarded c is_turned refl (both_left (is_turned c.state) _ (both_right (not (nat_eq p.wait 0)) _ waits)))
+      (not-true (has_any c.work_reports)
+      (both_right (is_turned c.state) _ (both_right (not (nat_eq p.wait 0)) _ waits))))
       (revised-call Rep c c refl refl refl refl (moves-none Rep c)))
       (λ f. stays Rep G P R keeps p s rise each c (record c { ticks = c.ticks + 1 }) refl refl refl refl
       (waits-more Rep c (both_right (not (nat_eq p.wait 0)) _ waits)) here))

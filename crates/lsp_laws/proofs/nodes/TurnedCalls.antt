@@ -1,4 +1,5 @@
--- A turned call goes back only where nothing is reported of its working LSP.
+-- A turned call goes back only where nothing is reported of its working LSP, and a guarded one turns only where something
+-- is.
 use Rattle.std.proofs.Common.{◌⊎◌, ◌≡◌, ℕ, Bool, true, false, cond, nat_eq, List, [], ◌∷◌, refl, sym, subst, ◌∙◌, arith, inl, inr}
 use Rattle.std.specs.Prelude.{Option, Some, None}
 use Rattle.ason_base.specs.declared.commands.Command.TheVariants.{Setup, Release, Protect, Retry, Revert, Fail, Repair}
@@ -15,7 +16,7 @@ use Rattle.mesh_rules.specs.declared.events.MeshEvent.{MeshEvent}
 use Rattle.mesh_rules.specs.declared.events.MeshEvent.TheVariants.{Take, Desk, Tick, Learn, Post}
 use Rattle.mesh_rules.specs.Calls.{find_call}
 use Rattle.mesh_rules.specs.Changes.{Answer, changed, learns, nothing}
-use Rattle.mesh_rules.specs.Events.{after, on_first, on_first_item, posted, step}
+use Rattle.mesh_rules.specs.Events.{IsRun, after, on_first, on_first_item, posted, step}
 use Rattle.mesh_rules.specs.KnownRows.{has_row, known_rows}
 use Rattle.mesh_rules.specs.Learnt.{on_link}
 use Rattle.mesh_rules.specs.LocalNodes.{LocalNode, local_node}
@@ -33,10 +34,15 @@ use Rattle.lsp_laws.proofs.nodes.SetupsHold.{setup-holds}
 use Rattle.lsp_laws.proofs.nodes.Facts.{MeshFacts}
 use Rattle.lsp_laws.proofs.nodes.NodeRuns.{facts-hold}
 use Rattle.lsp_laws.specs.StandLaw.{EveryTurnedCallStays}
-use Rattle.ason_base.specs.declared.calls.CallState.TheVariants.{Turned}
+use Rattle.ason_base.specs.declared.calls.CallState.TheVariants.{Guarded, Turned}
 use Rattle.ason_base.specs.declared.ids.Fibre.{Fibre}
 use Rattle.mesh_rules.specs.Turns.{has_any}
 use Rattle.lsp_laws.proofs.nodes.CallChanges.{ArePut, EachCall, MayGo, OfAny, each-after}
+
+-- what becomes of the call c
+pub record Leaves (c d : CallRec) : Type 0 where
+  pub turned : c.state ≡ Turned → (d.state ≡ Turned) ⊎ (has_any d.work_reports ≡ false)
+  pub guarded : c.state ≡ Guarded → (d.state ≡ Guarded) ⊎ (has_any d.work_reports ≡ true)
 
 -- k is the number of the call c before the rule
 module _ (k : CallNo) (c : CallRec) where
@@ -44,14 +50,14 @@ module _ (k : CallNo) (c : CallRec) where
   abbrev IsOne : CallRec → Type 0
   IsOne d = d.call ≡ k → d ≡ c
 
-  -- and it stays turned, unless nothing is reported of its working LSP
+  -- and it leaves its state so
   abbrev Stays : CallRec → Type 0
-  Stays d = d.call ≡ k → c.state ≡ Turned → (d.state ≡ Turned) ⊎ (has_any d.work_reports ≡ false)
+  Stays d = d.call ≡ k → Leaves c d
 
   keeps : (d e : CallRec) → IsSameCall OfAny d e → IsOne d → Stays e
-  keeps d e same one number turned =
+  keeps d e same one number =
       let is : d ≡ c = one (sym same.moves.number ∙ number) in
-      same.moves.turned (subst (λ (x : CallRec). x.state ≡ Turned) (sym is) turned)
+      subst (λ (x : CallRec). Leaves x e) is (record { turned = same.moves.turned; guarded = same.moves.guarded })
 
   module _ (p : LocalNode) (s : NodeState) (rise : CallsRise s.calls) (found : find_call k s.calls ≡ Some c) where
     one : EachCall IsOne s.calls
@@ -114,12 +120,12 @@ module _ (k : CallNo) (c : CallRec) where
   module _ (s : Mesh) (n : ℕ) (rise : (m : ℕ) → CallsRise (s.nodes m).calls)
       (found : find_call k (s.nodes n).calls ≡ Some c) where
     itself : EachCall Stays (s.nodes n).calls
-    itself m d there number turned =
+    itself m d there number =
         let at : m ≡ k = sym (found-number m (s.nodes n).calls d there) ∙ number in
         let there' : find_call k (s.nodes n).calls ≡ Some d =
         subst (λ x. find_call x (s.nodes n).calls ≡ Some d) at there in
         let is : c ≡ d = (let some : Some c ≡ Some d = sym found ∙ there' in cc some) in
-        inl (subst (λ (x : CallRec). x.state ≡ Turned) is turned)
+        subst (Leaves c) is (record { turned = λ e. inl e; guarded = λ e. inl e })
 
     -- an answer is carried out at the node m, over any desks and messages
     committed : (x : Mesh) → x.nodes ≡ s.nodes → (m : NodeId) (a : Answer) → (n ≡ m.0 → ArePut Stays a.calls) →
@@ -165,13 +171,20 @@ none-reported : (fibres : List Fibre) → has_any fibres ≡ false → fibres �
 none-reported [] e = refl
 none-reported (f ∷ fibres) e = absurd (cc e)
 
+-- Over each event of a run each call leaves its state so.
+pub every_call_leaves : (t : Network) (events : List MeshEvent) → IsRun t start events → (e : MeshEvent) (n : ℕ)
+    (k : CallNo) (c d : CallRec) → find_call k ((after t start events).nodes n).calls ≡ Some c →
+    find_call k ((step t (after t start events) e).nodes n).calls ≡ Some d → Leaves c d
+every_call_leaves t events run e n k c d found later =
+    let s : Mesh = after t start events in
+    let facts : MeshFacts t s = facts-hold t events run in
+    step-stays k c s n (λ m. (facts.node m).calls_rise) found t e k d later
+    (found-number k ((step t s e).nodes n).calls d later)
+
 -- A turned call stays so, over each event, while a fibre of its working LSP is reported.
 pub every_turned_call_stays : EveryTurnedCallStays
 every_turned_call_stays t events run e enabled n k c d found later turned left =
-    let s : Mesh = after t start events in
-    let facts : MeshFacts t s = facts-hold t events run in
-    elim (step-stays k c s n (λ m. (facts.node m).calls_rise) found t e k d later
-    (found-number k ((step t s e).nodes n).calls d later) turned) [
+    elim ((every_call_leaves t events run e n k c d found later).turned turned) [
       | inl stays ↦ absurd (left stays)
       | inr none ↦ none-reported d.work_reports none
     ]

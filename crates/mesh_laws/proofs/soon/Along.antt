@@ -1,5 +1,5 @@
 -- Along the events since the failure what the goal needs is there at each state.
-use Rattle.std.proofs.Common.{append-nil, ◌≡◌, ℕ, suc, Bool, true, false, nat_eq, List, [], ◌∷◌, ◌++◌, refl, sym, ◌∙◌, ap, subst}
+use Rattle.std.proofs.Common.{◌<◌, append-nil, ◌≡◌, ℕ, suc, Bool, true, false, nat_eq, List, [], ◌∷◌, ◌++◌, refl, sym, ◌∙◌, ap, subst}
 use Rattle.std.specs.Prelude.{◌&&◌, Some, slice_get}
 use Rattle.std.specs.List.{AllByRecursion}
 use Rattle.ason_base.specs.Network.{IsTopology, Network, find_link}
@@ -19,12 +19,10 @@ use Rattle.mesh_rules.specs.LocalNodes.{local_node, own_link}
 use Rattle.mesh_rules.specs.Machine.{Mesh, start}
 use Rattle.lsp_laws.specs.StandLaw.{StandsOn, has_backup, is_first_release, is_released_by, is_standing_call}
 use Rattle.lsp_laws.proofs.nodes.CallsStand.{every_call_stands}
-use Rattle.lsp_laws.proofs.nodes.NodeRuns.{facts-hold}
 use Rattle.lsp_laws.proofs.hops.Plans.{node_at}
 use Rattle.mesh_laws.specs.AloneLaw.{AllConcern, NoneRefused}
 use Rattle.mesh_laws.proofs.alone.AloneRuns.{after-append, append-one, run-first}
-use Rattle.mesh_laws.proofs.soon.CallGoesOn.{call-goes_on}
-use Rattle.mesh_laws.proofs.soon.ToldCalls.{IsTold}
+use Rattle.mesh_laws.proofs.soon.CallGoesOn.{GoesOn, IsTold, call-goes_on}
 use Rattle.mesh_laws.proofs.soon.NoneUp.{IsAlarm, NoneUp, none-up}
 use Rattle.ason_base.specs.Lsps.{has_fibre}
 use Rattle.mesh_laws.proofs.soon.Noticed.{failure_goal, fibre_of}
@@ -34,6 +32,9 @@ use Rattle.mesh_laws.proofs.soon.Soon.{AllGood}
 use Rattle.mesh_laws.proofs.soon.Struck.{alarm-known}
 use Rattle.mesh_laws.proofs.soon.Swept.{append-assoc}
 use Rattle.mesh_laws.specs.SoonLaw.{PostsNothing}
+use Rattle.ason_base.specs.declared.ids.NodeId.{NodeId}
+use Rattle.lsp_laws.proofs.hops.HopLaws.{follows}
+use Rattle.lsp_laws.proofs.hops.Planned.{Follows}
 
 -- a call that has its backup stands
 pub backed-standing : (f : CallState) → has_backup f ≡ true → is_standing_call f ≡ true
@@ -102,9 +103,53 @@ module _ (t : Network) (valid : IsTopology t) (g : Group) (r : Roles) (fixed : F
   its-scene : (events : List MeshEvent) → IsRun t start events → Tells events → Known events →
       Scene t r (after t start events)
   its-scene events run tells known =
-      scene t valid events run g known.concern known.none_up r fixed known.call known.found known.is_work known.is_back
-      known.work_end known.back_end known.work_sent known.back_sent hop there link_found known.backed known.told
+      scene t valid events run g known.concern r fixed known.call known.found known.is_work known.is_back
+      known.work_end known.back_end known.work_sent known.back_sent hop there link_found known.backed
       (tells.unstuck known.call known.found) (tells.unhit known.call known.found known.is_back)
+
+  -- over one event it stands
+  stands-on : (events : List MeshEvent) (e : MeshEvent) → IsRun t start events →
+      is_enabled t (after t start events) e ≡ true → (known : Known events) →
+      (d : CallRec) × (find_call r.call ((step t (after t start events) e).nodes r.ingress.0).calls ≡ Some d) ×
+      StandsOn known.call d
+  stands-on events e run enabled known =
+      every_call_stands t events run e enabled r.ingress.0 r.call known.call known.found
+      (backed-standing known.call.state known.backed)
+      (unreleased (after t start events) r.ingress.0 r.call e known.none_up)
+
+  -- its working LSP was begun, so its number is given out
+  number : (events : List MeshEvent) → IsRun t start events →
+      route_of t start events r.work ≡ Some r.work_plan.route →
+      r.work.lsp < ((after t start events).nodes r.work.ingress.0).lsp
+  number events run sent =
+      go (subst (Follows t (after t start events) (route_of t start events) r.work) sent (follows t events run r.work))
+    where
+      go : Follows t (after t start events) (route_of t start events) r.work (Some r.work_plan.route) →
+          r.work.lsp < ((after t start events).nodes r.work.ingress.0).lsp
+      go (end, q, pl) = pl.number
+
+  known-goes_on : (events : List MeshEvent) (e : MeshEvent) → IsRun t start events →
+      is_enabled t (after t start events) e ≡ true → PostsNothing e → (known : Known events) → (d : CallRec) →
+      find_call r.call ((step t (after t start events) e).nodes r.ingress.0).calls ≡ Some d → GoesOn known.call d
+  known-goes_on events e run enabled only known d later =
+      let on = stands-on events e run enabled known in
+      let one : on.0 ≡ d = (let same = sym (on.1) ∙ later in cc same) in
+      let at_work : (x : Mesh) (c : CallRec) → find_call r.call (x.nodes r.ingress.0).calls ≡ Some c →
+      find_call r.call (x.nodes r.work.ingress.0).calls ≡ Some c =
+      λ x c there. subst (λ (n : NodeId). find_call r.call (x.nodes n.0).calls ≡ Some c) (sym fixed.work_here) there in
+      call-goes_on t events run known.none_up e only r.work (number events run known.work_sent) r.call known.call d
+      (at_work (after t start events) known.call known.found)
+      (at_work (step t (after t start events) e) d later) known.is_work
+      (subst (λ (x : CallRec). x.work ≡ Some r.work) one (on.2.work ∙ known.is_work)) known.told
+
+  -- and it goes on, told as before
+  goes-on : (events : List MeshEvent) (e : MeshEvent) → IsRun t start events →
+      is_enabled t (after t start events) e ≡ true → PostsNothing e → (known : Known events) → (c d : CallRec) →
+      find_call r.call ((after t start events).nodes r.ingress.0).calls ≡ Some c →
+      find_call r.call ((step t (after t start events) e).nodes r.ingress.0).calls ≡ Some d → GoesOn c d
+  goes-on events e run enabled only known c d there later =
+      let same : known.call ≡ c = (let found = sym known.found ∙ there in cc found) in
+      subst (λ (x : CallRec). GoesOn x d) same (known-goes_on events e run enabled only known d later)
 
   -- over one event
   known-step : (events : List MeshEvent) (e : MeshEvent) → IsRun t start events →
@@ -120,9 +165,7 @@ module _ (t : Network) (valid : IsTopology t) (g : Group) (r : Roles) (fixed : F
 
       on : (d : CallRec) × (find_call r.call ((step t (after t start events) e).nodes r.ingress.0).calls ≡ Some d) ×
           StandsOn known.call d
-      on = every_call_stands t events run e enabled r.ingress.0 r.call known.call known.found
-          (backed-standing known.call.state known.backed)
-          (unreleased (after t start events) r.ingress.0 r.call e known.none_up)
+      on = stands-on events e run enabled known
 
       go : Known (events ++ e ∷ [])
       go = record {
@@ -137,8 +180,7 @@ module _ (t : Network) (valid : IsTopology t) (g : Group) (r : Roles) (fixed : F
         work_end = on.2.egress ∙ known.work_end;
         back_end = on.2.egress ∙ known.back_end;
         backed = (on.2.back known.backed).0;
-        told = (call-goes_on r.call known.call known.told known.backed t (after t start events) r.ingress.0 on.0
-            (λ m. ((facts-hold t events run).node m).calls_rise) known.found known.none_up e only on.1).told;
+        told = (known-goes_on events e run enabled only known on.0 on.1).told;
       }
 
   -- Since the failure all is as the goal needs it.
@@ -160,7 +202,7 @@ module _ (t : Network) (valid : IsTopology t) (g : Group) (r : Roles) (fixed : F
           here = its-scene done now told_now known;
           next = subst (Scene t r) next (its-scene (done ++ e ∷ []) longer told_then known');
           none_refused = none.0;
-          posts_nothing = only.0;
+          goes_on = goes-on done e now (enabled-last t start done e longer) only.0 known;
           alarmed = λ rest is was.
               subst (λ x. has_fibre ((step t s x).nodes (node_at r.work_plan (suc r.place)).0).down
               (fibre_of r) ≡ true) (sym is)

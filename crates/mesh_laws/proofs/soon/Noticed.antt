@@ -4,7 +4,6 @@ use Rattle.std.specs.Prelude.{Some}
 use Rattle.std.specs.List.{AllByRecursion}
 use Rattle.ason_base.specs.Lsps.{has_fibre}
 use Rattle.ason_base.specs.Network.{Network}
-use Rattle.ason_base.specs.declared.calls.CallState.TheVariants.{Turned}
 use Rattle.ason_base.specs.declared.commands.DeskItem.{DeskItem}
 use Rattle.ason_base.specs.declared.commands.DeskItem.TheVariants.{Alarm}
 use Rattle.ason_base.specs.declared.ids.Fibre.{Fibre}
@@ -35,13 +34,12 @@ use Rattle.mesh_laws.proofs.soon.Armed.{armed-soon}
 use Rattle.mesh_laws.proofs.soon.OneHop.{notice-passes}
 use Rattle.mesh_laws.proofs.soon.Soon.{ByDesk, ByMail, AllGood, Goal, IsDone, Nears, Soon, reached}
 use Rattle.mesh_laws.proofs.soon.Swept.{StandsIn}
-use Rattle.mesh_laws.proofs.soon.CallGoesOn.{call-goes_on}
+use Rattle.mesh_laws.proofs.soon.CallGoesOn.{GoesOn}
 use Rattle.mesh_laws.proofs.soon.Activating.{HasTurned, SaysActivation, turning_goal}
 use Rattle.mesh_laws.proofs.soon.Notices.{FoundReport, HasTrue, Reports, find-report, on-some, told-true}
 use Rattle.mesh_laws.proofs.soon.ReportComes.{report-comes}
 use Rattle.mesh_laws.proofs.soon.Roles.{CallIs, Fixed, IsTurned, IsTurning, Roles, Scene, Waits}
 use Rattle.mesh_laws.proofs.soon.Words.{desk-is, take-is}
-use Rattle.mesh_laws.specs.SoonLaw.{PostsNothing}
 
 -- How far it is
 
@@ -72,7 +70,9 @@ pub record GoodHere (t : Network) (r : Roles) (s : Mesh) (e : MeshEvent) : Type 
   pub here : Scene t r s
   pub next : Scene t r (step t s e)
   pub none_refused : AllByRecursion (λ o. is_refusal o.msg ≡ false) (sent_in t s e)
-  pub posts_nothing : PostsNothing e
+  -- it stays turned, where it is
+  pub goes_on : (c d : CallRec) → find_call r.call (s.nodes r.ingress.0).calls ≡ Some c →
+      find_call r.call ((step t s e).nodes r.ingress.0).calls ≡ Some d → GoesOn c d
   -- an alarm that is handled is known
   pub alarmed : (rest : List DeskItem) → e ≡ Desk (node_at r.work_plan (suc r.place)) →
       s.desks (node_at r.work_plan (suc r.place)).0 ≡ Alarm (fibre_of r) ∷ rest →
@@ -245,17 +245,11 @@ module _ (t : Network) (r : Roles) (fixed : Fixed t r) where
 
   stays : (s : Mesh) (e : MeshEvent) → GoodHere t r s e → HasTurned r.ingress r.call s →
       HasTurned r.ingress r.call (step t s e)
-  stays s e good has =
-      let scene = good.here in
-      let one : has.call ≡ scene.call =
-      (let some : Some has.call ≡ Some scene.call = sym has.found ∙ scene.found in cc some) in
-      let on = call-goes_on r.call scene.call scene.told scene.backed t s r.ingress.0 good.next.call scene.rise
-      scene.found scene.none_up e good.posts_nothing good.next.found in
-      record {
-        call = good.next.call;
-        found = good.next.found;
-        state = on.turned (subst (λ (x : CallRec). x.state ≡ Turned) one has.state);
-      }
+  stays s e good has = record {
+    call = good.next.call;
+    found = good.next.found;
+    state = (good.goes_on has.call good.next.call has.found good.next.found).turned has.state;
+  }
 
   -- Over each event the restoration gets nearer.
   failure-nears : Nears t (failure_goal t r)

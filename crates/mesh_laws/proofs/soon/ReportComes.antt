@@ -1,7 +1,6 @@
 -- A Notify of a failure comes to the ingress: its fibre is reported there then.
-use Rattle.std.proofs.Common.{◌≡◌, suc, Bool, true, false, cond, nat_eq, List, [], ◌∷◌, ◌++◌, refl, sym, ◌∙◌, ap, subst, arith}
+use Rattle.std.proofs.Common.{◌≡◌, suc, true, false, nat_eq, [], ◌∷◌, refl, sym, ◌∙◌, ap, subst, arith}
 use Rattle.std.specs.Prelude.{Some}
-use Rattle.ason_base.specs.Lsps.{has_fibre}
 use Rattle.ason_base.specs.Network.{Network}
 use Rattle.ason_base.specs.declared.ids.Fibre.{Fibre}
 use Rattle.ason_base.specs.declared.ids.Lsp.{Lsp}
@@ -34,6 +33,7 @@ use Rattle.mesh_laws.proofs.reports.Reported.{Puts, decide-puts, into-found, int
 use Rattle.mesh_laws.proofs.soon.Swept.{StandsIn}
 use Rattle.mesh_laws.proofs.soon.Notices.{Reports}
 use Rattle.mesh_laws.proofs.soon.Roles.{Fixed, Roles, Scene}
+use Rattle.mesh_laws.proofs.soon.ReportsStay.{any-with}
 
 module _ (t : Network) (r : Roles) (fixed : Fixed t r) (s : Mesh) (scene : Scene t r s) (m : Msg)
     (reports : Reports r.work (node_at r.work_plan (suc r.place)) (link_at r.work_plan r.place) m)
@@ -116,14 +116,6 @@ module _ (t : Network) (r : Roles) (fixed : Fixed t r) (s : Mesh) (scene : Scene
       (sym was) (puts-call (node_at r.work_plan 1) n fixed.work_first a puts.put calls number) in
       let some : Some puts.put ≡ Some d = sym there ∙ next_call in
       cc some
-
-  any-with : (fibres : List Fibre) (f : Fibre) → has_any (with_fibre f fibres) ≡ true
-  any-with [] f = refl
-  any-with (g ∷ fibres) f = go (has_fibre (g ∷ fibres) f)
-    where
-      go : (b : Bool) → has_any (cond b (g ∷ fibres) ((g ∷ fibres) ++ f ∷ [])) ≡ true
-      go true = refl
-      go false = refl
 
   -- the call has a report of its working LSP then
   pub report-comes : d.work ≡ Some r.work → has_any d.work_reports ≡ true

@@ -14,7 +14,6 @@ use Rattle.mesh_rules.specs.Calls.{call_with, find_call}
 use Rattle.mesh_rules.specs.Legs.{is_beyond_asked, is_closing}
 use Rattle.mesh_rules.specs.Machine.{Mesh}
 use Rattle.mesh_rules.specs.Turns.{has_any}
-use Rattle.mesh_nodes.specs.Order.{CallsRise}
 use Rattle.lsp_laws.specs.HopLaw.{leg_at, mail_between}
 use Rattle.lsp_laws.specs.HopShapes.{ArmedLeg, Contention, leg_kind, msg_kind}
 use Rattle.lsp_laws.specs.ReportLaw.{PlaceTells}
@@ -22,9 +21,6 @@ use Rattle.lsp_laws.proofs.hops.Chain.{Chain}
 use Rattle.lsp_laws.proofs.hops.Plans.{IsRoute, Plan, hops, link_at, node_at}
 use Rattle.lsp_laws.proofs.hops.Purposes.{Purpose}
 use Rattle.mesh_laws.proofs.soon.Armed.{HasKind}
-use Rattle.lsp_laws.specs.StandLaw.{has_backup}
-use Rattle.mesh_laws.proofs.soon.ToldCalls.{IsTold}
-use Rattle.mesh_laws.proofs.soon.NoneUp.{NoneUp}
 
 -- the state of the call
 pub data CallIs (c : CallRec) (armed : Type 0) : Type 0 where
@@ -32,7 +28,7 @@ pub data CallIs (c : CallRec) (armed : Type 0) : Type 0 where
   IsTurning : c.state ≡ Turning → armed → CallIs c armed
   IsTurned : c.state ≡ Turned → CallIs c armed
 
--- The call k begins at n, w is its working LSP and b its backup; the link is the one after place z of w's route.
+-- A call with its ingress, its working LSP and its backup; the link is the one after a place of the working route.
 pub record Roles : Type 0 where
   pub call : CallNo
   pub ingress : NodeId
@@ -74,8 +70,3 @@ pub record Scene (t : Network) (r : Roles) (s : Mesh) : Type 0 where
   pub turning : (g : Leg) → leg_at s r.back (node_at r.back_plan 0) ≡ Some g → g.phase ≡ Armed → call.state ≡ Turning
   pub tells : PlaceTells s r.work r.work_plan.route r.work_plan.egress r.place r.link
       (node_at r.work_plan (suc r.place))
-  pub rise : (m : ℕ) → CallsRise (s.nodes m).calls
-  pub none_up : NoneUp s
-  -- where it isn't guarded it has a report of its working LSP
-  pub told : IsTold call
-  pub backed : has_backup call.state ≡ true

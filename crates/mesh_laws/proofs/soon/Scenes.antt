@@ -40,8 +40,6 @@ use Rattle.mesh_laws.specs.AloneLaw.{AllConcern, MsgConcerns}
 use Rattle.mesh_laws.proofs.reports.ReportLaws.{every_report_tells, place-is}
 use Rattle.mesh_laws.proofs.restoration.Called.{call-is}
 use Rattle.mesh_laws.proofs.soon.Armed.{Found, HasKind, find-kind}
-use Rattle.mesh_laws.proofs.soon.ToldCalls.{IsTold}
-use Rattle.mesh_laws.proofs.soon.NoneUp.{NoneUp}
 use Rattle.mesh_laws.proofs.soon.Roles.{CallIs, Fixed, IsTurned, IsTurning, Roles, Scene, Waits}
 use Rattle.mesh_laws.proofs.soon.CallPhases.{PhasesAre, armed-turning, backed-phases, beyond-upright, fits-of, guarded-unhit, turning-armed}
 use Rattle.mesh_laws.proofs.soon.Routed.{IsThere, is-there}
@@ -82,7 +80,7 @@ module _ (t : Network) (valid : IsTopology t) (events : List MeshEvent) (run : I
 
   -- The scene
 
-  module _ (g : Group) (concern : AllConcern t g (after t start events)) (none_up : NoneUp (after t start events))
+  module _ (g : Group) (concern : AllConcern t g (after t start events))
       (r : Roles) (fixed : Fixed t r) (c : CallRec)
       (found : find_call r.call ((after t start events).nodes r.ingress.0).calls ≡ Some c)
       (is_work : c.work ≡ Some r.work) (is_back : c.back ≡ Some r.back)
@@ -91,7 +89,7 @@ module _ (t : Network) (valid : IsTopology t) (events : List MeshEvent) (run : I
       (back_sent : route_of t start events r.back ≡ Some r.back_plan.route)
       (hop : Step) (there : slice_get r.work_plan.route r.place ≡ Some hop)
       (link_found : find_link t hop.link ≡ Some r.link)
-      (backed : has_backup c.state ≡ true) (told : IsTold c) (unstuck : c.state ≡ Stuck → ⊥)
+      (backed : has_backup c.state ≡ true) (unstuck : c.state ≡ Stuck → ⊥)
       (unhit : c.back_reports ≡ []) where
     abbrev n : ℕ
     n = r.ingress.0
@@ -227,8 +225,4 @@ module _ (t : Network) (valid : IsTopology t) (events : List MeshEvent) (run : I
       is = state-is;
       turning = turns;
       tells = tells;
-      rise = λ m. (facts.node m).calls_rise;
-      none_up = none_up;
-      told = told;
-      backed = backed;
     }
