@@ -32,6 +32,7 @@ use Rattle.mesh_laws.proofs.restoration.Law.{every_hit_call}
 use Rattle.mesh_laws.proofs.safe.Law.{every_run_safe}
 use Rattle.mesh_laws.proofs.sent.Law.{every_list, every_sent}
 use Rattle.mesh_laws.proofs.soon.Law.{every_hit_call_soon}
+use Rattle.mesh_laws.proofs.Serves.{network_serves}
 
 pub laws_hold : EveryRunKeepsTheLaws
 laws_hold t events run =
@@ -73,6 +74,7 @@ laws_hold t events run =
       ends = λ valid. every_run_ends t events valid run;
       answered = every_lsp_soon t events run;
       decided = every_call_soon t events run;
+      serves = network_serves t events run;
     }
 
 -- and after each first part of one

@@ -13,3 +13,9 @@ pub mod safe
 pub mod sent
 pub mod soon
 pub mod surveyed
+pub mod Serves
+pub mod acts
+pub mod backed
+pub mod causes
+pub mod moves
+pub mod rested

@@ -15,3 +15,12 @@ pub mod SurveyLaw
 pub mod Sweeps
 pub mod Weights
 pub mod Work
+pub mod ActsLaw
+pub mod BackedLaw
+pub mod CauseLaw
+pub mod KnowsLaw
+pub mod MovesLaw
+pub mod OthersLaw
+pub mod RestedLaw
+pub mod ServiceLaw
+pub mod WaitLaw

@@ -28,6 +28,7 @@ use Rattle.mesh_laws.specs.RestorationLaw.{RestorationHolds}
 use Rattle.mesh_laws.specs.SafeLaw.{IsSafe}
 use Rattle.mesh_laws.specs.SetupLaw.{CallsAreDecided, LspsAreAnswered}
 use Rattle.mesh_laws.specs.SoonLaw.{RestoredSoon}
+use Rattle.mesh_laws.specs.ServiceLaw.{Serves}
 use Rattle.mesh_laws.specs.SurveyLaw.{CalmIsShown, ContendsAreListed}
 
 -- what holds of the state to which these events lead from the start
@@ -105,6 +106,8 @@ pub record LawsHold (t : Network) (events : List MeshEvent) : Type 0 where
   pub answered : LspsAreAnswered t events
   -- and its call is decided
   pub decided : CallsAreDecided t events
+  -- and the network serves: orders act, nothing is left at rest, no refusal is without a cause, and calls stand
+  pub serves : Serves t events
 
 -- over every network and every run
 abbrev pub EveryRunKeepsTheLaws : Type 0

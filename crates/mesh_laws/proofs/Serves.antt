@@ -1,0 +1,45 @@
+-- After every run the network serves.
+use Rattle.std.proofs.Common.{List}
+use Rattle.ason_base.specs.Network.{Network}
+use Rattle.mesh_rules.specs.declared.events.MeshEvent.{MeshEvent}
+use Rattle.mesh_rules.specs.Events.{IsRun}
+use Rattle.mesh_rules.specs.Machine.{start}
+use Rattle.mesh_laws.specs.ServiceLaw.{Serves}
+use Rattle.mesh_laws.proofs.acts.Law.{every_order_acts}
+use Rattle.mesh_laws.proofs.acts.Torn.{every_torn_leg}
+use Rattle.mesh_laws.proofs.backed.Backed.{every_backup_as_given}
+use Rattle.mesh_laws.proofs.causes.Answered.{every_busy, every_lack}
+use Rattle.mesh_laws.proofs.causes.Lone.{every_lone_call}
+use Rattle.mesh_laws.proofs.causes.Refused.{every_refusal_has_cause}
+use Rattle.mesh_laws.proofs.causes.ToldOf.{every_refusal_told}
+use Rattle.mesh_laws.proofs.moves.Below.{every_wait}
+use Rattle.mesh_laws.proofs.moves.Blocked.{every_blocked_call}
+use Rattle.mesh_laws.proofs.moves.Knows.{every_learnt}
+use Rattle.mesh_laws.proofs.moves.MovesOn.{every_call_moves}
+use Rattle.mesh_laws.proofs.moves.Others.{every_order_of_one}
+use Rattle.mesh_laws.proofs.moves.Waits.{every_tick}
+use Rattle.mesh_laws.proofs.rested.Light.{each_sent_is_taken}
+use Rattle.mesh_laws.proofs.rested.Rested.{nothing_left_at_rest}
+use Rattle.mesh_laws.proofs.rested.Told.{every_report_true}
+
+-- for the field of all laws in one word
+pub network_serves : (t : Network) (events : List MeshEvent) → IsRun t start events → Serves t events
+network_serves t events run = record {
+  rested = nothing_left_at_rest t events run;
+  taken = each_sent_is_taken t events run;
+  told = λ valid. every_report_true t events valid run;
+  acts = λ valid. every_order_acts t events valid run;
+  others = every_order_of_one t events run;
+  backed = every_backup_as_given t events run;
+  torn = every_torn_leg t events run;
+  caused = every_refusal_has_cause t events run;
+  busy = every_busy t events run;
+  lacks = every_lack t events run;
+  lone = λ valid. every_lone_call t events valid run;
+  refused = every_refusal_told t events run;
+  moves = every_call_moves t events run;
+  blocked = every_blocked_call t events run;
+  counted = every_tick t events run;
+  below = every_wait t events run;
+  learnt = every_learnt t events run;
+}

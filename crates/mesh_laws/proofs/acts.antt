@@ -1,0 +1,11 @@
+pub mod Busy
+pub mod Given
+pub mod Law
+pub mod Orders
+pub mod Pairs
+pub mod Puts
+pub mod Releases
+pub mod Setups
+pub mod Tests
+pub mod Torn
+pub mod Turns

@@ -1,0 +1,4 @@
+pub mod BackMoves
+pub mod BackSteps
+pub mod Backed
+pub mod BacksHold

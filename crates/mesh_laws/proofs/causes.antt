@@ -1,0 +1,6 @@
+pub mod Answered
+pub mod KeptOff
+pub mod Leads
+pub mod Lone
+pub mod Refused
+pub mod ToldOf

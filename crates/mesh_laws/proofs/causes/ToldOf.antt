@@ -1,0 +1,189 @@
+-- A call is told of the refusal of its LSP with the code of the PathErr that came.
+use Rattle.std.proofs.Common.{◌≡◌, ℕ, suc, Bool, true, false, not, cond, nat_eq, List, [], ◌∷◌, refl, sym, ap, ◌∙◌, subst, arith, inl, inr}
+use Rattle.std.specs.Prelude.{Option, Some, None, is_some}
+use Rattle.ason_base.specs.Network.{Network}
+use Rattle.ason_base.specs.declared.calls.CallState.{CallState}
+use Rattle.ason_base.specs.declared.calls.CallState.TheVariants.{Asking, Pairing}
+use Rattle.ason_base.specs.declared.calls.Cause.TheVariants.{Code}
+use Rattle.ason_base.specs.declared.calls.Phase.{Phase}
+use Rattle.ason_base.specs.declared.calls.Phase.TheVariants.{Asked}
+use Rattle.ason_base.specs.declared.calls.Role.{Role}
+use Rattle.ason_base.specs.declared.calls.Role.TheVariants as role
+use Rattle.ason_base.specs.declared.codes.ErrCode.{ErrCode}
+use Rattle.ason_base.specs.declared.ids.CallNo.{CallNo}
+use Rattle.ason_base.specs.declared.ids.Lsp.{Lsp}
+use Rattle.ason_base.specs.declared.ids.NodeId.{NodeId}
+use Rattle.ason_base.specs.declared.messages.Msg.{Msg}
+use Rattle.ason_base.specs.declared.messages.Msg.TheVariants.{PathErr}
+use Rattle.ason_base.specs.declared.tables.CallRec.{CallRec}
+use Rattle.ason_base.specs.declared.tables.Leg.{Leg}
+use Rattle.mesh_rules.specs.declared.events.MeshEvent.{MeshEvent}
+use Rattle.mesh_rules.specs.declared.events.MeshEvent.TheVariants.{Take}
+use Rattle.mesh_rules.specs.CallSteps.{backup_refused, call_refused, work_refused}
+use Rattle.mesh_rules.specs.Calls.{blocked, call_with, find_call, is_asking, is_pairing, names, unbacked}
+use Rattle.mesh_rules.specs.Changes.{Answer, changed, nothing, removes}
+use Rattle.mesh_rules.specs.Events.{IsRun, after, route_of, step}
+use Rattle.mesh_rules.specs.Legs.{find_leg, following, is_asked, is_closing, is_node, is_work, leg_of, previous}
+use Rattle.mesh_rules.specs.Machine.{Mesh, start}
+use Rattle.mesh_rules.specs.ActivationAnswers.{contended}
+use Rattle.mesh_rules.specs.Pairs.{leaves_bare}
+use Rattle.mesh_rules.specs.Turns.{call_put}
+use Rattle.mesh_rules.specs.PathErrs.{PathFailure, err_passed, path_err_with, refused_here, removed}
+use Rattle.mesh_rules.specs.State.{NodeState}
+use Rattle.mesh_nodes.proofs.CallList.{called-found, called-names, found-number, not_called}
+use Rattle.mesh_nodes.proofs.LegList.{found-lsp, same_lsp-refl}
+use Rattle.lsp_laws.specs.CallLaw.{IsNamed, phase_of}
+use Rattle.lsp_laws.specs.HopLaw.{leg_at}
+use Rattle.lsp_laws.proofs.hops.Chain.{Fits, LegFits}
+use Rattle.lsp_laws.proofs.hops.HopLaws.{carried}
+use Rattle.lsp_laws.proofs.hops.LegChanges.{following_is}
+use Rattle.lsp_laws.proofs.hops.OnHops.{Down, OnHop, Up, on_hop}
+use Rattle.lsp_laws.proofs.hops.Planned.{EachFollows, Routes}
+use Rattle.lsp_laws.proofs.hops.Plans.{node_at, same}
+use Rattle.lsp_laws.proofs.nodes.CallParts.{named-lsp, names-back, names-work}
+use Rattle.lsp_laws.proofs.nodes.Facts.{NodeFacts}
+use Rattle.lsp_laws.proofs.nodes.NodeRuns.{facts-hold}
+use Rattle.lsp_laws.proofs.nodes.States.{PairingRow, Row, row}
+use Rattle.mesh_laws.specs.CauseLaw.{EveryRefusalIsTold, IsToldOf}
+use Rattle.mesh_laws.proofs.acts.Puts.{Puts, put-found}
+use Rattle.mesh_laws.proofs.causes.Lone.{asking-row, no-before}
+
+pairing-row : (f : CallState) (w b : Option Phase) → Row f w b → f ≡ Pairing → b ≡ Some Asked
+pairing-row _ _ _ PairingRow e = refl
+pairing-row _ _ _ _ e = absurd (cc e)
+
+-- the call of an LSP that it names
+the-call : (n : ℕ) (s : NodeState) (l : Lsp) (m : CallNo) (c : CallRec) → NodeFacts n s → find_call m s.calls ≡ Some c →
+    names l c ≡ true → call_with l s.calls ≡ Some c
+the-call n s l m c facts found named = go (call_with l s.calls) refl
+  where
+    go : (o : Option CallRec) → call_with l s.calls ≡ o → o ≡ Some c
+    go None is = absurd (not_called l s.calls m c is found named)
+    go (Some d) is =
+        let there = called-found l s.calls d facts.calls_rise is in
+        let one : d.call ≡ m = facts.one_call l d.call m d c there found (called-names l s.calls d is) named in
+        sym there ∙ ap (λ k. find_call k s.calls) one ∙ found
+
+module _ (s : NodeState) (m : CallNo) (c : CallRec) (e : PathFailure)
+    (gone : e.removed ≡ true) (g : Leg) (phase : g.phase ≡ Asked) (first : previous g ≡ None)
+    (called : call_with g.lsp s.calls ≡ Some c) where
+  abbrev Becomes : Answer → Type 0
+  Becomes a = (d : CallRec) × (find_call m (changed s a).calls ≡ Some d) × IsToldOf e.code c d
+
+  refused : Puts m (IsToldOf e.code c) (call_refused e.code g (Some c)) → Becomes (refused_here s g e.code)
+  refused put =
+      put-found s m (IsToldOf e.code c) (refused_here s g e.code) (record {
+        one = put.one;
+        puts = ap (λ o. (call_refused e.code g o).calls) called ∙ put.puts;
+        number = put.number;
+        holds = put.holds;
+      })
+
+  passed : Puts m (IsToldOf e.code c) (call_refused e.code g (Some c)) → Becomes (err_passed s g e (previous g))
+  passed put = subst (λ o. Becomes (err_passed s g e o)) (sym first) (refused put)
+
+  asked-removed : removed s g e ≡ err_passed s g e (previous g)
+  asked-removed =
+      ap (λ b. cond b (err_passed s g e (previous g)) (cond (is_closing g.phase) (removes g.lsp []) nothing))
+      (ap is_asked phase)
+
+  told : Puts m (IsToldOf e.code c) (call_refused e.code g (Some c)) → (u : NodeId) →
+      is_node (following g) u ≡ true → Becomes (path_err_with s u e (Some g))
+  told put u next =
+      subst (λ b. Becomes (cond b (cond e.removed (removed s g e) (contended s g e.msg)) nothing)) (sym next)
+      (subst (λ b. Becomes (cond b (removed s g e) (contended s g e.msg))) (sym gone)
+      (subst Becomes (sym asked-removed) (passed put)))
+
+-- a PathErr comes to an LSP's first leg from its next node
+from-next : (t : Network) (s : Mesh) (o : Routes) → EachFollows t s o → (u n e at_node : NodeId) (l : Lsp) (gone : Bool)
+    (code : ErrCode) (ms : List Msg) (g : Leg) → s.mail u.0 n.0 ≡ PathErr l e at_node gone code ∷ ms →
+    leg_at s l n ≡ Some g → is_some g.prev ≡ false → is_node (following g) u ≡ true
+from-next t s o follows u n e at_node l gone code ms g first here none =
+    go _ (on_hop t s o l u n (PathErr l e at_node gone code) ms first (same_lsp-refl l) follows)
+  where
+    go : (more : List Msg) → OnHop t s o l u n more → is_node (following g) u ≡ true
+    go more (Down q p planned i small u_is d_is mail) =
+        let there : leg_at s l (node_at p (suc i)) ≡ Some g = subst (λ x. leg_at s l x ≡ Some g) d_is here in
+        let fits : LegFits t q l p (suc i) g = subst (Fits t q l p (suc i)) there (planned.chain.fits (suc i) small) in
+        let prev = fits.prev in
+        absurd (cc (prev, none))
+    go more (Up q p planned i small u_is d_is mail) =
+        let there : leg_at s l (node_at p i) ≡ Some g = subst (λ x. leg_at s l x ≡ Some g) d_is here in
+        let fits : LegFits t q l p i g =
+        subst (Fits t q l p i) there (planned.chain.fits i (omega (arith, small))) in
+        ap (λ o. is_node o u) (following_is t q l p i g fits small)
+        ∙ subst (λ (x : NodeId). nat_eq x.0 u.0 ≡ true) u_is (same u.0)
+
+asked-put : (code : ErrCode) (g : Leg) (c : CallRec) (m : CallNo) → c.call ≡ m → g.role ≡ role.Work →
+    c.state ≡ Asking → Puts m (IsToldOf code c) (call_refused code g (Some c))
+asked-put code g c m number of_work asking = record {
+  one = blocked c (Code code);
+  puts = ap (λ b. (cond b (work_refused code c) (backup_refused code c)).calls) (ap is_work of_work)
+      ∙ ap (λ b. (cond b (call_put (blocked c (Code code))) nothing).calls) (ap is_asking asking);
+  number = number;
+  holds = record { cause = refl; work = λ e. (refl, refl); back = λ e. absurd (cc (asking, e)) };
+}
+
+paired-put : (code : ErrCode) (g : Leg) (c : CallRec) (m : CallNo) → c.call ≡ m → g.role ≡ role.Back →
+    c.state ≡ Pairing → Puts m (IsToldOf code c) (call_refused code g (Some c))
+paired-put code g c m number of_back pairs = record {
+  one = unbacked c (Code code);
+  puts = ap (λ b. (cond b (work_refused code c) (backup_refused code c)).calls) (ap is_work of_back)
+      ∙ ap (λ b. (cond b (leaves_bare c (Code code)) nothing).calls) (ap is_pairing pairs);
+  number = number;
+  holds = record { cause = refl; work = λ e. absurd (cc (pairs, e)); back = λ e. (refl, refl) };
+}
+
+module _ (t : Network) (events : List MeshEvent) (run : IsRun t start events) (u n e at_node : NodeId) (l : Lsp)
+    (code : ErrCode) (ms : List Msg) (m : CallNo) (c : CallRec)
+    (first : (after t start events).mail u.0 n.0 ≡ PathErr l e at_node true code ∷ ms)
+    (found : find_call m ((after t start events).nodes n.0).calls ≡ Some c) where
+  abbrev z : NodeState
+  z = (after t start events).nodes n.0
+
+  abbrev failure : PathFailure
+  failure = record { lsp = l; msg = PathErr l e at_node true code; removed = true; code = code }
+
+  abbrev After : NodeState → Type 0
+  After y = (d : CallRec) × (find_call m y.calls ≡ Some d) × IsToldOf code c d
+
+  by-leg : (r : Role) (o : Option Lsp) → IsNamed n.0 z.lsp z.legs r c.egress l → o ≡ Some l →
+      phase_of (leg_of o z.legs) ≡ Some Asked → names l c ≡ true →
+      ((g : Leg) → g.role ≡ r → Puts m (IsToldOf code c) (call_refused code g (Some c))) →
+      After ((step t (after t start events) (Take n u)).nodes n.0)
+  by-leg r o named is asked names_it puts =
+      let facts = (facts-hold t events run).node n.0 in
+      let here : find_leg l z.legs ≡ Some named.leg.0 = named.leg.1 in
+      let own = facts.leg l named.leg.0 here in
+      let its : named.leg.0.lsp ≡ l = found-lsp l z.legs named.leg.0 here in
+      let test : nat_eq named.leg.0.lsp.ingress.0 n.0 ≡ true =
+      ap (λ (j : ℕ). nat_eq j n.0) (ap (λ (j : Lsp). j.ingress.0) its ∙ named.ingress) ∙ same n.0 in
+      let phase : named.leg.0.phase ≡ Asked =
+      (let at_leg : phase_of (leg_of o z.legs) ≡ Some named.leg.0.phase =
+      ap (λ o. phase_of (leg_of o z.legs)) is ∙ ap phase_of here in cc (at_leg, asked)) in
+      let called : call_with named.leg.0.lsp z.calls ≡ Some c =
+      subst (λ k. call_with k z.calls ≡ Some c) (sym its) (the-call n.0 z l m c facts found names_it) in
+      let goes : (step t (after t start events) (Take n u)).nodes n.0
+      ≡ changed z (path_err_with z u failure (Some named.leg.0)) = rw (first, same n.0, here) refl in
+      subst After (sym goes)
+      (told z m c failure refl named.leg.0 phase (no-before named.leg.0.prev named.leg.0 (own.prev ∙ ap not test)) called
+      (puts named.leg.0 named.leg.2) u
+      (from-next t (after t start events) (route_of t start events) (carried t events run).follows u n e at_node l true code
+      ms named.leg.0 first here (own.prev ∙ ap not test)))
+
+-- over every network and every run
+pub every_refusal_told : EveryRefusalIsTold
+every_refusal_told t events run u n e at_node l code ms m c first found asks =
+    let z : NodeState = (after t start events).nodes n.0 in
+    let fit = ((facts-hold t events run).node n.0).call m c found in
+    let number = found-number m z.calls c found in
+    elim asks [
+      | inl (asking, work) ↦ by-leg t events run u n e at_node l code ms m c first found role.Work c.work
+          (named-lsp n.0 z.lsp z.legs role.Work c.egress c.work l fit.work work) work
+          (asking-row c.state _ _ (row c.state _ _ fit.state) asking) (names-work c l work)
+          (λ g is. asked-put code g c m number is asking)
+      | inr (pairs, back) ↦ by-leg t events run u n e at_node l code ms m c first found role.Back c.back
+          (named-lsp n.0 z.lsp z.legs role.Back c.egress c.back l fit.back back) back
+          (pairing-row c.state _ _ (row c.state _ _ fit.state) pairs) (names-back c l back)
+          (λ g is. paired-put code g c m number is pairs)
+    ]

@@ -1,0 +1,9 @@
+pub mod Below
+pub mod Blocked
+pub mod Knows
+pub mod MoveSteps
+pub mod MovesHold
+pub mod MovesOn
+pub mod Moving
+pub mod Others
+pub mod Waits

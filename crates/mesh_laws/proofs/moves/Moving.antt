@@ -1,0 +1,212 @@
+-- What a rule makes of a call: as it was ordered, in a state that the table allows, with fewer ticks than the wait, and
+-- with the cause BackDown only where both LSPs are reported.
+use Rattle.std.proofs.Common.{◌≡◌, ◌⊎◌, inl, inr, ◌<◌, ◌+◌, ℕ, Bool, true, false, cond, nat_le, refl, sym, ap, ◌∙◌, arith}
+use Rattle.ason_base.specs.declared.calls.CallState.{CallState}
+use Rattle.ason_base.specs.declared.calls.CallState.TheVariants.{Asking, Bare, Blocked, Guarded, Pairing, Stuck, Turned, Turning}
+use Rattle.ason_base.specs.declared.calls.Cause.{Cause}
+use Rattle.ason_base.specs.declared.calls.Cause.TheVariants.{BackDown, Unset}
+use Rattle.ason_base.specs.declared.ids.Lsp.{Lsp}
+use Rattle.ason_base.specs.declared.tables.CallRec.{CallRec}
+use Rattle.mesh_rules.specs.Calls.{bare, blocked, is_asking, is_bare, is_pairing, is_stuck, is_turned, is_turning, pairing, unbacked}
+use Rattle.mesh_laws.specs.MovesLaw.{IsDownTwice, may_move}
+use Rattle.mesh_laws.specs.WaitLaw.{IsBelow}
+
+-- The table
+
+abbrev pub is_down : Cause → Bool
+is_down BackDown = true
+is_down cause = false
+
+not-down : (cause : Cause) → is_down cause ≡ false → cause ≡ BackDown → ⊥
+not-down cause other is = let test = ap is_down is in cc (other, test)
+
+pub stays-in : (f : CallState) → may_move f f ≡ true
+stays-in Asking = refl
+stays-in Bare = refl
+stays-in Pairing = refl
+stays-in Guarded = refl
+stays-in Turning = refl
+stays-in Turned = refl
+stays-in Stuck = refl
+stays-in Blocked = refl
+
+abbrev is_open : CallState → Bool
+is_open Blocked = false
+is_open f = true
+
+open-from : (a f : CallState) → may_move a f ≡ true → is_open f ≡ true → a ≡ Blocked → ⊥
+open-from a f may opens is = go f opens (sym (ap (λ x. may_move x f) is) ∙ may)
+  where
+    go : (f : CallState) → is_open f ≡ true → may_move Blocked f ≡ true → ⊥
+    go Blocked opens may = cc opens
+    go Asking opens may = cc may
+    go Bare opens may = cc may
+    go Pairing opens may = cc may
+    go Guarded opens may = cc may
+    go Turning opens may = cc may
+    go Turned opens may = cc may
+    go Stuck opens may = cc may
+
+-- a backup may be asked for, or may be done without
+abbrev pub IsLone : CallRec → Type 0
+IsLone c = (may_move c.state Bare ≡ true) × (may_move c.state Pairing ≡ true)
+
+-- the backup may be activated, or found in use
+abbrev pub MayTurn : CallState → Type 0
+MayTurn a = (may_move a Turning ≡ true) × (may_move a Stuck ≡ true)
+
+-- from the first state, before the event, where it is decided in the second one
+abbrev pub MayDecide : CallState → CallState → Type 0
+MayDecide a Guarded = MayTurn a
+MayDecide a Turned = may_move a Guarded ≡ true
+MayDecide a Stuck = may_move a Guarded ≡ true
+MayDecide a f = Unit {0}
+
+pub decides-in : (f : CallState) → MayDecide f f
+decides-in Guarded = (refl, refl)
+decides-in Turned = refl
+decides-in Stuck = refl
+decides-in Asking = tt
+decides-in Bare = tt
+decides-in Pairing = tt
+decides-in Turning = tt
+decides-in Blocked = tt
+
+pub asking-lone : (f : CallState) → is_asking f ≡ true → (may_move f Bare ≡ true) × (may_move f Pairing ≡ true)
+asking-lone Asking e = (refl, refl)
+asking-lone _ e = absurd (cc e)
+
+pub bare-lone : (f : CallState) → is_bare f ≡ true → (may_move f Bare ≡ true) × (may_move f Pairing ≡ true)
+bare-lone Bare e = (refl, refl)
+bare-lone _ e = absurd (cc e)
+
+pub pairing-lone : (f : CallState) → is_pairing f ≡ true → (may_move f Bare ≡ true) × (may_move f Pairing ≡ true)
+pairing-lone Pairing e = (refl, refl)
+pairing-lone _ e = absurd (cc e)
+
+asking-blocks : (f : CallState) → is_asking f ≡ true → (may_move f Blocked ≡ true) × (f ≡ Blocked → ⊥)
+asking-blocks Asking e = (refl, λ is. cc is)
+asking-blocks _ e = absurd (cc e)
+
+pub pairing-may : (f : CallState) → is_pairing f ≡ true → (may_move f Guarded ≡ true) × MayTurn f
+pairing-may Pairing e = (refl, (refl, refl))
+pairing-may _ e = absurd (cc e)
+
+pub turning-may : (f : CallState) → is_turning f ≡ true → (may_move f Turned ≡ true) × (may_move f Stuck ≡ true)
+    × (may_move f Guarded ≡ true)
+turning-may Turning e = (refl, refl, refl)
+turning-may _ e = absurd (cc e)
+
+pub turned-may : (f : CallState) → is_turned f ≡ true → may_move f Guarded ≡ true
+turned-may Turned e = refl
+turned-may _ e = absurd (cc e)
+
+pub stuck-may : (f : CallState) → is_stuck f ≡ true → MayTurn f
+stuck-may Stuck e = (refl, refl)
+stuck-may _ e = absurd (cc e)
+
+-- Ticks
+
+pub none-below : (wait : ℕ) → IsBelow wait 0
+none-below wait = record { none = λ e. refl; below = λ some. omega (arith, some) }
+
+one-more : (wait ticks : ℕ) → nat_le wait (ticks + 1) ≡ false → IsBelow wait (ticks + 1)
+one-more wait ticks e =
+    let less : ticks + 1 < wait = grind arith in
+    record { none = λ none. absurd (omega (arith, less, none)); below = λ some. less }
+
+pub kept-below : (wait ticks : ℕ) (any : Bool) → IsBelow wait ticks → IsBelow wait (cond any 0 ticks)
+kept-below wait ticks true below = none-below wait
+kept-below wait ticks false below = below
+
+-- Calls
+
+module _ (wait : ℕ) where
+  pub record IsSameCall (c d : CallRec) : Type 0 where
+    pub number : d.call ≡ c.call
+    pub egress : d.egress ≡ c.egress
+    pub protected : d.protected ≡ c.protected
+    pub backup : d.backup ≡ c.backup
+    pub moves : may_move c.state d.state ≡ true
+    pub blocked : c.state ≡ Blocked → d.cause ≡ c.cause
+    pub ticks : IsBelow wait c.ticks → IsBelow wait d.ticks
+    pub down : d.cause ≡ BackDown → (c.cause ≡ BackDown) ⊎ IsDownTwice d
+
+  pub moves-none : (c : CallRec) → IsSameCall c c
+  moves-none c = record {
+    number = refl;
+    egress = refl;
+    protected = refl;
+    backup = refl;
+    moves = stays-in c.state;
+    blocked = λ e. refl;
+    ticks = λ h. h;
+    down = λ e. inl e;
+  }
+
+  -- into another state, as a call that isn't blocked
+  pub becomes : (c d : CallRec) → IsSameCall c d → (f : CallState) (cause : Cause) → may_move c.state f ≡ true →
+      is_open f ≡ true → (cause ≡ BackDown → IsDownTwice d) →
+      IsSameCall c (record d { state = f; cause = cause; ticks = 0 })
+  becomes c d same f cause may opens down = record {
+    number = same.number;
+    egress = same.egress;
+    protected = same.protected;
+    backup = same.backup;
+    moves = may;
+    blocked = λ e. absurd (open-from c.state f may opens e);
+    ticks = λ h. none-below wait;
+    down = λ e. inr (down e);
+  }
+
+  pub to-bare : (c : CallRec) → IsLone c → IsSameCall c (bare c)
+  to-bare c lone = becomes c c (moves-none c) Bare Unset lone.0 refl (λ e. absurd (cc e))
+
+  pub to-unbacked : (c : CallRec) (cause : Cause) → is_down cause ≡ false → IsLone c → IsSameCall c (unbacked c cause)
+  to-unbacked c cause other lone = record {
+    number = refl;
+    egress = refl;
+    protected = refl;
+    backup = refl;
+    moves = lone.0;
+    blocked = λ e. absurd (open-from c.state Bare lone.0 refl e);
+    ticks = λ h. none-below wait;
+    down = λ e. absurd (not-down cause other e);
+  }
+
+  pub to-pairing : (c : CallRec) (l : Lsp) → IsLone c → IsSameCall c (pairing c l)
+  to-pairing c l lone = record {
+    number = refl;
+    egress = refl;
+    protected = refl;
+    backup = refl;
+    moves = lone.1;
+    blocked = λ e. absurd (open-from c.state Pairing lone.1 refl e);
+    ticks = λ h. none-below wait;
+    down = λ e. absurd (cc e);
+  }
+
+  pub to-blocked : (c : CallRec) (cause : Cause) → is_down cause ≡ false → is_asking c.state ≡ true →
+      IsSameCall c (blocked c cause)
+  to-blocked c cause other asking = record {
+    number = refl;
+    egress = refl;
+    protected = refl;
+    backup = refl;
+    moves = (asking-blocks c.state asking).0;
+    blocked = λ e. absurd ((asking-blocks c.state asking).1 e);
+    ticks = λ h. none-below wait;
+    down = λ e. absurd (not-down cause other e);
+  }
+
+  pub waits-more : (c : CallRec) → nat_le wait (c.ticks + 1) ≡ false → IsSameCall c (record c { ticks = c.ticks + 1 })
+  waits-more c less = record {
+    number = refl;
+    egress = refl;
+    protected = refl;
+    backup = refl;
+    moves = stays-in c.state;
+    blocked = λ e. refl;
+    ticks = λ h. one-more wait c.ticks less;
+    down = λ e. inl e;
+  }

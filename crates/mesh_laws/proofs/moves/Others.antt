@@ -1,0 +1,150 @@
+-- An order changes no call but its own.
+use Rattle.std.proofs.Common.{◌≡◌, ℕ, true, false, cond, nat_eq, List, [], ◌∷◌, ◌++◌, refl, sym, ap, ◌∙◌, subst}
+use Rattle.std.specs.Prelude.{◌&&◌, Option, Some, None, not}
+use Rattle.ason_base.specs.Lsps.{has_fibre}
+use Rattle.ason_base.specs.declared.commands.Command.TheVariants.{Setup, Release, Protect, Retry, Revert, Fail, Repair}
+use Rattle.ason_base.specs.declared.commands.DeskItem.{DeskItem}
+use Rattle.ason_base.specs.declared.commands.DeskItem.TheVariants.{Order, Alarm, Clear}
+use Rattle.ason_base.specs.declared.ids.CallNo.{CallNo}
+use Rattle.ason_base.specs.declared.ids.NodeId.{NodeId}
+use Rattle.ason_base.specs.declared.tables.CallRec.{CallRec}
+use Rattle.ason_base.specs.declared.tables.Leg.{Leg}
+use Rattle.mesh_rules.specs.declared.changes.CallChange.{CallChange}
+use Rattle.mesh_rules.specs.declared.changes.CallChange.TheVariants.{Goes, Put}
+use Rattle.mesh_rules.specs.Alarms.{enters}
+use Rattle.mesh_rules.specs.Calls.{call_changed, calls_changed, find_call, is_bare, is_stuck, is_turned}
+use Rattle.mesh_rules.specs.Changes.{Answer}
+use Rattle.mesh_rules.specs.Events.{after}
+use Rattle.mesh_rules.specs.Legs.{leg_of}
+use Rattle.mesh_rules.specs.LocalNodes.{LocalNode, local_node, own_link}
+use Rattle.mesh_rules.specs.Machine.{start}
+use Rattle.mesh_rules.specs.Orders.{on_item}
+use Rattle.mesh_rules.specs.Protects.{protect_with, protects}
+use Rattle.mesh_rules.specs.Releases.{release_with, tears}
+use Rattle.mesh_rules.specs.Retries.{retry_with}
+use Rattle.mesh_rules.specs.Reverts.{revert_with}
+use Rattle.mesh_rules.specs.State.{NodeState}
+use Rattle.mesh_rules.specs.Turns.{has_any}
+use Rattle.mesh_nodes.proofs.CallList.{find-with_call, find-without_call, found-number}
+use Rattle.mesh_nodes.proofs.Cases.{both_left, both_right, if_cases}
+use Rattle.lsp_laws.proofs.nodes.CallChanges.{AreChanges}
+use Rattle.lsp_laws.proofs.nodes.SetupsHold.{setup-holds}
+use Rattle.mesh_laws.specs.OthersLaw.{EveryOrderIsOfOneCall, is_order_of}
+use Rattle.mesh_laws.proofs.acts.Puts.{handled}
+use Rattle.mesh_laws.proofs.moves.Moving.{IsSameCall, bare-lone, moves-none, stuck-may, turned-may}
+use Rattle.mesh_laws.proofs.moves.MoveSteps.{holds-go_back, holds-pair, holds-turn}
+
+-- k is the number of another call
+module _ (k : CallNo) where
+  abbrev IsOther : CallNo → Type 0
+  IsOther m = nat_eq m.0 k.0 ≡ false
+
+  abbrev Other : CallRec → Type 0
+  Other d = nat_eq d.call.0 k.0 ≡ false
+
+  keeps : (wait : ℕ) (c d : CallRec) → IsSameCall wait c d → Other c → Other d
+  keeps wait c d same other = subst (λ (m : CallNo). nat_eq m.0 k.0 ≡ false) (sym same.number) other
+
+  one-kept : (x : CallChange) (cs : List CallChange) (calls : List CallRec) → AreChanges IsOther Other (x ∷ cs) →
+      find_call k (call_changed x calls) ≡ find_call k calls
+  one-kept (Goes m) cs calls here =
+      let other : nat_eq m.0 k.0 ≡ false = here.0 in
+      find-without_call m calls k ∙ ap (λ b. cond b None (find_call k calls)) other
+  one-kept (Put d) cs calls here =
+      let other : nat_eq d.call.0 k.0 ≡ false = here.0 in
+      find-with_call d calls k ∙ ap (λ b. cond b (Some d) (find_call k calls)) other
+
+  all-kept : (cs : List CallChange) (calls : List CallRec) → AreChanges IsOther Other cs →
+      find_call k (calls_changed cs calls) ≡ find_call k calls
+  all-kept [] calls here = refl
+  all-kept (x ∷ cs) calls here = all-kept cs (call_changed x calls) here.1 ∙ one-kept x cs calls here
+
+  module _ (p : LocalNode) (s : NodeState) where
+    abbrev Others : Answer → Type 0
+    Others a = AreChanges IsOther Other a.calls
+
+    -- a rule that is given the call reads no other one
+    abbrev alone : NodeState
+    alone = record s { calls = [] }
+
+    found-other : (m : CallNo) (c : CallRec) → find_call m s.calls ≡ Some c → nat_eq m.0 k.0 ≡ false → Other c
+    found-other m c found other =
+        subst (λ (j : CallNo). nat_eq j.0 k.0 ≡ false) (sym (found-number m s.calls c found)) other
+
+    torn-others : (w b : Option Leg) (c : CallRec) → Other c →
+        AreChanges IsOther Other ((tears w).calls ++ ((tears b).calls ++ Goes c.call ∷ []))
+    torn-others None None c other = (other, tt)
+    torn-others None (Some b) c other = (other, tt)
+    torn-others (Some w) None c other = (other, tt)
+    torn-others (Some w) (Some b) c other = (other, tt)
+
+    release-others : (from : NodeId) (o : Option CallRec) → ((c : CallRec) → o ≡ Some c → Other c) →
+        Others (release_with p s from o)
+    release-others from None other = tt
+    release-others from (Some c) other =
+        if_cases Others (nat_eq from.0 p.id.0) _ _
+        (λ e. torn-others (leg_of c.work s.legs) (leg_of c.back s.legs) c (other c refl)) (λ e. tt)
+
+    protects-others : (c : CallRec) (o : Option Leg) → is_bare c.state ≡ true → Other c → Others (protects p s c o)
+    protects-others c None bare other = tt
+    protects-others c (Some w) bare other =
+        holds-pair p.wait IsOther Other Other (keeps p.wait) p alone tt (λ j d found. absurd (cc found)) c w
+        (bare-lone c.state bare) other
+
+    protect-others : (from : NodeId) (o : Option CallRec) → ((c : CallRec) → o ≡ Some c → Other c) →
+        Others (protect_with p s from o)
+    protect-others from None other = tt
+    protect-others from (Some c) other =
+        if_cases Others (nat_eq from.0 p.id.0 && is_bare c.state) _ _
+        (λ e. protects-others c (leg_of c.work s.legs) (both_right (nat_eq from.0 p.id.0) (is_bare c.state) e)
+        (other c refl)) (λ e. tt)
+
+    retry-others : (from : NodeId) (o : Option CallRec) → ((c : CallRec) → o ≡ Some c → Other c) →
+        Others (retry_with p s from o)
+    retry-others from None other = tt
+    retry-others from (Some c) other =
+        if_cases Others (nat_eq from.0 p.id.0) _ _
+        (λ e. if_cases Others (is_stuck c.state && (has_any c.work_reports && not (has_any c.back_reports))) _ _
+        (λ f. holds-turn p.wait IsOther Other Other (keeps p.wait) p alone tt (λ j d found. absurd (cc found)) c
+        (other c refl) c (leg_of c.back s.legs) (moves-none p.wait c)
+        (stuck-may c.state (both_left (is_stuck c.state) _ f))) (λ f. tt))
+        (λ e. tt)
+
+    revert-others : (from : NodeId) (o : Option CallRec) → ((c : CallRec) → o ≡ Some c → Other c) →
+        Others (revert_with p s from o)
+    revert-others from None other = tt
+    revert-others from (Some c) other =
+        if_cases Others (nat_eq from.0 p.id.0) _ _
+        (λ e. if_cases Others (is_turned c.state && not (has_any c.work_reports)) _ _
+        (λ f. holds-go_back p.wait IsOther Other Other (keeps p.wait) p alone tt (λ j d found. absurd (cc found)) c
+        (other c refl) c (leg_of c.back s.legs) (moves-none p.wait c)
+        (turned-may c.state (both_left (is_turned c.state) _ f))) (λ f. tt))
+        (λ e. tt)
+
+    item-others : (i : DeskItem) → is_order_of k i ≡ false → Others (on_item p s i)
+    item-others (Order (Setup m from to protected both via backup)) other =
+        setup-holds IsOther p s
+        (record { call = m; from = from; egress = to; protected = protected; both = both; via = via; backup = backup })
+        (λ a. Other) (λ a cause known. other) (λ route out over first ordered has. other) (find_call m s.calls)
+    item-others (Order (Release m from)) other =
+        release-others from (find_call m s.calls) (λ c found. found-other m c found other)
+    item-others (Order (Protect m from)) other =
+        protect-others from (find_call m s.calls) (λ c found. found-other m c found other)
+    item-others (Order (Retry m from)) other =
+        retry-others from (find_call m s.calls) (λ c found. found-other m c found other)
+    item-others (Order (Revert m from)) other =
+        revert-others from (find_call m s.calls) (λ c found. found-other m c found other)
+    item-others (Order (Fail g)) other = tt
+    item-others (Order (Repair g)) other = tt
+    item-others (Alarm f) other =
+        if_cases Others (enters p f (own_link p f.link) && not (has_fibre s.down f)) _ _ (λ e. tt) (λ e. tt)
+    item-others (Clear f) other =
+        if_cases Others (enters p f (own_link p f.link) && has_fibre s.down f) _ _ (λ e. tt) (λ e. tt)
+
+-- over every network and every run
+pub every_order_of_one : EveryOrderIsOfOneCall
+every_order_of_one t events run n i items first k other =
+    let s : NodeState = (after t start events).nodes n.0 in
+    let a : Answer = on_item (local_node t n) s i in
+    ap (λ (y : NodeState). find_call k y.calls) (handled t (after t start events) n i items first)
+    ∙ all-kept k a.calls s.calls (item-others k (local_node t n) s i other)

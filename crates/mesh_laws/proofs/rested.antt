@@ -1,0 +1,4 @@
+pub mod Alike
+pub mod Light
+pub mod Rested
+pub mod Told

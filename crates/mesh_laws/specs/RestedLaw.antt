@@ -1,0 +1,138 @@
+-- What stands once nothing is under way: the legs of calls that wait for nothing, and nothing else.
+use Rattle.std.specs.Prelude.{◌≡◌, ◌≢◌, ◌≤◌, ◌⊎◌, ℕ, Bool, true, false, List, [], length, slice_get, Option, Some, None, IsTrue, All}
+use Rattle.ason_base.specs.declared.calls.CallState.{CallState}
+use Rattle.ason_base.specs.declared.calls.CallState.TheVariants.{Asking, Bare, Pairing, Guarded, Turning, Turned, Stuck}
+use Rattle.ason_base.specs.declared.calls.Phase.{Phase}
+use Rattle.ason_base.specs.declared.calls.Phase.TheVariants.{Held, Live}
+use Rattle.ason_base.specs.declared.calls.Role.{Role}
+use Rattle.ason_base.specs.declared.calls.Role.TheVariants.{Work, Back}
+use Rattle.ason_base.specs.declared.ids.Fibre.{Fibre}
+use Rattle.ason_base.specs.declared.ids.Lsp.{Lsp}
+use Rattle.ason_base.specs.declared.ids.NodeId.{NodeId}
+use Rattle.ason_base.specs.declared.network.LinkSpec.{LinkSpec}
+use Rattle.ason_base.specs.declared.steps.Step.{Step}
+use Rattle.ason_base.specs.declared.tables.CallRec.{CallRec}
+use Rattle.ason_base.specs.declared.tables.Leg.{Leg}
+use Rattle.ason_base.specs.Lsps.{has_fibre}
+use Rattle.ason_base.specs.Network.{IsTopology, Network, find_link, receiver_of, sender_of}
+use Rattle.ason_base.specs.Routes.{makes_route}
+use Rattle.mesh_rules.specs.declared.events.MeshEvent.{MeshEvent}
+use Rattle.mesh_rules.specs.Calls.{find_call, names}
+use Rattle.mesh_rules.specs.Events.{IsRun, after, route_of}
+use Rattle.mesh_rules.specs.Failures.{is_cut}
+use Rattle.mesh_rules.specs.LocalNodes.{fibre_out}
+use Rattle.mesh_rules.specs.Machine.{Mesh, start}
+use Rattle.mesh_rules.specs.Quiet.{IsQuiet}
+use Rattle.lsp_laws.specs.HopLaw.{IsOnRoute, leg_at}
+use Rattle.lsp_laws.specs.ReportLaw.{place_at}
+
+-- Legs and calls
+
+-- the phase that the legs of a call's working LSP and of its backup have in this state, once nothing is under way
+abbrev pub rested : CallState → Role → Option Phase
+rested Bare Work = Some Live
+rested Guarded Work = Some Live
+rested Guarded Back = Some Held
+rested Turned Work = Some Live
+rested Turned Back = Some Live
+rested Stuck Work = Some Live
+rested Stuck Back = Some Held
+rested state role = None
+
+-- the leg's LSP is the working LSP or the backup of a call that stands at its ingress, and the leg has the phase of the
+-- call's state
+pub record IsOfCall (s : Mesh) (g : Leg) : Type 0 where
+  pub call : CallRec
+  pub there : find_call call.call (s.nodes g.lsp.ingress.0).calls ≡ Some call
+  pub named : IsTrue (names g.lsp call)
+  pub phase : rested call.state g.role ≡ Some g.phase
+
+-- the leg's LSP has a leg in the same phase at each node of the route that its ingress sent it on, and none elsewhere
+pub record StandsAlong (t : Network) (events : List MeshEvent) (g : Leg) : Type 0 where
+  pub route : List Step
+  pub sent : route_of t start events g.lsp ≡ Some route
+  pub leads : IsTrue (makes_route t g.lsp.ingress g.egress route)
+  pub all : (i : ℕ) → i ≤ length route → (h : Leg) ×
+      (leg_at (after t start events) g.lsp (place_at route g.egress i) ≡ Some h) × (h.phase ≡ g.phase)
+  pub only : (n : NodeId) (h : Leg) → leg_at (after t start events) g.lsp n ≡ Some h →
+      (n ≡ g.egress) ⊎ IsOnRoute route n
+
+-- the call waits for no answer
+abbrev pub is_settled : CallState → Bool
+is_settled Asking = false
+is_settled Pairing = false
+is_settled Turning = false
+is_settled _ = true
+
+-- no node keeps a leg, and so no label, that isn't of a call; and no call waits for an answer
+pub record NothingIsLeft (t : Network) (events : List MeshEvent) : Type 0 where
+  pub legs : (n : ℕ) → All (IsOfCall (after t start events)) ((after t start events).nodes n).legs
+  pub along : (n : ℕ) → All (StandsAlong t events) ((after t start events).nodes n).legs
+  pub calls : (n : ℕ) → All (λ c. IsTrue (is_settled c.state)) ((after t start events).nodes n).calls
+  -- with no call there is no leg
+  pub emptied : ((n : ℕ) → ((after t start events).nodes n).calls ≡ []) → (n : ℕ) →
+      ((after t start events).nodes n).legs ≡ []
+
+-- over every network and every run
+abbrev pub NothingIsLeftAtRest : Type 0
+NothingIsLeftAtRest =
+    (t : Network) (events : List MeshEvent) → IsRun t start events → IsQuiet (after t start events) →
+    NothingIsLeft t events
+
+-- Light
+
+-- the two directions of one link
+pub record AreOpposite (e f : Fibre) : Type 0 where
+  pub link : e.link ≡ f.link
+  pub forward : e.forward ≢ f.forward
+
+-- the light of this label comes to the leg over this fibre: on its way there, or on the way back
+pub data Arrives : Fibre → ℕ → Leg → Type 0 where
+  Onward : {f : Fibre} {x : ℕ} {g : Leg} → g.in_fibre ≡ Some f → g.in_label ≡ Some x → Arrives f x g
+  Returning : {f e : Fibre} {x : ℕ} {g : Leg} → g.out_fibre ≡ Some e → AreOpposite e f → g.back_in ≡ Some x →
+      Arrives f x g
+
+-- the leg sends light of this label on over this fibre
+pub data Leaves : Fibre → ℕ → Leg → Type 0 where
+  GoesOn : {f : Fibre} {x : ℕ} {g : Leg} → g.out_fibre ≡ Some f → g.out_label ≡ Some x → Leaves f x g
+  GoesBack : {f e : Fibre} {x : ℕ} {g : Leg} → g.in_fibre ≡ Some e → AreOpposite e f → g.back_out ≡ Some x →
+      Leaves f x g
+
+-- the LSP has a leg at this node that is so
+abbrev pub HasLeg : Mesh → Lsp → NodeId → (Leg → Type 0) → Type 0
+HasLeg s l n P = (g : Leg) × (leg_at s l n ≡ Some g) × P g
+
+-- Over each fibre, LSP by LSP: the label that is sent at the one end is taken at the other, and the other way round.
+pub record SentIsTaken (t : Network) (s : Mesh) : Type 0 where
+  pub taken : (f : Fibre) (x : ℕ) (u d : NodeId) (l : Lsp) → sender_of t f ≡ Some u → receiver_of t f ≡ Some d →
+      HasLeg s l u (Leaves f x) → HasLeg s l d (Arrives f x)
+  pub sent : (f : Fibre) (x : ℕ) (u d : NodeId) (l : Lsp) → sender_of t f ≡ Some u → receiver_of t f ≡ Some d →
+      HasLeg s l d (Arrives f x) → HasLeg s l u (Leaves f x)
+
+abbrev pub EachSentIsTakenAtRest : Type 0
+EachSentIsTakenAtRest =
+    (t : Network) (events : List MeshEvent) → IsRun t start events → IsQuiet (after t start events) →
+    SentIsTaken t (after t start events)
+
+-- Reports
+
+-- of each fibre of the route that the LSP was sent on: it is reported just where it is physically down
+abbrev pub ReportsAreTrue : Network → List MeshEvent → Lsp → List Fibre → Type 0
+ReportsAreTrue t events l fibres =
+    (route : List Step) → route_of t start events l ≡ Some route → (i : ℕ) (hop : Step) (k : LinkSpec) →
+    slice_get route i ≡ Some hop → find_link t hop.link ≡ Some k →
+    has_fibre fibres (fibre_out k hop.node) ≡ is_cut (after t start events).failed k
+
+pub record CallReportsAreTrue (t : Network) (events : List MeshEvent) (c : CallRec) : Type 0 where
+  pub work : (l : Lsp) → c.work ≡ Some l → ReportsAreTrue t events l c.work_reports
+  pub back : (l : Lsp) → c.back ≡ Some l → ReportsAreTrue t events l c.back_reports
+
+-- each call at each node
+abbrev pub AllReportsAreTrue : Network → List MeshEvent → Type 0
+AllReportsAreTrue t events = (n : ℕ) → All (CallReportsAreTrue t events) ((after t start events).nodes n).calls
+
+-- over every topology and every run
+abbrev pub EveryReportIsTrueAtRest : Type 0
+EveryReportIsTrueAtRest =
+    (t : Network) (events : List MeshEvent) → IsTopology t → IsRun t start events → IsQuiet (after t start events) →
+    AllReportsAreTrue t events

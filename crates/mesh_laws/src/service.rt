@@ -1,0 +1,57 @@
+//! What operators may take for granted: the network serves.
+
+ghost use Rattle.mesh_laws.specs.ActsLaw.{EveryOrderActs, EveryTornLegGivesUp};
+ghost use Rattle.mesh_laws.specs.BackedLaw.{EveryBackupGoesAsGiven};
+ghost use Rattle.mesh_laws.specs.CauseLaw.{EveryBusyIsBusy, EveryLackHasCause, EveryLoneCallHasCause, EveryRefusalHasCause, EveryRefusalIsTold};
+ghost use Rattle.mesh_laws.specs.KnowsLaw.{EveryLearntIsKnown};
+ghost use Rattle.mesh_laws.specs.MovesLaw.{EveryBlockedCallStays, EveryCallMovesOn};
+ghost use Rattle.mesh_laws.specs.OthersLaw.{EveryOrderIsOfOneCall};
+ghost use Rattle.mesh_laws.specs.RestedLaw.{EachSentIsTakenAtRest, EveryReportIsTrueAtRest, NothingIsLeftAtRest};
+ghost use Rattle.mesh_laws.specs.WaitLaw.{EveryTickCounts, EveryWaitIsBelow};
+
+/// Of every run, once no message is under way and each desk is empty: each leg is of the working
+/// LSP or of the backup of a call that stands at its ingress and waits for no answer, in the phase
+/// of the call's state, at each node of its route alike and at no other; with no call there is no
+/// leg (`rested`). Each label that a leg sends over a fibre the LSP's leg at the other end takes,
+/// and the other way round, there and back (`taken`). Over a topology a call has just those fibres
+/// of its LSPs' routes reported that are physically down (`told`).
+pub fn every_rest()
+    ensures rested { NothingIsLeftAtRest }
+    ensures taken { EachSentIsTakenAtRest }
+    ensures told { EveryReportIsTrueAtRest }
+{}
+
+/// Of every run: an Asked leg and a torn one have no label in, and a torn one no back label out
+/// (`torn`). A backup goes over the route that its order gives (`backed`). A node refuses a Path
+/// for a cause that stands there (`caused`) and an activation where the leg of another backup uses
+/// a label of its own (`busy`), and it finds no label for a Resv where each that may go on is kept
+/// off (`lacks`). Over a topology each order that a node handles does what it says: a call that is
+/// blocked at once, or gets no backup, has a cause that stands at its ingress (`acts`); so has a
+/// protected call that gets none as its working LSP is connected (`lone`). An order changes no call
+/// but its own (`others`).
+pub fn every_order()
+    ensures torn { EveryTornLegGivesUp }
+    ensures backed { EveryBackupGoesAsGiven }
+    ensures caused { EveryRefusalHasCause }
+    ensures busy { EveryBusyIsBusy }
+    ensures lacks { EveryLackHasCause }
+    ensures lone { EveryLoneCallHasCause }
+    ensures acts { EveryOrderActs }
+    ensures others { EveryOrderIsOfOneCall }
+{}
+
+/// Of every run: what a node learns of a neighbour it knows, behind what it knew (`learnt`). A tick
+/// counts in each call that waits to be restored, or restores it at the end of the wait, and
+/// changes no other call (`counted`), and no call counts as many ticks as the wait (`below`). A call
+/// stands until its release, in every state; over each event it moves as a table of the states
+/// says, and the cause that its backup is down comes only where fibres of both its LSPs are
+/// reported (`moves`). A blocked call stays as it is until its release (`blocked`). A call whose
+/// LSP is refused has the code of the PathErr that came as its cause (`refused`).
+pub fn every_change()
+    ensures learnt { EveryLearntIsKnown }
+    ensures counted { EveryTickCounts }
+    ensures below { EveryWaitIsBelow }
+    ensures moves { EveryCallMovesOn }
+    ensures blocked { EveryBlockedCallStays }
+    ensures refused { EveryRefusalIsTold }
+{}
