@@ -21,10 +21,13 @@ use Rattle.mesh_laws.proofs.moves.Waits.{every_tick}
 use Rattle.mesh_laws.proofs.rested.Light.{each_sent_is_taken}
 use Rattle.mesh_laws.proofs.rested.Rested.{nothing_left_at_rest}
 use Rattle.mesh_laws.proofs.rested.Told.{every_report_true}
+use Rattle.mesh_laws.proofs.safe.Light.{every_label_of_link, every_light}
 
 -- for the field of all laws in one word
 pub network_serves : (t : Network) (events : List MeshEvent) → IsRun t start events → Serves t events
 network_serves t events run = record {
+  lit = every_light t events run;
+  of_link = every_label_of_link t events run;
   rested = nothing_left_at_rest t events run;
   taken = each_sent_is_taken t events run;
   told = λ valid. every_report_true t events valid run;

@@ -19,6 +19,7 @@ pub mod ActsLaw
 pub mod BackedLaw
 pub mod CauseLaw
 pub mod KnowsLaw
+pub mod LightLaw
 pub mod MovesLaw
 pub mod OthersLaw
 pub mod RestedLaw

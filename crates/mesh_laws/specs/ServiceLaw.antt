@@ -9,6 +9,7 @@ use Rattle.mesh_laws.specs.ActsLaw.{OrdersAct, TornLegsGiveUp}
 use Rattle.mesh_laws.specs.BackedLaw.{BackupsGoAsGiven}
 use Rattle.mesh_laws.specs.CauseLaw.{BusyLegsAreBusy, LacksHaveCauses, LoneCallsHaveCauses, RefusalsAreTold, RefusalsHaveCauses}
 use Rattle.mesh_laws.specs.KnowsLaw.{LearntIsKnown}
+use Rattle.mesh_laws.specs.LightLaw.{LabelsAreOfLinks, LightIsOfOneLsp}
 use Rattle.mesh_laws.specs.MovesLaw.{BlockedCallsStay, CallsMoveOn}
 use Rattle.mesh_laws.specs.OthersLaw.{OrdersAreOfOneCall}
 use Rattle.mesh_laws.specs.RestedLaw.{AllReportsAreTrue, NothingIsLeft, SentIsTaken}
@@ -16,6 +17,12 @@ use Rattle.mesh_laws.specs.WaitLaw.{TicksCount, WaitsAreBelow}
 
 -- after these events, and over any one event with which they go on
 pub record Serves (t : Network) (events : List MeshEvent) : Type 0 where
+  -- Light
+
+  -- no light of one label on one fibre is of two circuits
+  pub lit : LightIsOfOneLsp t events
+  -- and the label of the light that arrives at a node is one of the link's
+  pub of_link : LabelsAreOfLinks t events
   -- Rest: once no message is under way and each desk is empty,
 
   -- no label is held for a call that is gone: each leg is of a call that stands, in the phase of its state, at each node of

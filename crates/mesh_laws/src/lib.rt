@@ -6,5 +6,5 @@ pub mod service;
 pub mod survey;
 
 pub use laws::{every_node, every_run, no_contend};
-pub use service::{every_change, every_order, every_rest};
+pub use service::{every_change, every_light, every_order, every_rest};
 pub use survey::{CallNos, Contend, Hit};

@@ -4,10 +4,20 @@ ghost use Rattle.mesh_laws.specs.ActsLaw.{EveryOrderActs, EveryTornLegGivesUp};
 ghost use Rattle.mesh_laws.specs.BackedLaw.{EveryBackupGoesAsGiven};
 ghost use Rattle.mesh_laws.specs.CauseLaw.{EveryBusyIsBusy, EveryLackHasCause, EveryLoneCallHasCause, EveryRefusalHasCause, EveryRefusalIsTold};
 ghost use Rattle.mesh_laws.specs.KnowsLaw.{EveryLearntIsKnown};
+ghost use Rattle.mesh_laws.specs.LightLaw.{EveryLabelIsOfItsLink, EveryLightIsOfOneLsp};
 ghost use Rattle.mesh_laws.specs.MovesLaw.{EveryBlockedCallStays, EveryCallMovesOn};
 ghost use Rattle.mesh_laws.specs.OthersLaw.{EveryOrderIsOfOneCall};
 ghost use Rattle.mesh_laws.specs.RestedLaw.{EachSentIsTakenAtRest, EveryReportIsTrueAtRest, NothingIsLeftAtRest};
 ghost use Rattle.mesh_laws.specs.WaitLaw.{EveryTickCounts, EveryWaitIsBelow};
+
+/// Of every run, in words of legs, fibres and labels alone: where light of one label is on one fibre
+/// at Live legs, whether it arrives where the fibre ends or leaves where it begins, there or back,
+/// all of it is of one LSP (`lit`). The label of the light that arrives at a leg, cross-connected or
+/// not, is one of the labels of a link of the network at that node (`of_link`).
+pub fn every_light()
+    ensures lit { EveryLightIsOfOneLsp }
+    ensures of_link { EveryLabelIsOfItsLink }
+{}
 
 /// Of every run, once no message is under way and each desk is empty: each leg is of the working
 /// LSP or of the backup of a call that stands at its ingress and waits for no answer, in the phase
