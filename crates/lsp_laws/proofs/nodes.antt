@@ -7,6 +7,8 @@ pub mod CallParts
 pub mod CallStepKeeps
 pub mod CallTouched
 pub mod CallMoves
+pub mod CallWalk
+pub mod CallWays
 pub mod CallChanges
 pub mod CallSteps
 pub mod CallsHold
@@ -24,6 +26,7 @@ pub mod MessageKeeps
 pub mod NewLegs
 pub mod NotifyKeeps
 pub mod OrderKeeps
+pub mod OrderWalk
 pub mod PairKeeps
 pub mod Parts
 pub mod PathKeeps
@@ -33,6 +36,7 @@ pub mod RevertKeeps
 pub mod NodeRuns
 pub mod Searches
 pub mod SetupKeeps
+pub mod SameCalls
 pub mod Sharing
 pub mod States
 pub mod TickKeeps

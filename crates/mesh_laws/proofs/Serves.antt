@@ -17,6 +17,7 @@ use Rattle.mesh_laws.proofs.moves.Blocked.{every_blocked_call}
 use Rattle.mesh_laws.proofs.moves.Knows.{every_learnt}
 use Rattle.mesh_laws.proofs.moves.MovesOn.{every_call_moves}
 use Rattle.mesh_laws.proofs.moves.Others.{every_order_of_one}
+use Rattle.mesh_laws.proofs.moves.Sources.{every_code, every_turned_call}
 use Rattle.mesh_laws.proofs.moves.Waits.{every_tick}
 use Rattle.mesh_laws.proofs.rested.Light.{each_sent_is_taken}
 use Rattle.mesh_laws.proofs.rested.Rested.{nothing_left_at_rest}
@@ -42,6 +43,8 @@ network_serves t events run = record {
   refused = every_refusal_told t events run;
   moves = every_call_moves t events run;
   blocked = every_blocked_call t events run;
+  turned = every_turned_call t events run;
+  coded = every_code t events run;
   counted = every_tick t events run;
   below = every_wait t events run;
   learnt = every_learnt t events run;

@@ -1,4 +1,2 @@
 pub mod BackMoves
-pub mod BackSteps
 pub mod Backed
-pub mod BacksHold

@@ -1,9 +1,11 @@
 pub mod Below
 pub mod Blocked
+pub mod Came
 pub mod Knows
-pub mod MoveSteps
-pub mod MovesHold
+pub mod Moved
 pub mod MovesOn
 pub mod Moving
 pub mod Others
+pub mod Over
+pub mod Sources
 pub mod Waits

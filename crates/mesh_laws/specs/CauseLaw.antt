@@ -5,7 +5,7 @@ use Rattle.ason_base.specs.Codes.{busy_code, down_code, full_code, label_code, p
 use Rattle.ason_base.specs.Labels.{has}
 use Rattle.ason_base.specs.Network.{IsTopology, Network, touches}
 use Rattle.ason_base.specs.Risks.{have_common, route_risks}
-use Rattle.ason_base.specs.Walks.{IsBackup, IsWalk, NoLink, NoNode}
+use Rattle.ason_base.specs.Walks.{IsBackup, IsLeast, IsWalk, NoLink, NoNode}
 use Rattle.ason_base.specs.declared.calls.CallState.TheVariants.{Asking, Bare, Blocked, Pairing}
 use Rattle.ason_base.specs.declared.calls.Cause.{Cause}
 use Rattle.ason_base.specs.declared.calls.Cause.TheVariants.{Code, Full, NoBackup, NoRoute, Spent}
@@ -123,6 +123,10 @@ EveryRefusalHasCause =
 
 -- The refusal of a call by its ingress
 
+-- the route is the one that was given, or else the least that is allowed
+abbrev pub GoesOver : Option (List Step) → (List Step → ℕ → Type 0) → List Step → Type 0
+GoesOver via IsAllowed route = (via ≡ Some route) ⊎ ((via ≡ None) × ((cost : ℕ) × IsLeast IsAllowed route cost))
+
 -- why the ingress n, which keeps x, blocks a call that is set up to this node; via: the route that was given
 pub data SetupCause (t : Network) (x : NodeState) (n to : NodeId) (via : Option (List Step)) (both : Bool) (cause : Cause) :
     Type 0 where
@@ -132,9 +136,9 @@ pub data SetupCause (t : Network) (x : NodeState) (n to : NodeId) (via : Option 
   -- a number that n would give out next has more than 16 bits
   HasNoNumber : cause ≡ Spent → (65535 < x.lsp) ⊎ (65535 < x.tunnel) → SetupCause t x n to via both cause
   HasNoRoom : cause ≡ Full → 4096 ≤ length x.legs → SetupCause t x n to via both cause
-  -- the call is two-way, and each label of the first link's fibre to n is kept off by a leg of n
+  -- the call is two-way, and each label of the fibre to n of the first link of its route is kept off by a leg of n
   HasNoReturn : (hop : Step) (rest : List Step) (out : LinkSpec) (f : Fibre) → cause ≡ Code label_code → both ≡ true →
-      (via ≡ Some (hop ∷ rest)) ⊎ (via ≡ None) → IsLinkAt t n hop.link out → AreOpposite (fibre_out out n) f →
+      GoesOver via (IsWalk (known_rows (local_node t n) x) NoLink NoNode n to) (hop ∷ rest) → IsLinkAt t n hop.link out → AreOpposite (fibre_out out n) f →
       ((y : ℕ) → 1 ≤ y → y ≤ out.labels → KeepsOff x.legs role.Work [] f y) → SetupCause t x n to via both cause
 
 -- why the ingress n, which keeps x, doesn't get a backup for the call c beside the working LSP, whose route was the primary;
@@ -153,10 +157,14 @@ pub data BackupCause (t : Network) (o : Lsp → Option (List Step)) (x : NodeSta
   -- no number or no room is left
   BackHasNoNumber : cause ≡ Spent → 65535 < x.lsp → BackupCause t o x n c cause
   BackHasNoRoom : cause ≡ Full → 4096 ≤ length x.legs → BackupCause t o x n c cause
-  -- the call is two-way, and each label of the first link's fibre to n is kept off by a leg of n
-  BackHasNoReturn : (l : Lsp) (g : Leg) (z : ℕ) (primary : List Step) (hop : Step) (out : LinkSpec) (f : Fibre) →
+  -- the call is two-way, and each label of the fibre to n of the first link of the backup's route is kept off by a leg
+  -- of n
+  BackHasNoReturn : (l : Lsp) (g : Leg) (z : ℕ) (primary : List Step) (hop : Step) (rest : List Step) (out : LinkSpec)
+      (f : Fibre) →
       cause ≡ Code label_code → c.work ≡ Some l → find_leg l x.legs ≡ Some g → g.back_in ≡ Some z →
-      o l ≡ Some primary → IsLinkAt t n hop.link out → AreOpposite (fibre_out out n) f → ((y : ℕ) → 1 ≤ y →
+      o l ≡ Some primary →
+      GoesOver c.backup (IsBackup (known_rows (local_node t n) x) primary n c.egress) (hop ∷ rest) →
+      IsLinkAt t n hop.link out → AreOpposite (fibre_out out n) f → ((y : ℕ) → 1 ≤ y →
       y ≤ out.labels →
       KeepsOff x.legs role.Back (route_risks (known_rows (local_node t n) x) primary) f y) →
       BackupCause t o x n c cause

@@ -24,4 +24,5 @@ pub mod MovesLaw
 pub mod OthersLaw
 pub mod RestedLaw
 pub mod ServiceLaw
+pub mod SourceLaw
 pub mod WaitLaw

@@ -13,6 +13,7 @@ use Rattle.mesh_laws.specs.LightLaw.{LabelsAreOfLinks, LightIsOfOneLsp}
 use Rattle.mesh_laws.specs.MovesLaw.{BlockedCallsStay, CallsMoveOn}
 use Rattle.mesh_laws.specs.OthersLaw.{OrdersAreOfOneCall}
 use Rattle.mesh_laws.specs.RestedLaw.{AllReportsAreTrue, NothingIsLeft, SentIsTaken}
+use Rattle.mesh_laws.specs.SourceLaw.{CodesHaveSources, TurnedCallsWait}
 use Rattle.mesh_laws.specs.WaitLaw.{TicksCount, WaitsAreBelow}
 
 -- after these events, and over any one event with which they go on
@@ -60,6 +61,10 @@ pub record Serves (t : Network) (events : List MeshEvent) : Type 0 where
   pub moves : CallsMoveOn t events
   -- a blocked call stays as it is until its release
   pub blocked : BlockedCallsStay t events
+  -- a turned call changes only by a tick of its node, by a report, or by an order to go back
+  pub turned : TurnedCallsWait t events
+  -- a code is a call's cause only where a PathErr brought it, where the backup is busy, or where a first link has no label
+  pub coded : CodesHaveSources t events
   -- a tick counts in each call that waits to go back, at the end of the wait it goes back, and no other call changes
   pub counted : TicksCount t events
   -- no call counts as many ticks as the wait

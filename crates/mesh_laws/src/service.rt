@@ -8,6 +8,7 @@ ghost use Rattle.mesh_laws.specs.LightLaw.{EveryLabelIsOfItsLink, EveryLightIsOf
 ghost use Rattle.mesh_laws.specs.MovesLaw.{EveryBlockedCallStays, EveryCallMovesOn};
 ghost use Rattle.mesh_laws.specs.OthersLaw.{EveryOrderIsOfOneCall};
 ghost use Rattle.mesh_laws.specs.RestedLaw.{EachSentIsTakenAtRest, EveryReportIsTrueAtRest, NothingIsLeftAtRest};
+ghost use Rattle.mesh_laws.specs.SourceLaw.{EveryCodeHasSource, EveryTurnedCallWaits};
 ghost use Rattle.mesh_laws.specs.WaitLaw.{EveryTickCounts, EveryWaitIsBelow};
 
 /// Of every run, in words of legs, fibres and labels alone: where light of one label is on one fibre
@@ -56,7 +57,11 @@ pub fn every_order()
 /// stands until its release, in every state; over each event it moves as a table of the states
 /// says, and the cause that its backup is down comes only where fibres of both its LSPs are
 /// reported (`moves`). A blocked call stays as it is until its release (`blocked`). A call whose
-/// LSP is refused has the code of the PathErr that came as its cause (`refused`).
+/// LSP is refused has the code of the PathErr that came as its cause (`refused`). A turned call
+/// changes only by a tick of its node, by a Notify that the node takes, or by an order to go back:
+/// by a Notify it goes back only where its backup is reported and its working LSP isn't (`turned`).
+/// A code is the cause of a call only where a PathErr that gives up an LSP brought it, where the
+/// backup is busy, or where the first link has no label for the way back (`coded`).
 pub fn every_change()
     ensures learnt { EveryLearntIsKnown }
     ensures counted { EveryTickCounts }
@@ -64,4 +69,6 @@ pub fn every_change()
     ensures moves { EveryCallMovesOn }
     ensures blocked { EveryBlockedCallStays }
     ensures refused { EveryRefusalIsTold }
+    ensures turned { EveryTurnedCallWaits }
+    ensures coded { EveryCodeHasSource }
 {}

@@ -109,7 +109,7 @@ committed t s n a o o' grow put each m = go (nat_eq m.0 n.0) refl
 -- A setup
 
 -- the first step of the route is over this link of the node
-starts-with : (p : LocalNode) (route : List Step) (out : LinkSpec) → first_link p route ≡ Some out →
+pub starts-with : (p : LocalNode) (route : List Step) (out : LinkSpec) → first_link p route ≡ Some out →
     record { node = p.id; link = out.id } ∷ drop 1 route ≡ route
 starts-with p [] out first = absurd (cc first)
 starts-with p (hop ∷ further) out first =

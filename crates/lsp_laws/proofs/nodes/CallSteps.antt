@@ -1,11 +1,9 @@
--- What holds of a call after a step of it at its ingress, where it holds of a call by what was asked for and by its
--- working LSP.
-use Rattle.std.proofs.Common.{Bool, true, false, inl, inr, ◌≡◌, List, refl, sym, subst, ◌∙◌}
+-- What holds of a call after a step of it at its ingress, by what a rule may make of it.
+use Rattle.std.proofs.Common.{Bool, true, false, ◌≡◌, inl, List, refl}
 use Rattle.std.specs.Prelude.{Option, Some, None, is_some, nat_lt, drop}
 use Rattle.ason_base.specs.declared.calls.CallState.TheVariants.{Asking, Bare, Blocked, Guarded, Pairing, Stuck, Turned, Turning}
 use Rattle.ason_base.specs.declared.calls.CallState.{CallState}
 use Rattle.ason_base.specs.declared.calls.Cause.TheVariants.{BackDown, Code, Full, NoBackup, Spent}
-use Rattle.ason_base.specs.declared.calls.Cause.{Cause}
 use Rattle.ason_base.specs.declared.codes.ErrCode.{ErrCode}
 use Rattle.ason_base.specs.declared.ids.CallNo.{CallNo}
 use Rattle.ason_base.specs.declared.ids.Fibre.{Fibre}
@@ -15,220 +13,170 @@ use Rattle.ason_base.specs.declared.steps.Step.{Step}
 use Rattle.ason_base.specs.declared.tables.CallRec.{CallRec}
 use Rattle.ason_base.specs.declared.tables.Leg.{Leg}
 use Rattle.ason_base.specs.Codes.{busy_code, label_code}
-use Rattle.ason_base.specs.Lsps.{is_lsp}
 use Rattle.ason_base.specs.Risks.{unknown_link}
 use Rattle.mesh_rules.specs.declared.limits.TheConstants.{LAST_NUMBER}
 use Rattle.mesh_rules.specs.CallSteps.{call_answered, call_contended, call_refused, call_turned}
-use Rattle.mesh_rules.specs.Calls.{bare, blocked, call_with, guarded, is_asking, is_pairing, is_stuck, is_turned, is_turning, names, pairing, stuck, turned, turning, unbacked}
+use Rattle.mesh_rules.specs.Calls.{bare, blocked, call_with, guarded, is_asking, is_pairing, is_turning, names, pairing, stuck, turned, turning, unbacked}
 use Rattle.mesh_rules.specs.Changes.{Answer}
 use Rattle.mesh_rules.specs.FirstLegs.{first_link, is_full, lacks_first_back}
 use Rattle.mesh_rules.specs.KnownRows.{known_rows}
 use Rattle.mesh_rules.specs.Legs.{is_contended, is_held, is_in_use, is_work, leg_of}
 use Rattle.mesh_rules.specs.LocalNodes.{LocalNode}
 use Rattle.mesh_rules.specs.Pairs.{beside_lsp, admitted_backup, backup_route, guarding, is_two_way, over_backup, pair, pair_over, route_from}
-use Rattle.mesh_rules.specs.Reports.{call_reported, fibres_after, with_back_reports, with_report, with_work_reports}
+use Rattle.mesh_rules.specs.Reports.{call_reported, with_report}
 use Rattle.mesh_rules.specs.State.{NodeState}
 use Rattle.mesh_rules.specs.Turns.{decide, decided, go_back, has_any, turn}
 use Rattle.mesh_nodes.specs.Order.{CallsRise}
 use Rattle.mesh_nodes.proofs.Cases.{if_cases}
 use Rattle.mesh_nodes.proofs.CallList.{called-found, called-names}
-use Rattle.lsp_laws.specs.CallLaw.{is_unset}
-use Rattle.lsp_laws.proofs.nodes.CallMoves.{IsLone, IsSameCall, MayLeave, Moves, asking-lone, by-test, hit-guarded, of-after, other_one, pairing-lone, reported-ticks, revised-call, still, to-bare, to-blocked, to-guarded, to-pairing, to-stuck, to-turned, to-turning, to-unbacked, whole-turned}
 use Rattle.lsp_laws.proofs.nodes.CallChanges.{AreChanges, EachCall}
+use Rattle.ason_base.specs.declared.tables.Out.{Out}
+use Rattle.lsp_laws.proofs.nodes.CallWays.{Answered, Bares, Becomes, Blocks, Carries, Contended, Decides, Early, Fails, GoesBack, GoesDown, Guards, Hit, IsAlone, IsReportable, Lacks, LacksLabel, Late, LosesBackup, MayGoBy, MayTurnBy, Misses, Pairs, Removed, Reported, Reports, Stays, Turns, Way, Whole, ByReport}
 
--- P holds of each call before the rule, and R of those that the rule puts in their places; G of those that go
-module _ (Rep : Lsp → Fibre → Type 0) (G : CallNo → Type 0) (P R : CallRec → Type 0)
-    (keeps : (c d : CallRec) → IsSameCall Rep c d → P c → R d) (p : LocalNode)
-    (s : NodeState)
-    (rise : CallsRise s.calls) (each : EachCall P s.calls) where
+-- P holds of each call before the rule, and R of those that the rule puts in their places; G of those that go. W: what
+-- came to the node. T: what is sent.
+module _ (G : CallNo → Type 0) (P R : CallRec → Type 0) (W : Way → Type 0) (T : List Out → Type 0) (p : LocalNode)
+    (s : NodeState) (keeps : (c d : CallRec) → Becomes p s W T c d → P c → R d) (rise : CallsRise s.calls)
+    (each : EachCall P s.calls) where
   abbrev pub Holds : Answer → Type 0
   Holds a = AreChanges G R a.calls
 
-  pub stays : (c d : CallRec) → d.egress ≡ c.egress → d.protected ≡ c.protected → d.backup ≡ c.backup →
-      d.work ≡ c.work → Moves Rep c d → P c → R d × Unit {0}
-  stays c d egress protected backup work moves here =
-      (keeps c d (revised-call Rep c d egress protected backup work moves) here, tt)
+  abbrev pub HoldsIf : Answer → Type 0
+  HoldsIf a = T a.sent → AreChanges G R a.calls
 
-  pub blocks : (c : CallRec) (cause : Cause) → is_unset cause ≡ false → is_asking c.state ≡ true → P c →
-      R (blocked c cause) × Unit {0}
-  blocks c cause known asking here = (
-    keeps c (blocked c cause) (record {
-      egress = refl;
-      protected = refl;
-      backup = refl;
-      work = inr (refl, asking);
-      moves = to-blocked Rep c cause known asking;
-    }) here,
-    tt,
-  )
+  -- the call that the rule puts
+  pub puts : (c d : CallRec) → Becomes p s W T c d → P c → R d × Unit {0}
+  puts c d way here = (keeps c d way here, tt)
 
   -- A backup is asked for
 
-  pub holds-admitted : (c : CallRec) (w : Leg) (out : LinkSpec) (route : List Step) → IsLone c → P c →
-      Holds (admitted_backup p s c w out route)
-  holds-admitted c w out route lone here =
-      if_cases Holds (nat_lt LAST_NUMBER s.lsp) _ _
-      (λ e. stays c (unbacked c Spent) refl refl refl refl (to-unbacked Rep c Spent refl lone) here)
-      (λ e. if_cases Holds (is_full s) _ _
-      (λ f. stays c (unbacked c Full) refl refl refl refl (to-unbacked Rep c Full refl lone) here)
-      (λ f. if_cases Holds (lacks_first_back p s (is_two_way w) (guarding p w) out) _ _
-      (λ h. stays c (unbacked c (Code label_code)) refl refl refl refl
-      (to-unbacked Rep c (Code label_code) refl lone) here)
-      (λ h. stays c (pairing c (beside_lsp w.lsp s.lsp)) refl refl refl refl
-      (to-pairing Rep c (beside_lsp w.lsp s.lsp) lone) here)))
+  holds-admitted : (c : CallRec) (w : Leg) (route : List Step) (out : LinkSpec) → IsAlone c → names w.lsp c ≡ true →
+      P c → backup_route p s c w ≡ Some route → first_link p route ≡ Some out →
+      HoldsIf (admitted_backup p s c w out (drop 1 route))
+  holds-admitted c w route out alone named here is first =
+      if_cases HoldsIf (nat_lt LAST_NUMBER s.lsp) _ _
+      (λ e sent. puts c (unbacked c Spent) (Lacks Spent alone refl) here)
+      (λ e. if_cases HoldsIf (is_full s) _ _ (λ f sent. puts c (unbacked c Full) (Lacks Full alone refl) here)
+      (λ f. if_cases HoldsIf (lacks_first_back p s (is_two_way w) (guarding p w) out) _ _
+      (λ h sent. puts c (unbacked c (Code label_code)) (LacksLabel alone) here)
+      (λ h sent. puts c (pairing c (beside_lsp w.lsp s.lsp)) (Pairs w route out alone named is first sent) here)))
 
-  pub holds-over : (c : CallRec) (w : Leg) (route : List Step) (o : Option LinkSpec) → IsLone c → P c →
-      Holds (over_backup p s c w route o)
-  holds-over c w route None lone here = stays c (unbacked c NoBackup) refl refl refl refl
-      (to-unbacked Rep c NoBackup refl lone) here
-  holds-over c w route (Some out) lone here = holds-admitted c w out (drop 1 route) lone here
+  holds-over : (c : CallRec) (w : Leg) (route : List Step) (o : Option LinkSpec) → IsAlone c → names w.lsp c ≡ true →
+      P c → backup_route p s c w ≡ Some route → first_link p route ≡ o → HoldsIf (over_backup p s c w route o)
+  holds-over c w route None alone named here is first =
+      λ sent. puts c (unbacked c NoBackup) (Lacks NoBackup alone refl) here
+  holds-over c w route (Some out) alone named here is first = holds-admitted c w route out alone named here is first
 
-  pub holds-pair_over : (c : CallRec) (w : Leg) (o : Option (List Step)) → IsLone c → P c →
-      Holds (pair_over p s c w o)
-  holds-pair_over c w None lone here = stays c (unbacked c NoBackup) refl refl refl refl
-      (to-unbacked Rep c NoBackup refl lone) here
-  holds-pair_over c w (Some route) lone here = holds-over c w route (first_link p route) lone here
+  holds-pair_over : (c : CallRec) (w : Leg) (o : Option (List Step)) → IsAlone c → names w.lsp c ≡ true → P c →
+      backup_route p s c w ≡ o → HoldsIf (pair_over p s c w o)
+  holds-pair_over c w None alone named here is =
+      λ sent. puts c (unbacked c NoBackup) (Lacks NoBackup alone refl) here
+  holds-pair_over c w (Some route) alone named here is = holds-over c w route (first_link p route) alone named here is refl
 
-  pub holds-pair : (c : CallRec) (w : Leg) → IsLone c → P c → Holds (pair p s c w)
-  holds-pair c w lone here =
-      if_cases Holds (is_some (unknown_link (known_rows p s) (route_from p w))) _ _
-      (λ e. stays c (unbacked c NoBackup) refl refl refl refl (to-unbacked Rep c NoBackup refl lone) here)
-      (λ e. holds-pair_over c w (backup_route p s c w) lone here)
+  -- beside the working LSP of a call that has none
+  pub holds-pair : (c : CallRec) (w : Leg) → IsAlone c → names w.lsp c ≡ true → P c → HoldsIf (pair p s c w)
+  holds-pair c w alone named here =
+      if_cases HoldsIf (is_some (unknown_link (known_rows p s) (route_from p w))) _ _
+      (λ e sent. puts c (unbacked c NoBackup) (Lacks NoBackup alone refl) here)
+      (λ e. holds-pair_over c w (backup_route p s c w) alone named here refl)
 
-  -- A call turns, or decides
+  -- A call turns, goes back, or decides
 
-  module _ (c : CallRec) (here : P c) where
-    pub holds-turn : (d : CallRec) (o : Option Leg) → MayLeave d → IsSameCall Rep c d → Holds (turn s.legs d o)
-    holds-turn d None may same = (keeps c d same here, tt)
-    holds-turn d (Some b) may same =
+  module _ (D : Type 0) (c d : CallRec) (here : P c) (on : (e : CallRec) → Late s W D d e → Becomes p s W T c e) where
+    late : (e : CallRec) → Late s W D d e → R e × Unit {0}
+    late e way = puts c e (on e way) here
+
+    -- where it may, over the backup's leg
+    pub holds-turn : (o : Option Leg) → MayTurnBy W D d → Holds (turn s.legs d o)
+    holds-turn None may = late d Stays
+    holds-turn (Some b) may =
         if_cases Holds (is_held b.phase) _ _
-        (λ e. if_cases Holds (is_contended s.legs b) _ _
-        (λ f. (
-          keeps c (stuck d (Code busy_code)) (still Rep c d (stuck d (Code busy_code)) same refl refl refl refl refl
-              (to-stuck Rep d (Code busy_code) refl may)) here,
-          tt,
-        ))
-        (λ f. (keeps c (turning d) (still Rep c d (turning d) same refl refl refl refl refl (to-turning Rep d may)) here, tt)))
-        (λ e. (keeps c d same here, tt))
+        (λ e. if_cases Holds (is_contended s.legs b) _ _ (λ f. late (stuck d (Code busy_code)) (Fails may b f))
+        (λ f. late (turning d) (Turns may)))
+        (λ e. late d Stays)
 
-    pub holds-go_back : (d : CallRec) (o : Option Leg) → MayLeave d → IsSameCall Rep c d → Holds (go_back d o)
-    holds-go_back d None may same = (keeps c d same here, tt)
-    holds-go_back d (Some b) may same =
-        if_cases Holds (is_in_use b.phase) _ _
-        (λ e. (keeps c (guarded d) (still Rep c d (guarded d) same refl refl refl refl refl (to-guarded Rep d may)) here, tt))
-        (λ e. (keeps c d same here, tt))
+    -- and back
+    pub holds-go_back : (o : Option Leg) → MayGoBy W D d → Holds (go_back d o)
+    holds-go_back None may = late d Stays
+    holds-go_back (Some b) may =
+        if_cases Holds (is_in_use b.phase) _ _ (λ e. late (guarded d) (GoesBack may)) (λ e. late d Stays)
 
-    pub holds-decided : (d : CallRec) (o : Option Leg) (state : CallState) (works backs : Bool) → d.state ≡ state →
-        has_any d.work_reports ≡ works → IsSameCall Rep c d → Holds (decided s.legs d o state works backs)
-    holds-decided d o Asking works backs is w same = (keeps c d same here, tt)
-    holds-decided d o Blocked works backs is w same = (keeps c d same here, tt)
-    holds-decided d o Bare works backs is w same = (keeps c d same here, tt)
-    holds-decided d o Pairing works backs is w same = (keeps c d same here, tt)
-    holds-decided d o Guarded true false is some same = holds-turn d o (hit-guarded d is some) same
-    holds-decided d o Guarded true true is some same = (
-      keeps c (stuck d BackDown) (still Rep c d (stuck d BackDown) same refl refl refl refl refl
-          (to-stuck Rep d BackDown refl (hit-guarded d is some))) here,
-      tt,
-    )
-    holds-decided d o Guarded false backs is w same = (keeps c d same here, tt)
-    holds-decided d o Turning works backs is w same = (keeps c d same here, tt)
-    holds-decided d o Turned true backs is w same = (keeps c d same here, tt)
-    holds-decided d o Turned false true is none same = holds-go_back d o (whole-turned d (λ e. (let never = sym is ∙ e in cc never)) none) same
-    holds-decided d o Turned false false is w same = (keeps c d same here, tt)
-    holds-decided d o Stuck true backs is w same = (keeps c d same here, tt)
-    holds-decided d o Stuck false backs is none same = (
-      keeps c (guarded d) (still Rep c d (guarded d) same refl refl refl refl refl
-          (to-guarded Rep d (by-test d is_stuck refl refl (subst (λ f. is_stuck f ≡ true) (sym is) refl)))) here,
-      tt,
-    )
+    holds-decided : D → (o : Option Leg) (state : CallState) (works backs : Bool) → d.state ≡ state →
+        has_any d.work_reports ≡ works → has_any d.back_reports ≡ backs → Holds (decided s.legs d o state works backs)
+    holds-decided by o Asking works backs is w b = late d Stays
+    holds-decided by o Blocked works backs is w b = late d Stays
+    holds-decided by o Bare works backs is w b = late d Stays
+    holds-decided by o Pairing works backs is w b = late d Stays
+    holds-decided by o Guarded true false is w b = holds-turn o (ByReport by is w)
+    holds-decided by o Guarded true true is w b = late (stuck d BackDown) (GoesDown by is w b)
+    holds-decided by o Guarded false backs is w b = late d Stays
+    holds-decided by o Turning works backs is w b = late d Stays
+    holds-decided by o Turned true backs is w b = late d Stays
+    holds-decided by o Turned false true is w b = holds-go_back o (Hit by is w b)
+    holds-decided by o Turned false false is w b = late d Stays
+    holds-decided by o Stuck true backs is w b = late d Stays
+    holds-decided by o Stuck false backs is w b = late (guarded d) (GoesBack (Whole by is w))
 
-    pub holds-decide : (d : CallRec) (o : Option Leg) → IsSameCall Rep c d → Holds (decide s.legs d o)
-    holds-decide d o same = holds-decided d o d.state (has_any d.work_reports) (has_any d.back_reports) refl refl same
+    -- by its reports
+    pub holds-decide : D → (o : Option Leg) → Holds (decide s.legs d o)
+    holds-decide by o = holds-decided by o d.state (has_any d.work_reports) (has_any d.back_reports) refl refl refl
 
   -- What a message makes of the call of an LSP
 
-  pub called : (l : Lsp) (c : CallRec) → call_with l s.calls ≡ Some c → P c
+  called : (l : Lsp) (c : CallRec) → call_with l s.calls ≡ Some c → P c
   called l c is = each c.call c (called-found l s.calls c rise is)
 
-  pub holds-call_answered : (g : Leg) (o : Option CallRec) → call_with g.lsp s.calls ≡ o → Holds (call_answered p s g o)
-  holds-call_answered g None is = tt
-  holds-call_answered g (Some c) is =
+  early : (c d : CallRec) → Early p s W c d → (e : CallRec) → Late s W (Unit {0}) d e → Becomes p s W T c e
+  early c d way e on = Decides d way on
+
+  -- a Resv
+  pub holds-call_answered : W Answered → (g : Leg) (o : Option CallRec) → call_with g.lsp s.calls ≡ o →
+      HoldsIf (call_answered p s g o)
+  holds-call_answered came g None is = λ sent. tt
+  holds-call_answered came g (Some c) is =
       let here = called g.lsp c is in
-      if_cases Holds (is_work g.role) _ _
-      (λ e. if_cases Holds (is_asking c.state) _ _
-      (λ a. if_cases Holds c.protected _ _ (λ e. holds-pair c g (asking-lone c.state a) here)
-      (λ e. stays c (bare c) refl refl refl refl (to-bare Rep c (asking-lone c.state a) e) here)) (λ e. tt))
-      (λ e. if_cases Holds (is_pairing c.state) _ _
-      (λ e. holds-decide c here (guarded c) (Some g)
-      (revised-call Rep c (guarded c) refl refl refl refl (to-guarded Rep c (by-test c is_pairing refl refl e)))) (λ e. tt))
+      if_cases HoldsIf (is_work g.role) _ _
+      (λ e. if_cases HoldsIf (is_asking c.state) _ _
+      (λ a. if_cases HoldsIf c.protected _ _ (λ e. holds-pair c g (inl a) (called-names g.lsp s.calls c is) here)
+      (λ e sent. puts c (bare c) (Bares a e came) here)) (λ e sent. tt))
+      (λ e. if_cases HoldsIf (is_pairing c.state) _ _
+      (λ e sent. holds-decide (Unit {0}) c (guarded c) here (early c (guarded c) (Guards e came)) tt (Some g)) (λ e sent. tt))
 
-  pub holds-call_turned : (l : Lsp) (b : Leg) (o : Option CallRec) → call_with l s.calls ≡ o → Holds (call_turned s b o)
-  holds-call_turned l b None is = tt
-  holds-call_turned l b (Some c) is =
+  -- the backup is activated
+  pub holds-call_turned : W Answered → (l : Lsp) (b : Leg) (o : Option CallRec) → call_with l s.calls ≡ o →
+      Holds (call_turned s b o)
+  holds-call_turned came l b None is = tt
+  holds-call_turned came l b (Some c) is =
       if_cases Holds (is_turning c.state) _ _
-      (λ e. holds-decide c (called l c is) (turned c) (Some b)
-      (revised-call Rep c (turned c) refl refl refl refl (to-turned Rep c (by-test c is_turning refl refl e)))) (λ e. tt)
+      (λ e. holds-decide (Unit {0}) c (turned c) (called l c is) (early c (turned c) (Carries e came)) tt (Some b)) (λ e. tt)
 
-  pub holds-call_contended : (l : Lsp) (b : Leg) (o : Option CallRec) → call_with l s.calls ≡ o →
+  -- its activation is refused
+  pub holds-call_contended : W Contended → (l : Lsp) (b : Leg) (o : Option CallRec) → call_with l s.calls ≡ o →
       Holds (call_contended s b o)
-  holds-call_contended l b None is = tt
-  holds-call_contended l b (Some c) is =
+  holds-call_contended came l b None is = tt
+  holds-call_contended came l b (Some c) is =
       if_cases Holds (is_turning c.state) _ _
-      (λ e. holds-decide c (called l c is) (stuck c (Code busy_code)) (Some b)
-      (revised-call Rep c (stuck c (Code busy_code)) refl refl refl refl (to-stuck Rep c (Code busy_code) refl
-      (by-test c is_turning refl refl e))))
+      (λ e. holds-decide (Unit {0}) c (stuck c (Code busy_code)) (called l c is)
+      (early c (stuck c (Code busy_code)) (Misses e came)) tt (Some b))
       (λ e. tt)
 
-  pub holds-call_refused : (code : ErrCode) (g : Leg) (o : Option CallRec) → call_with g.lsp s.calls ≡ o →
-      Holds (call_refused code g o)
-  holds-call_refused code g None is = tt
-  holds-call_refused code g (Some c) is =
+  -- the LSP is refused
+  pub holds-call_refused : (code : ErrCode) → W (Removed code) → (g : Leg) (o : Option CallRec) →
+      call_with g.lsp s.calls ≡ o → Holds (call_refused code g o)
+  holds-call_refused code came g None is = tt
+  holds-call_refused code came g (Some c) is =
       let here = called g.lsp c is in
       if_cases Holds (is_work g.role) _ _
-      (λ e. if_cases Holds (is_asking c.state) _ _ (λ a. blocks c (Code code) refl a here)
+      (λ e. if_cases Holds (is_asking c.state) _ _ (λ a. puts c (blocked c (Code code)) (Blocks code a came) here)
       (λ e. tt))
-      (λ e. if_cases Holds (is_pairing c.state) _ _ (λ a. stays c (unbacked c (Code code)) refl refl refl refl
-      (to-unbacked Rep c (Code code) refl (pairing-lone c.state a)) here)
-      (λ e. tt))
+      (λ e. if_cases Holds (is_pairing c.state) _ _
+      (λ a. puts c (unbacked c (Code code)) (LosesBackup code a came) here) (λ e. tt))
 
-  -- a report changes no more of a call than its reports
-  pub reported-same : (c : CallRec) (l : Lsp) (down : Bool) (f : Fibre) → names l c ≡ true → Rep l f →
-      IsSameCall Rep c (with_report c l down f)
-  reported-same c l down f named of =
-      if_cases (IsSameCall Rep c) (is_lsp c.work l) (with_work_reports c (fibres_after down f c.work_reports))
-      (with_back_reports c (fibres_after down f c.back_reports))
-      (λ e. revised-call Rep c (with_work_reports c (fibres_after down f c.work_reports)) refl refl refl refl (record {
-        number = refl;
-        stands = λ x. x;
-        back = λ x. (x, refl);
-        tidy = λ h. record {
-          cause = h.cause;
-          ticks = reported-ticks c.ticks (is_turned c.state) (has_any c.work_reports)
-              (has_any (fibres_after down f c.work_reports)) h.ticks;
-          paired = h.paired;
-        };
-        told = λ h. record { work = of-after Rep c.work l down f c.work_reports e of h.work; back = h.back };
-        turned = λ h. inl h;
-        guarded = λ h. inl h;
-      }))
-      (λ e. revised-call Rep c (with_back_reports c (fibres_after down f c.back_reports)) refl refl refl refl (record {
-        number = refl;
-        stands = λ x. x;
-        back = λ x. (x, refl);
-        tidy = λ h. record { cause = h.cause; ticks = h.ticks; paired = h.paired };
-        told = λ h. record {
-          work = h.work;
-          back = of-after Rep c.back l down f c.back_reports
-              (other_one (is_lsp c.work l) (is_lsp c.back l) e named) of h.back;
-        };
-        turned = λ h. inl h;
-        guarded = λ h. inl h;
-      }))
-
-  pub holds-call_reported : (l : Lsp) (down : Bool) (f : Fibre) (o : Option CallRec) → call_with l s.calls ≡ o →
-      Rep l f →
-      Holds (call_reported s l down f o)
-  holds-call_reported l down f None is of = tt
-  holds-call_reported l down f (Some c) is of =
-      holds-decide c (called l c is) (with_report c l down f) (leg_of c.back s.legs)
-      (reported-same c l down f (called-names l s.calls c is) of)
+  -- a fibre is reported
+  pub holds-call_reported : W Reported → (l : Lsp) (down : Bool) (f : Fibre) (o : Option CallRec) →
+      call_with l s.calls ≡ o → IsReportable p s l f → Holds (call_reported s l down f o)
+  holds-call_reported came l down f None is of = tt
+  holds-call_reported came l down f (Some c) is of =
+      holds-decide (Unit {0}) c (with_report c l down f) (called l c is)
+      (early c (with_report c l down f) (Reports l down f (called-names l s.calls c is) of came))
+      tt (leg_of c.back s.legs)

@@ -40,11 +40,12 @@ use Rattle.lsp_laws.proofs.nodes.Facts.{LegFacts}
 use Rattle.lsp_laws.proofs.nodes.NodeRuns.{facts-hold}
 use Rattle.lsp_laws.proofs.nodes.Searches.{every_search}
 use Rattle.lsp_laws.proofs.hops.Stepped.{starts_over}
-use Rattle.mesh_laws.specs.CauseLaw.{BackHasNoNumber, BackHasNoReturn, BackHasNoRoom, BackupCause, HasNoBackup, RiskIsUnknown}
+use Rattle.mesh_laws.specs.CauseLaw.{GoesOver, BackHasNoNumber, BackHasNoReturn, BackHasNoRoom, BackupCause, HasNoBackup, RiskIsUnknown}
 use Rattle.mesh_laws.proofs.causes.Refused.{primary-unknown}
-use Rattle.ason_base.specs.Walks.{IsBackup}
+use Rattle.ason_base.specs.Walks.{IsBackup, IsLeast}
+use Rattle.ason_base.specs.declared.network.TeRow.{TeRow}
 use Rattle.mesh_rules.proofs.Topologies.{topology_searchable}
-use Rattle.mesh_nodes.proofs.routes.Backups.{no_backup-none}
+use Rattle.mesh_nodes.proofs.routes.Backups.{least_backup-least, no_backup-none}
 use Rattle.mesh_nodes.specs.Routes.{AreSearchable}
 use Rattle.lsp_laws.proofs.hops.HopLaws.{carried}
 use Rattle.lsp_laws.proofs.hops.Paired.{whole-route}
@@ -76,9 +77,10 @@ no-given None (Some r) e = absurd (cc e)
 no-given (Some route) found e = absurd (cc e)
 
 some-given : (given : Option (List Step)) (found : Option Trip) (route : List Step) →
-    given_or_found given found ≡ Some route → (given ≡ Some route) ⊎ ((r : Trip) × (found ≡ Some r) × (r.steps ≡ route))
+    given_or_found given found ≡ Some route →
+    (given ≡ Some route) ⊎ ((r : Trip) × ((given ≡ None) × (found ≡ Some r) × (r.steps ≡ route)))
 some-given (Some given) found route e = inl e
-some-given None (Some r) route e = inr (r, refl, (cc e))
+some-given None (Some r) route e = inr (r, (refl, refl, (cc e)))
 some-given None None route e = absurd (cc e)
 
 some-there : {X : Type 0} (o : Option X) → is_some o ≡ true → (x : X) × (o ≡ Some x)
@@ -99,37 +101,42 @@ module _ (t : Network) (o : Lsp → Option (List Step)) (n : NodeId) (s : NodeSt
   bare-puts : (cause : Cause) → BackupCause t o s n c cause → Makes (call_put (unbacked c cause))
   bare-puts cause known = record { one = unbacked c cause; puts = refl; number = refl; holds = inr (refl, known) }
 
-  back-no-return : (route : List Step) (out : LinkSpec) → first_link (local_node t n) route ≡ Some out → (both : Bool) →
+  -- the route that the backup goes over
+  abbrev Over : List Step → Type 0
+  Over route =
+      GoesOver c.backup (IsBackup (known_rows (local_node t n) s) (route_from (local_node t n) w) n c.egress) route
+
+  back-no-return : (route : List Step) (out : LinkSpec) → Over route → first_link (local_node t n) route ≡ Some out → (both : Bool) →
       is_two_way w ≡ both → lacks_first_back (local_node t n) s both (guarding (local_node t n) w) out ≡ true →
       BackupCause t o s n c (Code label_code)
-  back-no-return route out first false is lacks = absurd (cc lacks)
-  back-no-return route out first true is lacks =
+  back-no-return route out way first false is lacks = absurd (cc lacks)
+  back-no-return route out way first true is lacks =
       let starts = starts_over spot route out first in
       let own : own_link (local_node t n) out.id ≡ Some out =
       subst (λ i. own_link (local_node t n) i ≡ Some out)
       (sym (found_id starts.hop.link (local_node t n).own out starts.over)) starts.over in
       let z = some-there w.back_in is in
-      BackHasNoReturn l may.own z.0 (route_from spot w) starts.hop out (reverse (fibre_out out n)) refl may.work may.here
+      BackHasNoReturn l may.own z.0 (route_from spot w) starts.hop starts.further out (reverse (fibre_out out n)) refl may.work may.here
       (may.same_back ∙ z.1)
-      may.sent (own-link-at t n starts.hop.link out starts.over)
+      may.sent (subst Over starts.is way) (own-link-at t n starts.hop.link out starts.over)
       (record { link = refl; forward = λ e. not-self (fibre_out out n).forward e })
       (all-kept_off spot s.legs role.Back (route_risks (known_rows spot s) (route_from spot w))
       (reverse (fibre_out out n)) out own lacks)
 
-  admitted-puts : (route : List Step) (out : LinkSpec) → first_link (local_node t n) route ≡ Some out →
+  admitted-puts : (route : List Step) (out : LinkSpec) → Over route → first_link (local_node t n) route ≡ Some out →
       Makes (admitted_backup (local_node t n) s c w out (drop 1 route))
-  admitted-puts route out first =
+  admitted-puts route out way first =
       if_cases Makes (nat_lt LAST_NUMBER s.lsp) _ _
       (λ e. bare-puts Spent (BackHasNoNumber refl (above s.lsp e)))
       (λ e. if_cases Makes (is_full s) _ _ (λ f. bare-puts Full (BackHasNoRoom refl (most _ f)))
       (λ f. if_cases Makes (lacks_first_back spot s (is_two_way w) (guarding spot w) out) _ _
-      (λ h. bare-puts (Code label_code) (back-no-return route out first (is_two_way w) refl h))
+      (λ h. bare-puts (Code label_code) (back-no-return route out way first (is_two_way w) refl h))
       (λ h. record { one = pairing c (beside_lsp w.lsp s.lsp); puts = refl; number = refl; holds = inl refl })))
 
-  over_backup-puts : (route : List Step) (out : Option LinkSpec) → first_link (local_node t n) route ≡ out →
+  over_backup-puts : (route : List Step) (out : Option LinkSpec) → Over route → first_link (local_node t n) route ≡ out →
       is_link_there out ≡ true → Makes (over_backup (local_node t n) s c w route out)
-  over_backup-puts route None first there = absurd (cc there)
-  over_backup-puts route (Some out) first there = admitted-puts route out first
+  over_backup-puts route None way first there = absurd (cc there)
+  over_backup-puts route (Some out) way first there = admitted-puts route out way first
 
   pair_over-puts : (route : Option (List Step)) → backup_route (local_node t n) s c w ≡ route →
       Makes (pair_over (local_node t n) s c w route)
@@ -139,10 +146,22 @@ module _ (t : Network) (o : Lsp → Option (List Step)) (n : NodeId) (s : NodeSt
       (subst (λ e. (route : List Step) (cost : ℕ) → ¬ IsBackup (known_rows spot s) (route_from spot w) n e route cost)
       may.ends ((no_backup-none (known_rows spot s) (route_from spot w) n w.egress may.searchable).0 none.1)))
   pair_over-puts (Some route) is =
-      over_backup-puts route (first_link spot route) refl (elim (some-given c.backup _ route is) [
-        | inl given ↦ may.given route given
-        | inr found ↦ subst (λ r. is_followable spot (Some r) ≡ true) found.2 (may.found found.0 found.1)
-      ])
+      let rows : List TeRow = known_rows spot s in
+      elim (some-given c.backup _ route is) [
+        | inl given ↦ over_backup-puts route (first_link spot route) (inl given) refl (may.given route given)
+        | inr found ↦ (let least : IsLeast (IsBackup rows (route_from spot w) n w.egress) found.0.steps found.0.cost =
+            (least_backup-least rows (route_from spot w) n w.egress found.0 may.searchable).0 found.1.1 in
+            over_backup-puts route (first_link spot route)
+            (inr (
+              found.1.0,
+              (
+                found.0.cost,
+                subst (λ r. IsLeast (IsBackup rows (route_from spot w) n c.egress) r found.0.cost) found.1.2
+                    (subst (λ e. IsLeast (IsBackup rows (route_from spot w) n e) found.0.steps found.0.cost) may.ends least),
+              ),
+            ))
+            refl (subst (λ r. is_followable spot (Some r) ≡ true) found.1.2 (may.found found.0 found.1.1)))
+      ]
 
   -- a pair puts a call that pairs, or a bare one with its cause
   pub pair-puts : Makes (pair (local_node t n) s c w)

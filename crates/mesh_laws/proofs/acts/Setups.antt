@@ -1,5 +1,5 @@
 -- A setup puts a call that asks for its working LSP, or a blocked one with its cause.
-use Rattle.std.proofs.Common.{◌≡◌, Bool, true, false, nat_lt, List, [], refl, sym, ap, ◌∙◌, subst, inl, inr}
+use Rattle.std.proofs.Common.{◌≡◌, Bool, true, false, nat_lt, List, [], refl, sym, subst, inl, inr}
 use Rattle.std.specs.Prelude.{◌⊎◌, ◌||◌, Option, Some, None, drop}
 use Rattle.ason_base.specs.Codes.{label_code}
 use Rattle.ason_base.specs.Network.{Network}
@@ -24,9 +24,10 @@ use Rattle.mesh_nodes.specs.Routes.{RowsFit}
 use Rattle.mesh_nodes.proofs.Cases.{if_cases}
 use Rattle.lsp_laws.proofs.hops.Plans.{found_id}
 use Rattle.mesh_laws.specs.ActsLaw.{IsSetUp}
-use Rattle.mesh_nodes.proofs.routes.Found.{no_trip-none}
+use Rattle.ason_base.specs.Walks.{IsWalk, NoLink, NoNode}
+use Rattle.mesh_nodes.proofs.routes.Found.{least_trip-least, no_trip-none}
 use Rattle.lsp_laws.proofs.hops.Stepped.{starts_over}
-use Rattle.mesh_laws.specs.CauseLaw.{HasNoNumber, HasNoReturn, HasNoRoom, HasNoRoute, SetupCause}
+use Rattle.mesh_laws.specs.CauseLaw.{GoesOver, HasNoNumber, HasNoReturn, HasNoRoom, HasNoRoute, SetupCause}
 use Rattle.mesh_laws.proofs.causes.KeptOff.{all-kept_off, not-self, own-link-at}
 use Rattle.mesh_laws.proofs.acts.Puts.{Puts}
 use Rattle.mesh_laws.proofs.acts.Tests.{above, most}
@@ -73,7 +74,11 @@ module _ (t : Network) (n : NodeId) (s : NodeState) (w : SetupRequest) where
     };
   }
 
-  no-return : (route : List Step) (out : LinkSpec) → (w.via ≡ Some route) ⊎ (w.via ≡ None) →
+  -- the route that the call goes over
+  abbrev Over : List Step → Type 0
+  Over route = GoesOver w.via (IsWalk (known_rows (local_node t n) s) NoLink NoNode n w.egress) route
+
+  no-return : (route : List Step) (out : LinkSpec) → Over route →
       first_link (local_node t n) route ≡ Some out → (both : Bool) → w.both ≡ both →
       lacks_first_back (local_node t n) s both (path.Work w.protected) out ≡ true → Caused (Code label_code)
   no-return route out way first false is lacks = absurd (cc lacks)
@@ -83,12 +88,12 @@ module _ (t : Network) (n : NodeId) (s : NodeState) (w : SetupRequest) where
       subst (λ i. own_link (local_node t n) i ≡ Some out)
       (sym (found_id starts.hop.link (local_node t n).own out starts.over)) starts.over in
       HasNoReturn starts.hop starts.further out (reverse (fibre_out out n)) refl is
-      (elim way [ inl via ↦ inl (via ∙ ap Some starts.is) | inr none ↦ inr none ])
+      (subst Over starts.is way)
       (own-link-at t n starts.hop.link out starts.over)
       (record { link = refl; forward = λ e. not-self (fibre_out out n).forward e })
       (all-kept_off place s.legs role.Work [] (reverse (fibre_out out n)) out own lacks)
 
-  over-puts : (route : List Step) → (w.via ≡ Some route) ⊎ (w.via ≡ None) → (o : Option LinkSpec) →
+  over-puts : (route : List Step) → Over route → (o : Option LinkSpec) →
       first_link (local_node t n) route ≡ o → is_link_there o ≡ true → Puts w.call SetUp (over_first place s w route o)
   over-puts route way None first there = absurd (cc there)
   over-puts route way (Some out) first there =
@@ -108,7 +113,8 @@ module _ (t : Network) (n : NodeId) (s : NodeState) (w : SetupRequest) where
   found-puts rows none None is follows =
       refused-puts NoRoute (HasNoRoute refl none ((no_trip-none (known_rows place s) n w.egress rows.searchable).0 is))
   found-puts rows none (Some r) is follows =
-      over-puts r.steps (inr none) (first_link place r.steps) refl (follows r refl)
+      over-puts r.steps
+      (inr (none, (r.cost, (least_trip-least (known_rows place s) n w.egress r rows.searchable).0 is))) (first_link place r.steps) refl (follows r refl)
 
   new-puts : RowsFit (local_node t n) s → (o : Option (List Step)) → w.via ≡ o →
       ((route : List Step) → o ≡ Some route → is_followable place (Some route) ≡ true) →

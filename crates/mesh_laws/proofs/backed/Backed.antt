@@ -1,6 +1,9 @@
 -- A backup goes over the route that its order gives, along a run.
-use Rattle.std.proofs.Common.{◌≡◌, ◌<◌, ℕ, Bool, true, false, cond, nat_eq, nat_lt, List, [], ◌∷◌, length, refl, sym, ap, ◌∙◌, subst, arith, inl, inr}
-use Rattle.std.specs.Prelude.{◌&&◌, Option, Some, None, drop}
+use Rattle.ason_base.specs.Codes.{label_code}
+use Rattle.ason_base.specs.declared.calls.Cause.TheVariants.{Code}
+use Rattle.mesh_rules.specs.Calls.{bare, blocked, unbacked}
+use Rattle.std.proofs.Common.{◌+◌, ◌≡◌, ◌<◌, ℕ, Bool, true, false, cond, nat_eq, List, [], ◌∷◌, refl, sym, ap, ◌∙◌, subst, arith, inl, inr}
+use Rattle.std.specs.Prelude.{Option, Some, None, drop}
 use Rattle.std.proofs.lemmas.List.Elements.{All-from_recursion}
 use Rattle.ason_base.specs.Network.{Network, find_link, other_end, row_of}
 use Rattle.ason_base.specs.Labels.{up_to}
@@ -28,20 +31,21 @@ use Rattle.mesh_rules.specs.FirstLegs.{first_link}
 use Rattle.mesh_rules.specs.KnownRows.{has_row, known_rows}
 use Rattle.mesh_rules.specs.Learnt.{on_link}
 use Rattle.mesh_rules.specs.LeastRoutes.{least_backup}
-use Rattle.mesh_rules.specs.LocalNodes.{LocalNode, local_node, own_link}
+use Rattle.mesh_rules.specs.LocalNodes.{LocalNode, local_node}
 use Rattle.mesh_rules.specs.Machine.{Mesh, commit, start, without_first, without_item}
 use Rattle.mesh_rules.specs.Orders.{on_item}
 use Rattle.mesh_rules.specs.Pairs.{backup_lsp, backup_route, begins_backup, beside_lsp, given_or_found, guarding, route_from}
 use Rattle.mesh_rules.specs.State.{NodeState}
 use Rattle.mesh_rules.specs.Waits.{on_tick}
 use Rattle.mesh_nodes.proofs.CallList.{all-calls_found}
-use Rattle.mesh_nodes.proofs.Cases.{both_left, if_cases}
+use Rattle.mesh_nodes.proofs.Cases.{if_cases}
 use Rattle.mesh_nodes.proofs.LegList.{same_lsp-refl}
 use Rattle.lsp_laws.specs.CallLaw.{FitsLegs}
 use Rattle.lsp_laws.proofs.hops.HopLaws.{step_facts}
 use Rattle.lsp_laws.proofs.hops.Planned.{EachFollows, Follows, Grow, Routes, or_assoc, or_none}
-use Rattle.lsp_laws.proofs.hops.Plans.{found_id, same, same_node}
+use Rattle.lsp_laws.proofs.hops.Plans.{same, same_node}
 use Rattle.lsp_laws.proofs.hops.Run.{Carried, step_carries, step_routes}
+use Rattle.lsp_laws.proofs.hops.GivenRoutes.{starts-with}
 use Rattle.lsp_laws.proofs.hops.HopLaws.{carried}
 use Rattle.lsp_laws.proofs.hops.Stepped.{grown, grown-grow}
 use Rattle.lsp_laws.proofs.nodes.CallChanges.{ArePut, EachCall, MayGo, each-after}
@@ -50,26 +54,10 @@ use Rattle.lsp_laws.proofs.nodes.Facts.{MeshFacts, NodeFacts}
 use Rattle.lsp_laws.proofs.nodes.NodeRuns.{facts-hold, facts-start, facts-step}
 use Rattle.lsp_laws.proofs.nodes.SetupsHold.{setup-holds}
 use Rattle.mesh_laws.specs.BackedLaw.{EveryBackupGoesAsGiven, GoesAsGiven}
-use Rattle.mesh_laws.proofs.backed.BackMoves.{IsSameCall}
-use Rattle.mesh_laws.proofs.backed.BacksHold.{alarm-holds, clear-holds, message-holds, protect-holds, release-holds, retry-holds, revert-holds, tick-holds}
-
--- the first step of the route is over this link of the node (as in lsp_laws, hops/GivenRoutes, where it is private)
-starts-with : (p : LocalNode) (route : List Step) (out : LinkSpec) → first_link p route ≡ Some out →
-    record { node = p.id; link = out.id } ∷ drop 1 route ≡ route
-starts-with p [] out first = absurd (cc first)
-starts-with p (hop ∷ further) out first =
-    go (nat_eq hop.node.0 p.id.0 && nat_lt (length further) 63) refl first
-  where
-    go : (b : Bool) → (nat_eq hop.node.0 p.id.0 && nat_lt (length further) 63) ≡ b →
-        cond b (own_link p hop.link) None ≡ Some out →
-        record { node = p.id; link = out.id } ∷ further ≡ hop ∷ further
-    go true e found =
-        let test : nat_eq hop.node.0 p.id.0 ≡ true = both_left _ (nat_lt (length further) 63) e in
-        let number : p.id.0 ≡ hop.node.0 = grind arith in
-        let node_is = same_node p.id hop.node number in
-        let link_is = found_id hop.link p.own out found in
-        λ i. record { node = node_is i; link = link_is i } ∷ further
-    go false e found = absurd (cc found)
+use Rattle.lsp_laws.proofs.nodes.CallWalk.{message-holds}
+use Rattle.lsp_laws.proofs.nodes.CallWays.{Bares, Becomes, Blocks, Counts, AtOnce, Decides, Lacks, LacksLabel, LosesBackup, Pairs, Way}
+use Rattle.lsp_laws.proofs.nodes.OrderWalk.{alarm-holds, clear-holds, protect-holds, release-holds, retry-holds, revert-holds, tick-holds}
+use Rattle.mesh_laws.proofs.backed.BackMoves.{KeepsBackup, early-keeps, late-keeps}
 
 own-path : (b : Lsp) (m e : NodeId) (k : LinkId) (route : List Step) (set : List ℕ) (up : Option ℕ) (r : PathRole) →
     first_route b (to_node m (Path b e k route set up r) ∷ []) ≡ Some (record { node = b.ingress; link = k } ∷ route)
@@ -118,8 +106,12 @@ module _ (t : Network) (s : Mesh) (n : NodeId) (o : Routes) (f : EachFollows t s
     abbrev Then : CallRec → Type 0
     Then d = GoesAsGiven (grown n o a) d
 
-    keeps : (c d : CallRec) → IsSameCall c d → Before c → GoesAsGiven (grown n o a) d
-    keeps c d is was l route back backup = elim is.back [
+    -- whatever came
+    abbrev Any : Way → Type 0
+    Any way = Unit {0}
+
+    kept : (c d : CallRec) → KeepsBackup c d → Before c → GoesAsGiven (grown n o a) d
+    kept c d is was l route back backup = elim is.back [
       | inl one ↦ grown-grow n o a l route (was.given l route (sym one ∙ back) (sym is.backup ∙ backup))
       | inr none ↦ absurd (cc (none, back))
     ]
@@ -157,6 +149,26 @@ module _ (t : Network) (s : Mesh) (n : NodeId) (o : Routes) (f : EachFollows t s
         (ap (λ z. or_route z (first_route b (cond (nat_eq n.0 b.ingress.0) a.sent []))) (unused b own refl) ∙ goes
         ∙ sym given)
 
+    keeps : (c d : CallRec) →
+        Becomes (local_node t n) (s.nodes n.0) (λ way. Unit {0}) (λ outs. a.sent ≡ outs) c d → Before c →
+        GoesAsGiven (grown n o a) d
+    keeps c e (Decides d early late) was =
+        kept c e (late-keeps p x Any (Unit {0}) c d e (early-keeps p x Any c d early) late) was
+    keeps c e (AtOnce late) was =
+        kept c e (late-keeps p x Any ⊥ c c e (record { backup = refl; back = inl refl }) late) was
+    keeps c d (Bares asking plain came) was = kept c (bare c) (record { backup = refl; back = inl refl }) was
+    keeps c d (Pairs w route out alone named over first sent) was =
+        paired c w route out was (was.here w.lsp named) over first sent
+    keeps c d (Lacks cause alone lack) was = kept c (unbacked c cause) (record { backup = refl; back = inr refl }) was
+    keeps c d (LacksLabel alone) was =
+        kept c (unbacked c (Code label_code)) (record { backup = refl; back = inr refl }) was
+    keeps c d (LosesBackup code pairing came) was =
+        kept c (unbacked c (Code code)) (record { backup = refl; back = inr refl }) was
+    keeps c d (Blocks code asking came) was =
+        kept c (blocked c (Code code)) (record { backup = refl; back = inl refl }) was
+    keeps c d (Counts waits less came) was =
+        kept c (record c { ticks = c.ticks + 1 }) (record { backup = refl; back = inl refl }) was
+
   item-puts : (i : DeskItem) → ArePut (GoesAsGiven (grown n o (on_item (local_node t n) (s.nodes n.0) i)))
       (on_item (local_node t n) (s.nodes n.0) i).calls
   item-puts (Order (Setup k from to protected both via backup)) =
@@ -166,30 +178,26 @@ module _ (t : Network) (s : Mesh) (n : NodeId) (o : Routes) (f : EachFollows t s
       (λ route out over first ordered has l r back given. absurd (cc back)) (find_call k x.calls)
   item-puts (Order (Release k from)) =
       let a = on_item p x (Order (Release k from)) in
-      release-holds MayGo Before (Then a) (keeps a) p x facts.calls_rise before (Sent a) (paired a)
-      (λ c l was. was.here l) from (find_call k x.calls) (λ c is. tt)
+      release-holds MayGo Before (Then a) (Any a) (Sent a) p x (keeps a) facts.calls_rise before from (find_call k x.calls) (λ c is. tt)
   item-puts (Order (Protect k from)) =
       let a = on_item p x (Order (Protect k from)) in
-      protect-holds MayGo Before (Then a) (keeps a) p x facts.calls_rise before (Sent a) (paired a)
-      (λ c l was. was.here l) k from (find_call k x.calls) refl refl
+      protect-holds MayGo Before (Then a) (Any a) (Sent a) p x (keeps a) facts.calls_rise before k from (find_call k x.calls) refl refl
   item-puts (Order (Retry k from)) =
       let a = on_item p x (Order (Retry k from)) in
-      retry-holds MayGo Before (Then a) (keeps a) p x facts.calls_rise before (Sent a) (paired a)
-      (λ c l was. was.here l) k from (find_call k x.calls) refl
+      retry-holds MayGo Before (Then a) (Any a) (Sent a) p x (keeps a) facts.calls_rise before k from
+      (find_call k x.calls) refl tt
   item-puts (Order (Revert k from)) =
       let a = on_item p x (Order (Revert k from)) in
-      revert-holds MayGo Before (Then a) (keeps a) p x facts.calls_rise before (Sent a) (paired a)
-      (λ c l was. was.here l) k from (find_call k x.calls) refl
+      revert-holds MayGo Before (Then a) (Any a) (Sent a) p x (keeps a) facts.calls_rise before k from
+      (find_call k x.calls) refl tt
   item-puts (Order (Fail g)) = tt
   item-puts (Order (Repair g)) = tt
   item-puts (Alarm g) =
       let a = on_item p x (Alarm g) in
-      alarm-holds MayGo Before (Then a) (keeps a) p x facts.calls_rise before (Sent a) (paired a)
-      (λ c l was. was.here l) g
+      alarm-holds MayGo Before (Then a) (Any a) (Sent a) p x (keeps a) facts.calls_rise before g
   item-puts (Clear g) =
       let a = on_item p x (Clear g) in
-      clear-holds MayGo Before (Then a) (keeps a) p x facts.calls_rise before (Sent a) (paired a)
-      (λ c l was. was.here l) g
+      clear-holds MayGo Before (Then a) (Any a) (Sent a) p x (keeps a) facts.calls_rise before g
 
   first_item-puts : (items : List DeskItem) →
       ArePut (GoesAsGiven (grown n o (on_first_item (local_node t n) (s.nodes n.0) items)))
@@ -203,15 +211,14 @@ module _ (t : Network) (s : Mesh) (n : NodeId) (o : Routes) (f : EachFollows t s
   first-puts u [] = tt
   first-puts u (m ∷ ms) =
       let a = on_first p x u (m ∷ ms) in
-      message-holds MayGo Before (Then a) (keeps a) p x facts.calls_rise before (Sent a) (paired a)
-      (λ c l was. was.here l) u m refl
+      message-holds MayGo Before (Then a) (Any a) (Sent a) p x (keeps a) facts.calls_rise before u m
+      (λ way is. tt) refl
 
   tick-puts : ArePut (GoesAsGiven (grown n o (on_tick (local_node t n) (s.nodes n.0))))
       (on_tick (local_node t n) (s.nodes n.0)).calls
   tick-puts =
       let a = on_tick p x in
-      tick-holds MayGo Before (Then a) (keeps a) p x facts.calls_rise before (Sent a) (paired a)
-      (λ c l was. was.here l)
+      tick-holds MayGo Before (Then a) (Any a) (Sent a) p x (keeps a) facts.calls_rise before tt
 
   link-puts : (o' : Routes) (l : Option LinkSpec) →
       ArePut (GoesAsGiven o') (on_link (local_node t n) (s.nodes n.0) l).calls

@@ -26,25 +26,33 @@ use Rattle.mesh_nodes.specs.Order.{CallsRise}
 use Rattle.mesh_nodes.proofs.CallList.{all-calls_found}
 use Rattle.mesh_nodes.proofs.Cases.{if_cases}
 use Rattle.lsp_laws.proofs.nodes.CallChanges.{ArePut, EachCall, MayGo, each-after}
-use Rattle.mesh_laws.proofs.moves.MovesHold.{alarm-holds, clear-holds, message-holds, protect-holds, release-holds, retry-holds, revert-holds, tick-holds}
+use Rattle.lsp_laws.proofs.nodes.CallWalk.{message-holds}
+use Rattle.lsp_laws.proofs.nodes.CallWays.{Becomes, Way}
+use Rattle.lsp_laws.proofs.nodes.OrderWalk.{alarm-holds, clear-holds, protect-holds, release-holds, retry-holds, revert-holds, tick-holds}
+use Rattle.mesh_laws.proofs.moves.Moved.{becomes-moved}
+use Rattle.mesh_laws.proofs.moves.Over.{AnySent}
 use Rattle.lsp_laws.proofs.nodes.SetupsHold.{setup-holds}
 use Rattle.lsp_laws.proofs.nodes.Facts.{MeshFacts}
 use Rattle.lsp_laws.proofs.nodes.NodeRuns.{facts-hold, facts-start, facts-step}
 use Rattle.mesh_laws.specs.WaitLaw.{EveryWaitIsBelow, IsBelow}
-use Rattle.mesh_laws.proofs.moves.Moving.{IsSameCall, none-below}
+use Rattle.mesh_laws.proofs.moves.Moving.{none-below}
 use Rattle.std.proofs.lemmas.List.Elements.{All-from_recursion}
 
 -- each call of a node has waited fewer ticks than this
 abbrev Below : ℕ → CallRec → Type 0
 Below wait c = IsBelow wait c.ticks
 
-keeps : (wait : ℕ) (c d : CallRec) → IsSameCall wait c d → Below wait c → Below wait d
-keeps wait c d same here = same.ticks here
-
 module _ (wait : ℕ) (p : LocalNode) (s : NodeState) (within : p.wait ≡ wait) (rise : CallsRise s.calls)
     (each : EachCall (Below wait) s.calls) where
   abbrev Puts : Answer → Type 0
   Puts a = ArePut (Below wait) a.calls
+
+  -- whatever came
+  abbrev Any : Way → Type 0
+  Any way = Unit {0}
+
+  keeps : (c d : CallRec) → Becomes p s (λ way. Unit {0}) AnySent c d → Below wait c → Below wait d
+  keeps c d way here = (becomes-moved wait p s Any AnySent within c d way).ticks here
 
   item-below : (i : DeskItem) → Puts (on_item p s i)
   item-below (Order (Setup j from to protected both via backup)) =
@@ -53,18 +61,18 @@ module _ (wait : ℕ) (p : LocalNode) (s : NodeState) (within : p.wait ≡ wait)
       (λ a. Below wait) (λ a cause known. none-below wait) (λ route out over first ordered has. none-below wait)
       (find_call j s.calls)
   item-below (Order (Release j from)) =
-      release-holds wait MayGo (Below wait) (Below wait) (keeps wait) p s within rise each from (find_call j s.calls)
+      release-holds MayGo (Below wait) (Below wait) Any AnySent p s keeps rise each from (find_call j s.calls)
       (λ c is. tt)
   item-below (Order (Protect j from)) =
-      protect-holds wait MayGo (Below wait) (Below wait) (keeps wait) p s within rise each j from (find_call j s.calls) refl
+      protect-holds MayGo (Below wait) (Below wait) Any AnySent p s keeps rise each j from (find_call j s.calls) refl tt
   item-below (Order (Retry j from)) =
-      retry-holds wait MayGo (Below wait) (Below wait) (keeps wait) p s within rise each j from (find_call j s.calls) refl
+      retry-holds MayGo (Below wait) (Below wait) Any AnySent p s keeps rise each j from (find_call j s.calls) refl tt
   item-below (Order (Revert j from)) =
-      revert-holds wait MayGo (Below wait) (Below wait) (keeps wait) p s within rise each j from (find_call j s.calls) refl
+      revert-holds MayGo (Below wait) (Below wait) Any AnySent p s keeps rise each j from (find_call j s.calls) refl tt
   item-below (Order (Fail g)) = tt
   item-below (Order (Repair g)) = tt
-  item-below (Alarm f) = alarm-holds wait MayGo (Below wait) (Below wait) (keeps wait) p s within rise each f
-  item-below (Clear f) = clear-holds wait MayGo (Below wait) (Below wait) (keeps wait) p s within rise each f
+  item-below (Alarm f) = alarm-holds MayGo (Below wait) (Below wait) Any AnySent p s keeps rise each f
+  item-below (Clear f) = clear-holds MayGo (Below wait) (Below wait) Any AnySent p s keeps rise each f
 
   first_item-below : (items : List DeskItem) → Puts (on_first_item p s items)
   first_item-below [] = tt
@@ -73,10 +81,10 @@ module _ (wait : ℕ) (p : LocalNode) (s : NodeState) (within : p.wait ≡ wait)
   first-below : (u : NodeId) (ms : List Msg) → Puts (on_first p s u ms)
   first-below u [] = tt
   first-below u (m ∷ ms) =
-      message-holds wait MayGo (Below wait) (Below wait) (keeps wait) p s within rise each u m
+      message-holds MayGo (Below wait) (Below wait) Any AnySent p s keeps rise each u m (λ way is. tt) tt
 
   tick-below : Puts (on_tick p s)
-  tick-below = tick-holds wait MayGo (Below wait) (Below wait) (keeps wait) p s within rise each
+  tick-below = tick-holds MayGo (Below wait) (Below wait) Any AnySent p s keeps rise each tt
 
   link-below : (o : Option LinkSpec) → Puts (on_link p s o)
   link-below None = tt

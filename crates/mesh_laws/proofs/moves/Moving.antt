@@ -7,12 +7,13 @@ use Rattle.ason_base.specs.declared.calls.Cause.{Cause}
 use Rattle.ason_base.specs.declared.calls.Cause.TheVariants.{BackDown, Unset}
 use Rattle.ason_base.specs.declared.ids.Lsp.{Lsp}
 use Rattle.ason_base.specs.declared.tables.CallRec.{CallRec}
-use Rattle.mesh_rules.specs.Calls.{bare, blocked, is_asking, is_bare, is_pairing, is_stuck, is_turned, is_turning, pairing, unbacked}
+use Rattle.mesh_rules.specs.Calls.{bare, blocked, is_asking, is_bare, is_pairing, is_turning, pairing, unbacked}
 use Rattle.mesh_laws.specs.MovesLaw.{IsDownTwice, may_move}
 use Rattle.mesh_laws.specs.WaitLaw.{IsBelow}
 
 -- The table
 
+-- the backup is down too
 abbrev pub is_down : Cause → Bool
 is_down BackDown = true
 is_down cause = false
@@ -20,6 +21,7 @@ is_down cause = false
 not-down : (cause : Cause) → is_down cause ≡ false → cause ≡ BackDown → ⊥
 not-down cause other is = let test = ap is_down is in cc (other, test)
 
+-- a call may stay in its state
 pub stays-in : (f : CallState) → may_move f f ≡ true
 stays-in Asking = refl
 stays-in Bare = refl
@@ -59,27 +61,31 @@ MayTurn a = (may_move a Turning ≡ true) × (may_move a Stuck ≡ true)
 abbrev pub MayDecide : CallState → CallState → Type 0
 MayDecide a Guarded = MayTurn a
 MayDecide a Turned = may_move a Guarded ≡ true
-MayDecide a Stuck = may_move a Guarded ≡ true
+MayDecide a Stuck = (may_move a Guarded ≡ true) × MayTurn a
 MayDecide a f = Unit {0}
 
+-- before anything came it may decide
 pub decides-in : (f : CallState) → MayDecide f f
 decides-in Guarded = (refl, refl)
 decides-in Turned = refl
-decides-in Stuck = refl
+decides-in Stuck = (refl, (refl, refl))
 decides-in Asking = tt
 decides-in Bare = tt
 decides-in Pairing = tt
 decides-in Turning = tt
 decides-in Blocked = tt
 
+-- a call that asks for its working LSP has no backup yet
 pub asking-lone : (f : CallState) → is_asking f ≡ true → (may_move f Bare ≡ true) × (may_move f Pairing ≡ true)
 asking-lone Asking e = (refl, refl)
 asking-lone _ e = absurd (cc e)
 
+-- nor has a bare one
 pub bare-lone : (f : CallState) → is_bare f ≡ true → (may_move f Bare ≡ true) × (may_move f Pairing ≡ true)
 bare-lone Bare e = (refl, refl)
 bare-lone _ e = absurd (cc e)
 
+-- and one whose backup is asked for may lose it
 pub pairing-lone : (f : CallState) → is_pairing f ≡ true → (may_move f Bare ≡ true) × (may_move f Pairing ≡ true)
 pairing-lone Pairing e = (refl, refl)
 pairing-lone _ e = absurd (cc e)
@@ -88,25 +94,20 @@ asking-blocks : (f : CallState) → is_asking f ≡ true → (may_move f Blocked
 asking-blocks Asking e = (refl, λ is. cc is)
 asking-blocks _ e = absurd (cc e)
 
+-- what may become of a call whose backup is asked for
 pub pairing-may : (f : CallState) → is_pairing f ≡ true → (may_move f Guarded ≡ true) × MayTurn f
 pairing-may Pairing e = (refl, (refl, refl))
 pairing-may _ e = absurd (cc e)
 
+-- and of one that turns
 pub turning-may : (f : CallState) → is_turning f ≡ true → (may_move f Turned ≡ true) × (may_move f Stuck ≡ true)
     × (may_move f Guarded ≡ true)
 turning-may Turning e = (refl, refl, refl)
 turning-may _ e = absurd (cc e)
 
-pub turned-may : (f : CallState) → is_turned f ≡ true → may_move f Guarded ≡ true
-turned-may Turned e = refl
-turned-may _ e = absurd (cc e)
-
-pub stuck-may : (f : CallState) → is_stuck f ≡ true → MayTurn f
-stuck-may Stuck e = (refl, refl)
-stuck-may _ e = absurd (cc e)
-
 -- Ticks
 
+-- no tick is fewer than the wait
 pub none-below : (wait : ℕ) → IsBelow wait 0
 none-below wait = record { none = λ e. refl; below = λ some. omega (arith, some) }
 
@@ -115,6 +116,7 @@ one-more wait ticks e =
     let less : ticks + 1 < wait = grind arith in
     record { none = λ none. absurd (omega (arith, less, none)); below = λ some. less }
 
+-- the count goes on or begins anew
 pub kept-below : (wait ticks : ℕ) (any : Bool) → IsBelow wait ticks → IsBelow wait (cond any 0 ticks)
 kept-below wait ticks true below = none-below wait
 kept-below wait ticks false below = below
@@ -122,6 +124,7 @@ kept-below wait ticks false below = below
 -- Calls
 
 module _ (wait : ℕ) where
+  -- d is the call c, moved
   pub record IsSameCall (c d : CallRec) : Type 0 where
     pub number : d.call ≡ c.call
     pub egress : d.egress ≡ c.egress
@@ -132,6 +135,7 @@ module _ (wait : ℕ) where
     pub ticks : IsBelow wait c.ticks → IsBelow wait d.ticks
     pub down : d.cause ≡ BackDown → (c.cause ≡ BackDown) ⊎ IsDownTwice d
 
+  -- it stays as it is
   pub moves-none : (c : CallRec) → IsSameCall c c
   moves-none c = record {
     number = refl;
@@ -159,9 +163,11 @@ module _ (wait : ℕ) where
     down = λ e. inr (down e);
   }
 
+  -- it has no backup
   pub to-bare : (c : CallRec) → IsLone c → IsSameCall c (bare c)
   to-bare c lone = becomes c c (moves-none c) Bare Unset lone.0 refl (λ e. absurd (cc e))
 
+  -- for a cause
   pub to-unbacked : (c : CallRec) (cause : Cause) → is_down cause ≡ false → IsLone c → IsSameCall c (unbacked c cause)
   to-unbacked c cause other lone = record {
     number = refl;
@@ -174,6 +180,7 @@ module _ (wait : ℕ) where
     down = λ e. absurd (not-down cause other e);
   }
 
+  -- a backup is asked for
   pub to-pairing : (c : CallRec) (l : Lsp) → IsLone c → IsSameCall c (pairing c l)
   to-pairing c l lone = record {
     number = refl;
@@ -186,6 +193,7 @@ module _ (wait : ℕ) where
     down = λ e. absurd (cc e);
   }
 
+  -- its working LSP is refused
   pub to-blocked : (c : CallRec) (cause : Cause) → is_down cause ≡ false → is_asking c.state ≡ true →
       IsSameCall c (blocked c cause)
   to-blocked c cause other asking = record {
@@ -199,6 +207,7 @@ module _ (wait : ℕ) where
     down = λ e. absurd (not-down cause other e);
   }
 
+  -- it waits a tick more
   pub waits-more : (c : CallRec) → nat_le wait (c.ticks + 1) ≡ false → IsSameCall c (record c { ticks = c.ticks + 1 })
   waits-more c less = record {
     number = refl;

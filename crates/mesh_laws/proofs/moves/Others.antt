@@ -1,5 +1,5 @@
 -- An order changes no call but its own.
-use Rattle.std.proofs.Common.{◌≡◌, ℕ, true, false, cond, nat_eq, List, [], ◌∷◌, ◌++◌, refl, sym, ap, ◌∙◌, subst}
+use Rattle.std.proofs.Common.{inr, ◌≡◌, true, false, cond, nat_eq, List, [], ◌∷◌, ◌++◌, refl, sym, ap, ◌∙◌, subst}
 use Rattle.std.specs.Prelude.{◌&&◌, Option, Some, None, not}
 use Rattle.ason_base.specs.Lsps.{has_fibre}
 use Rattle.ason_base.specs.declared.commands.Command.TheVariants.{Setup, Release, Protect, Retry, Revert, Fail, Repair}
@@ -26,13 +26,17 @@ use Rattle.mesh_rules.specs.Reverts.{revert_with}
 use Rattle.mesh_rules.specs.State.{NodeState}
 use Rattle.mesh_rules.specs.Turns.{has_any}
 use Rattle.mesh_nodes.proofs.CallList.{find-with_call, find-without_call, found-number}
-use Rattle.mesh_nodes.proofs.Cases.{both_left, both_right, if_cases}
+use Rattle.mesh_nodes.proofs.Cases.{both_left, both_right, if_cases, not-true}
 use Rattle.lsp_laws.proofs.nodes.CallChanges.{AreChanges}
 use Rattle.lsp_laws.proofs.nodes.SetupsHold.{setup-holds}
 use Rattle.mesh_laws.specs.OthersLaw.{EveryOrderIsOfOneCall, is_order_of}
 use Rattle.mesh_laws.proofs.acts.Puts.{handled}
-use Rattle.mesh_laws.proofs.moves.Moving.{IsSameCall, bare-lone, moves-none, stuck-may, turned-may}
-use Rattle.mesh_laws.proofs.moves.MoveSteps.{holds-go_back, holds-pair, holds-turn}
+use Rattle.lsp_laws.proofs.nodes.CallSteps.{holds-go_back, holds-pair, holds-turn}
+use Rattle.lsp_laws.proofs.nodes.CallWays.{Becomes, ByRetry, ByRevert, AtOnce, Way}
+use Rattle.lsp_laws.proofs.nodes.OrderWalk.{work-names}
+use Rattle.mesh_laws.proofs.acts.Tests.{stuck-is, turned-is}
+use Rattle.mesh_laws.proofs.moves.Moved.{becomes-moved}
+use Rattle.mesh_laws.proofs.moves.Over.{AnySent}
 
 -- k is the number of another call
 module _ (k : CallNo) where
@@ -41,9 +45,6 @@ module _ (k : CallNo) where
 
   abbrev Other : CallRec → Type 0
   Other d = nat_eq d.call.0 k.0 ≡ false
-
-  keeps : (wait : ℕ) (c d : CallRec) → IsSameCall wait c d → Other c → Other d
-  keeps wait c d same other = subst (λ (m : CallNo). nat_eq m.0 k.0 ≡ false) (sym same.number) other
 
   one-kept : (x : CallChange) (cs : List CallChange) (calls : List CallRec) → AreChanges IsOther Other (x ∷ cs) →
       find_call k (call_changed x calls) ≡ find_call k calls
@@ -67,6 +68,15 @@ module _ (k : CallNo) where
     abbrev alone : NodeState
     alone = record s { calls = [] }
 
+    -- whatever came
+    abbrev Any : Way → Type 0
+    Any way = Unit {0}
+
+    keeps : (c d : CallRec) → Becomes p (record s { calls = [] }) (λ way. Unit {0}) AnySent c d → Other c → Other d
+    keeps c d way other =
+        let same = becomes-moved p.wait p alone Any AnySent refl c d way in
+        subst (λ (m : CallNo). nat_eq m.0 k.0 ≡ false) (sym same.number) other
+
     found-other : (m : CallNo) (c : CallRec) → find_call m s.calls ≡ Some c → nat_eq m.0 k.0 ≡ false → Other c
     found-other m c found other =
         subst (λ (j : CallNo). nat_eq j.0 k.0 ≡ false) (sym (found-number m s.calls c found)) other
@@ -85,18 +95,19 @@ module _ (k : CallNo) where
         if_cases Others (nat_eq from.0 p.id.0) _ _
         (λ e. torn-others (leg_of c.work s.legs) (leg_of c.back s.legs) c (other c refl)) (λ e. tt)
 
-    protects-others : (c : CallRec) (o : Option Leg) → is_bare c.state ≡ true → Other c → Others (protects p s c o)
-    protects-others c None bare other = tt
-    protects-others c (Some w) bare other =
-        holds-pair p.wait IsOther Other Other (keeps p.wait) p alone tt (λ j d found. absurd (cc found)) c w
-        (bare-lone c.state bare) other
+    protects-others : (c : CallRec) (o : Option Leg) → leg_of c.work s.legs ≡ o → is_bare c.state ≡ true → Other c →
+        Others (protects p s c o)
+    protects-others c None is bare other = tt
+    protects-others c (Some w) is bare other =
+        holds-pair IsOther Other Other Any AnySent p alone keeps tt (λ j d found. absurd (cc found)) c w (inr bare)
+        (work-names c s.legs w is) other tt
 
     protect-others : (from : NodeId) (o : Option CallRec) → ((c : CallRec) → o ≡ Some c → Other c) →
         Others (protect_with p s from o)
     protect-others from None other = tt
     protect-others from (Some c) other =
         if_cases Others (nat_eq from.0 p.id.0 && is_bare c.state) _ _
-        (λ e. protects-others c (leg_of c.work s.legs) (both_right (nat_eq from.0 p.id.0) (is_bare c.state) e)
+        (λ e. protects-others c (leg_of c.work s.legs) refl (both_right (nat_eq from.0 p.id.0) (is_bare c.state) e)
         (other c refl)) (λ e. tt)
 
     retry-others : (from : NodeId) (o : Option CallRec) → ((c : CallRec) → o ≡ Some c → Other c) →
@@ -105,9 +116,9 @@ module _ (k : CallNo) where
     retry-others from (Some c) other =
         if_cases Others (nat_eq from.0 p.id.0) _ _
         (λ e. if_cases Others (is_stuck c.state && (has_any c.work_reports && not (has_any c.back_reports))) _ _
-        (λ f. holds-turn p.wait IsOther Other Other (keeps p.wait) p alone tt (λ j d found. absurd (cc found)) c
-        (other c refl) c (leg_of c.back s.legs) (moves-none p.wait c)
-        (stuck-may c.state (both_left (is_stuck c.state) _ f))) (λ f. tt))
+        (λ f. holds-turn IsOther Other Other Any AnySent p alone keeps tt (λ j d found. absurd (cc found)) ⊥ c c
+        (other c refl) (λ e late. AtOnce late) (leg_of c.back s.legs)
+        (ByRetry (stuck-is c.state (both_left (is_stuck c.state) _ f)) tt)) (λ f. tt))
         (λ e. tt)
 
     revert-others : (from : NodeId) (o : Option CallRec) → ((c : CallRec) → o ≡ Some c → Other c) →
@@ -116,9 +127,10 @@ module _ (k : CallNo) where
     revert-others from (Some c) other =
         if_cases Others (nat_eq from.0 p.id.0) _ _
         (λ e. if_cases Others (is_turned c.state && not (has_any c.work_reports)) _ _
-        (λ f. holds-go_back p.wait IsOther Other Other (keeps p.wait) p alone tt (λ j d found. absurd (cc found)) c
-        (other c refl) c (leg_of c.back s.legs) (moves-none p.wait c)
-        (turned-may c.state (both_left (is_turned c.state) _ f))) (λ f. tt))
+        (λ f. holds-go_back IsOther Other Other Any AnySent p alone keeps tt (λ j d found. absurd (cc found)) ⊥ c c
+        (other c refl) (λ e late. AtOnce late) (leg_of c.back s.legs)
+        (ByRevert (turned-is c.state (both_left (is_turned c.state) _ f))
+        (not-true (has_any c.work_reports) (both_right (is_turned c.state) _ f)) tt)) (λ f. tt))
         (λ e. tt)
 
     item-others : (i : DeskItem) → is_order_of k i ≡ false → Others (on_item p s i)

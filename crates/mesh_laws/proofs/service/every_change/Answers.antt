@@ -3,6 +3,7 @@ use Rattle.mesh_laws.proofs.moves.Blocked.{every_blocked_call}
 use Rattle.mesh_laws.proofs.moves.Knows.{every_learnt}
 use Rattle.mesh_laws.proofs.moves.MovesOn.{every_call_moves}
 use Rattle.mesh_laws.proofs.causes.ToldOf.{every_refusal_told}
+use Rattle.mesh_laws.proofs.moves.Sources.{every_code, every_turned_call}
 use Rattle.mesh_laws.proofs.moves.Waits.{every_tick}
 use Rattle.mesh_laws.proofs.service.every_change.Goals as goal
 
@@ -14,4 +15,6 @@ returns c = record {
   moves = every_call_moves;
   blocked = every_blocked_call;
   refused = every_refusal_told;
+  turned = every_turned_call;
+  coded = every_code;
 }
