@@ -17,7 +17,7 @@ use Rattle.mesh_rules.specs.Machine.{start}
 use Rattle.mesh_rules.specs.Rows.{all_call_rows, all_leg_rows}
 use Rattle.mesh_examples.proofs.Scene.{all_enabled, desk, fails_link, learns, link, lsp, over, ring, row, sets_up_both, takes, takes_each}
 
-abbrev network : Network
+abbrev pub network : Network
 network = ring 2
 
 -- its working LSP is connected, and then its backup is reserved
@@ -30,7 +30,7 @@ set_up =
     ∷ takes_each ((3, 1) ∷ (1, 3) ∷ (2, 1) ∷ (3, 2) ∷ (2, 3) ∷ (1, 2) ∷ [])
 
 -- the working LSP's link fails; the egress tells of its fibre, and the backup is activated
-abbrev turned : List MeshEvent
+abbrev pub turned : List MeshEvent
 turned =
     set_up ++ fails_link 3 ∷ desk 3 ∷ takes 1 3 ∷ takes 2 1 ∷ takes 3 2 ∷ takes 2 3 ∷ takes 1 2 ∷ []
 

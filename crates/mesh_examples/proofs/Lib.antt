@@ -24,6 +24,9 @@ mod RefusedShare
 mod Released
 mod Reserved
 mod Restored
+mod RestoredBothWays
+mod RestoredShared
+mod RestoredSrlg
 mod Retried
 pub mod Scene
 pub mod SharedLabel

@@ -1,0 +1,72 @@
+-- A run in which of two guarded calls whose backups share a label the one is hit: it is carried by its backup, and the
+-- other one stays as it is.
+use Rattle.std.proofs.Common.{◌≡◌, true, false, List, [], ◌∷◌, ◌++◌, length, map, refl}
+use Rattle.std.specs.Prelude.{Some, None}
+use Rattle.ason_base.specs.Labels as labels
+use Rattle.ason_base.specs.declared.calls.CallState.TheVariants.{Guarded, Turned}
+use Rattle.ason_base.specs.declared.calls.Cause.TheVariants.{Unset}
+use Rattle.ason_base.specs.declared.calls.Phase.TheVariants.{Held, Live}
+use Rattle.ason_base.specs.declared.commands.Group.TheVariants.{Link}
+use Rattle.mesh_rules.specs.declared.events.MeshEvent.{MeshEvent}
+use Rattle.mesh_rules.specs.Events.{after}
+use Rattle.mesh_rules.specs.Machine.{start}
+use Rattle.mesh_laws.specs.AloneLaw.{Alone}
+use Rattle.mesh_laws.specs.RestorationLaw.{is_guarded, is_hit}
+use Rattle.mesh_laws.proofs.alone.Law.{run_starts_calm}
+use Rattle.mesh_examples.proofs.Scene.{among, called, desk, down_at, fails_link, leg, link, lsp, Reaches, reported, Seen, takes_each, with_new}
+use Rattle.mesh_examples.proofs.SharedLabel.{network}
+use Rattle.mesh_examples.proofs.SharedLabel as shared
+
+abbrev events : List MeshEvent
+events =
+    shared.events
+    ++ fails_link 1
+    ∷ desk 1
+    ∷ desk 2
+    ∷ takes_each ((1, 2) ∷ (5, 1) ∷ (6, 5) ∷ (2, 6) ∷ (6, 2) ∷ (5, 6) ∷ (1, 5) ∷ [])
+
+abbrev as_reached : Seen
+as_reached = record shared.as_reached {
+  legs = with_new (
+      (1, leg 1 1 Live None (Some 1) 0 1 0 ∷ leg 1 2 Live None (Some 1) 0 2 2 ∷ [])
+      ∷ (2, leg 1 1 Live (Some 1) None 1 0 0 ∷ leg 1 2 Live (Some 1) None 1 0 0 ∷ [])
+      ∷ (5, leg 1 2 Live (Some 1) (Some 1) 2 1 1 ∷ leg 3 2 Held (Some 1) (Some 1) 2 1 1 ∷ [])
+      ∷ (6, leg 1 2 Live (Some 1) (Some 1) 1 1 0 ∷ leg 3 2 Held (Some 1) (Some 1) 1 1 0 ∷ [])
+      ∷ []) shared.as_reached.legs;
+  calls = among 6 (
+      (1, reported 1 Turned Unset 1 0 ∷ [])
+      ∷ (3, called 2 Guarded Unset ∷ [])
+      ∷ []);
+  down = down_at 6 ((1, 1) ∷ (2, 1) ∷ []);
+}
+
+reaches : Reaches network events as_reached
+unfolding labels.numbers_from
+reaches = record { enabled = refl; reached = refl }
+
+alone : Alone network events (Link (link 1))
+alone = record { before = []; since = events; parts = refl; calm = run_starts_calm; only = assumption (tt, refl) }
+
+-- each desk is empty
+rests : map (λ n. length ((after network start events).desks n.id.0)) network.nodes ≡ 0 ∷ 0 ∷ 0 ∷ 0 ∷ 0 ∷ 0 ∷ []
+unfolding labels.numbers_from
+rests = refl
+
+-- both calls are guarded, and the one is hit
+guarded : map (is_guarded ((after network start events).nodes 1)) ((after network start events).nodes 1).calls
+    ≡ true ∷ []
+unfolding labels.numbers_from
+guarded = refl
+
+other_guarded : map (is_guarded ((after network start events).nodes 3)) ((after network start events).nodes 3).calls
+    ≡ true ∷ []
+unfolding labels.numbers_from
+other_guarded = refl
+
+hit : is_hit network events (Some (lsp 1 1 1)) ≡ true
+unfolding labels.numbers_from
+hit = refl
+
+up : is_hit network events (Some (lsp 1 1 2)) ≡ false
+unfolding labels.numbers_from
+up = refl
