@@ -19,6 +19,7 @@ mod OneOfTwoRepaired
 mod Passed
 mod Protected
 mod Reactivating
+mod RefusedCause
 mod RefusedDown
 mod RefusedShare
 mod Released

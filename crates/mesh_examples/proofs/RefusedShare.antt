@@ -12,7 +12,7 @@ use Rattle.mesh_examples.proofs.TakenLabel.{network}
 use Rattle.mesh_examples.proofs.Scene.{all_enabled, desk, protects, seen, takes, takes_each}
 use Rattle.mesh_examples.proofs.SharedLabel as shared_label
 
-abbrev first_try : List MeshEvent
+abbrev pub first_try : List MeshEvent
 first_try =
     shared_label.both_learn
     ++ shared_label.first_call
