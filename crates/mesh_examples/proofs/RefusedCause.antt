@@ -25,7 +25,8 @@ use Rattle.mesh_examples.proofs.TakenLabel.{network}
 abbrev events : List MeshEvent
 events = first_try ++ protects 1 1 ∷ desk 1 ∷ takes 5 1 ∷ []
 
-runs : (t : Network) (s : Mesh) (es : List MeshEvent) → all_enabled t s es ≡ true → IsRun t s es
+-- a run, by the test of its events
+pub runs : (t : Network) (s : Mesh) (es : List MeshEvent) → all_enabled t s es ≡ true → IsRun t s es
 runs t s [] all = tt
 runs t s (e ∷ es) all =
     (both_left (is_enabled t s e) _ all, runs t (step t s e) es (both_right (is_enabled t s e) _ all))
