@@ -31,6 +31,7 @@ mod RestoredSrlg
 mod Retried
 pub mod Scene
 pub mod SharedLabel
+pub mod SixSweeps
 mod Standby
 mod StuckAtOnce
 mod StuckRepaired

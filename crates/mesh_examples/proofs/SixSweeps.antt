@@ -1,0 +1,77 @@
+-- A run that takes as many sweeps as a call may need at most: the call has turned after the sixth, and not after the fifth.
+use Rattle.std.proofs.Common.{◌≡◌, ℕ, true, false, List, [], ◌∷◌, ◌++◌, ◌+◌, length, map, refl}
+use Rattle.ason_base.specs.Labels as labels
+use Rattle.ason_base.specs.Network.{Network}
+use Rattle.ason_base.specs.declared.calls.CallState.{CallState}
+use Rattle.ason_base.specs.declared.calls.CallState.TheVariants.{Turned, Turning}
+use Rattle.ason_base.specs.declared.tables.CallRec.{CallRec}
+use Rattle.mesh_rules.specs.declared.events.MeshEvent.{MeshEvent}
+use Rattle.mesh_rules.specs.Events.{after}
+use Rattle.mesh_rules.specs.Machine.{Mesh, start}
+use Rattle.mesh_laws.specs.SoonLaw.{sweeps_for}
+use Rattle.mesh_examples.proofs.GuardedCall as guarded_call
+use Rattle.mesh_examples.proofs.Scene.{all_enabled, desk, fails_link, learns, takes_each, triangle}
+
+abbrev network : Network
+network = triangle true false 2
+
+abbrev before : List MeshEvent
+before = learns 1 (3 ∷ []) ++ learns 2 (2 ∷ []) ++ guarded_call.events
+
+-- the link of the working route fails
+abbrev struck : List MeshEvent
+struck = before ++ fails_link 1 ∷ []
+
+-- The alarms; the Notify goes up a hop; the Path goes down the two hops of the backup, and the Resv comes up.
+abbrev one : List MeshEvent
+one = struck ++ desk 1 ∷ desk 2 ∷ []
+
+abbrev two : List MeshEvent
+two = one ++ takes_each ((1, 2) ∷ [])
+
+abbrev three : List MeshEvent
+three = two ++ takes_each ((3, 1) ∷ [])
+
+abbrev four : List MeshEvent
+four = three ++ takes_each ((2, 3) ∷ [])
+
+abbrev five : List MeshEvent
+five = four ++ takes_each ((3, 2) ∷ [])
+
+abbrev six : List MeshEvent
+six = five ++ takes_each ((1, 3) ∷ [])
+
+enabled : all_enabled network start six ≡ true
+unfolding labels.numbers_from
+enabled = refl
+
+-- how much waits
+abbrev waiting : List MeshEvent → ℕ
+waiting events = in_all (after network start events)
+  where
+    in_all : Mesh → ℕ
+    in_all s =
+        length (s.desks 1) + length (s.desks 2) + length (s.desks 3) + length (s.mail 1 2) + length (s.mail 1 3)
+        + length (s.mail 2 1) + length (s.mail 2 3) + length (s.mail 3 1) + length (s.mail 3 2)
+
+-- as many as each of the six takes
+waits : waiting struck ∷ waiting one ∷ waiting two ∷ waiting three ∷ waiting four ∷ waiting five ∷ waiting six ∷ []
+    ≡ 2 ∷ 1 ∷ 1 ∷ 1 ∷ 1 ∷ 1 ∷ 0 ∷ []
+unfolding labels.numbers_from
+waits = refl
+
+-- one, a hop to the cut, and two hops there and back
+most : map (sweeps_for network struck) ((after network start before).nodes 1).calls ≡ 6 ∷ []
+unfolding labels.numbers_from
+most = refl
+
+abbrev states : List MeshEvent → List CallState
+states events = map (λ (c : CallRec). c.state) ((after network start events).nodes 1).calls
+
+not_yet : states five ≡ Turning ∷ []
+unfolding labels.numbers_from
+not_yet = refl
+
+then_turned : states six ≡ Turned ∷ []
+unfolding labels.numbers_from
+then_turned = refl
