@@ -16,6 +16,7 @@ use Rattle.mesh_laws.proofs.moves.Below.{every_wait}
 use Rattle.mesh_laws.proofs.moves.Blocked.{every_blocked_call}
 use Rattle.mesh_laws.proofs.moves.Knows.{every_learnt}
 use Rattle.mesh_laws.proofs.moves.MovesOn.{every_call_moves}
+use Rattle.mesh_laws.proofs.moves.OtherLegs.{every_order_leaves}
 use Rattle.mesh_laws.proofs.moves.Others.{every_order_of_one}
 use Rattle.mesh_laws.proofs.moves.Sources.{every_code, every_turned_call}
 use Rattle.mesh_laws.proofs.moves.Waits.{every_tick}
@@ -34,6 +35,7 @@ network_serves t events run = record {
   told = λ valid. every_report_true t events valid run;
   acts = λ valid. every_order_acts t events valid run;
   others = every_order_of_one t events run;
+  spared = every_order_leaves t events run;
   backed = every_backup_as_given t events run;
   torn = every_torn_leg t events run;
   caused = every_refusal_has_cause t events run;

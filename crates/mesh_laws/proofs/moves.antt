@@ -5,6 +5,7 @@ pub mod Knows
 pub mod Moved
 pub mod MovesOn
 pub mod Moving
+pub mod OtherLegs
 pub mod Others
 pub mod Over
 pub mod Sources

@@ -1,16 +1,20 @@
 -- An order changes no call but its own.
-use Rattle.std.specs.Prelude.{◌≡◌, ◌==◌, Bool, false, List, ◌∷◌}
+use Rattle.std.specs.Prelude.{◌≡◌, ◌==◌, ◌⊎◌, Bool, true, false, List, ◌∷◌, Some}
 use Rattle.ason_base.specs.declared.commands.Command.TheVariants.{Setup, Release, Protect, Retry, Revert}
 use Rattle.ason_base.specs.declared.commands.DeskItem.{DeskItem}
 use Rattle.ason_base.specs.declared.commands.DeskItem.TheVariants.{Order}
 use Rattle.ason_base.specs.declared.ids.CallNo.{CallNo}
+use Rattle.ason_base.specs.declared.ids.Lsp.{Lsp}
 use Rattle.ason_base.specs.declared.ids.NodeId.{NodeId}
+use Rattle.ason_base.specs.declared.tables.CallRec.{CallRec}
+use Rattle.ason_base.specs.declared.tables.Leg.{Leg}
 use Rattle.ason_base.specs.Network.{Network}
 use Rattle.mesh_rules.specs.declared.events.MeshEvent.{MeshEvent}
 use Rattle.mesh_rules.specs.declared.events.MeshEvent.TheVariants.{Desk}
 use Rattle.mesh_rules.specs.Calls.{find_call}
 use Rattle.mesh_rules.specs.Events.{IsRun, after, step}
 use Rattle.mesh_rules.specs.Machine.{start}
+use Rattle.lsp_laws.specs.HopLaw.{leg_at}
 
 -- the item is an order of this call
 abbrev pub is_order_of : CallNo → DeskItem → Bool
@@ -33,3 +37,16 @@ OrdersAreOfOneCall t events =
 abbrev pub EveryOrderIsOfOneCall : Type 0
 EveryOrderIsOfOneCall =
     (t : Network) (events : List MeshEvent) → IsRun t start events → OrdersAreOfOneCall t events
+
+-- and the leg of each LSP that is named by no call of which the item is an order stays as it is
+abbrev pub OrdersLeaveOtherLegs : Network → List MeshEvent → Type 0
+OrdersLeaveOtherLegs t events =
+    (n : NodeId) (i : DeskItem) (items : List DeskItem) → (after t start events).desks n.0 ≡ i ∷ items → (l : Lsp)
+    (g : Leg) → leg_at (after t start events) l n ≡ Some g → ((k : CallNo) (c : CallRec) → is_order_of k i ≡ true →
+    find_call k ((after t start events).nodes n.0).calls ≡ Some c → (c.work ≡ Some l) ⊎ (c.back ≡ Some l) → ⊥) →
+    leg_at (step t (after t start events) (Desk n)) l n ≡ Some g
+
+-- over every network and every run
+abbrev pub EveryOrderLeavesOtherLegs : Type 0
+EveryOrderLeavesOtherLegs =
+    (t : Network) (events : List MeshEvent) → IsRun t start events → OrdersLeaveOtherLegs t events

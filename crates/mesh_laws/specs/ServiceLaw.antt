@@ -11,7 +11,7 @@ use Rattle.mesh_laws.specs.CauseLaw.{BusyLegsAreBusy, LacksHaveCauses, LoneCalls
 use Rattle.mesh_laws.specs.KnowsLaw.{LearntIsKnown}
 use Rattle.mesh_laws.specs.LightLaw.{LabelsAreOfLinks, LightIsOfOneLsp}
 use Rattle.mesh_laws.specs.MovesLaw.{BlockedCallsStay, CallsMoveOn}
-use Rattle.mesh_laws.specs.OthersLaw.{OrdersAreOfOneCall}
+use Rattle.mesh_laws.specs.OthersLaw.{OrdersAreOfOneCall, OrdersLeaveOtherLegs}
 use Rattle.mesh_laws.specs.RestedLaw.{AllReportsAreTrue, NothingIsLeft, SentIsTaken}
 use Rattle.mesh_laws.specs.SourceLaw.{CodesHaveSources, TurnedCallsWait}
 use Rattle.mesh_laws.specs.WaitLaw.{TicksCount, WaitsAreBelow}
@@ -39,6 +39,8 @@ pub record Serves (t : Network) (events : List MeshEvent) : Type 0 where
   pub acts : IsTopology t → OrdersAct t events
   -- an order changes no call but its own
   pub others : OrdersAreOfOneCall t events
+  -- nor a leg of an LSP of another call
+  pub spared : OrdersLeaveOtherLegs t events
   -- a backup goes over the route that its order gives
   pub backed : BackupsGoAsGiven t events
   -- an LSP that is torn has given its labels up

@@ -6,7 +6,7 @@ ghost use Rattle.mesh_laws.specs.CauseLaw.{EveryBusyIsBusy, EveryLackHasCause, E
 ghost use Rattle.mesh_laws.specs.KnowsLaw.{EveryLearntIsKnown};
 ghost use Rattle.mesh_laws.specs.LightLaw.{EveryLabelIsOfItsLink, EveryLightIsOfOneLsp};
 ghost use Rattle.mesh_laws.specs.MovesLaw.{EveryBlockedCallStays, EveryCallMovesOn};
-ghost use Rattle.mesh_laws.specs.OthersLaw.{EveryOrderIsOfOneCall};
+ghost use Rattle.mesh_laws.specs.OthersLaw.{EveryOrderIsOfOneCall, EveryOrderLeavesOtherLegs};
 ghost use Rattle.mesh_laws.specs.RestedLaw.{EachSentIsTakenAtRest, EveryReportIsTrueAtRest, NothingIsLeftAtRest};
 ghost use Rattle.mesh_laws.specs.SourceLaw.{EveryCodeHasSource, EveryTurnedCallWaits};
 ghost use Rattle.mesh_laws.specs.WaitLaw.{EveryTickCounts, EveryWaitIsBelow};
@@ -39,7 +39,7 @@ pub fn every_rest()
 /// off (`lacks`). Over a topology each order that a node handles does what it says: a call that is
 /// blocked at once, or gets no backup, has a cause that stands at its ingress (`acts`); so has a
 /// protected call that gets none as its working LSP is connected (`lone`). An order changes no call
-/// but its own (`others`).
+/// but its own (`others`), and no leg of an LSP that no such call names (`spared`).
 pub fn every_order()
     ensures torn { EveryTornLegGivesUp }
     ensures backed { EveryBackupGoesAsGiven }
@@ -49,6 +49,7 @@ pub fn every_order()
     ensures lone { EveryLoneCallHasCause }
     ensures acts { EveryOrderActs }
     ensures others { EveryOrderIsOfOneCall }
+    ensures spared { EveryOrderLeavesOtherLegs }
 {}
 
 /// Of every run: what a node learns of a neighbour it knows, behind what it knew (`learnt`). A tick

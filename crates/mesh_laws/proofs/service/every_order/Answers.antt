@@ -4,6 +4,7 @@ use Rattle.mesh_laws.proofs.backed.Backed.{every_backup_as_given}
 use Rattle.mesh_laws.proofs.causes.Lone.{every_lone_call}
 use Rattle.mesh_laws.proofs.causes.Refused.{every_refusal_has_cause}
 use Rattle.mesh_laws.proofs.acts.Torn.{every_torn_leg}
+use Rattle.mesh_laws.proofs.moves.OtherLegs.{every_order_leaves}
 use Rattle.mesh_laws.proofs.moves.Others.{every_order_of_one}
 use Rattle.mesh_laws.proofs.service.every_order.Goals as goal
 
@@ -17,4 +18,5 @@ returns c = record {
   lone = every_lone_call;
   acts = every_order_acts;
   others = every_order_of_one;
+  spared = every_order_leaves;
 }
