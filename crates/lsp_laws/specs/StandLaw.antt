@@ -89,6 +89,18 @@ TurnedCallsStay t s e =
     find_call k ((step t s e).nodes n).calls ≡ Some d → c.state ≡ Turned → (d.state ≡ Turned → ⊥) →
     d.work_reports ≡ []
 
+-- And a guarded call leaves that state only where one is, or by its release.
+abbrev pub GuardedCallsStay : Network → Mesh → MeshEvent → Type 0
+GuardedCallsStay t s e =
+    (n : ℕ) (k : CallNo) (c d : CallRec) → find_call k (s.nodes n).calls ≡ Some c →
+    find_call k ((step t s e).nodes n).calls ≡ Some d → c.state ≡ Guarded → (d.state ≡ Guarded → ⊥) →
+    d.work_reports ≡ [] → ⊥
+
+abbrev pub EveryGuardedCallStays : Type 0
+EveryGuardedCallStays =
+    (t : Network) (events : List MeshEvent) → IsRun t start events → (e : MeshEvent) →
+    IsTrue (is_enabled t (after t start events) e) → GuardedCallsStay t (after t start events) e
+
 -- over every network, after every run, over each event that is enabled there
 abbrev pub EveryTurnedCallStays : Type 0
 EveryTurnedCallStays =

@@ -13,7 +13,7 @@ use Rattle.lsp_laws.proofs.hops.ReportedFibres.{every_report_of_route}
 use Rattle.lsp_laws.proofs.hops.Wavelengths.{every_call_keeps}
 use Rattle.lsp_laws.proofs.nodes.CallsStand.{every_call_stands, every_call_stands_until_released}
 use Rattle.lsp_laws.proofs.nodes.NodeLaws.{every_back, every_call, every_label, every_learnt_row, every_live}
-use Rattle.lsp_laws.proofs.nodes.TurnedCalls.{every_turned_call_stays}
+use Rattle.lsp_laws.proofs.nodes.TurnedCalls.{every_guarded_call_stays, every_turned_call_stays}
 use Rattle.mesh_laws.specs.StateLaws.{EveryRunKeepsTheLaws, LawsHold}
 use Rattle.mesh_laws.proofs.alone.Law.{every_activation_admitted}
 use Rattle.mesh_laws.proofs.alone.AloneRuns.{run-first}
@@ -50,6 +50,7 @@ laws_hold t events run =
       ordered = every_ordered t events run;
       stand = every_call_stands t events run;
       until = every_call_stands_until_released t events run;
+      guarded = every_guarded_call_stays t events run;
       turned = every_turned_call_stays t events run;
       reported = every_report_of_route t events run;
       known = every_known t events run;

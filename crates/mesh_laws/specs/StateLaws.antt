@@ -15,7 +15,7 @@ use Rattle.lsp_laws.specs.LabelLaw.{NoneCross, SentLabelsAreShared}
 use Rattle.lsp_laws.specs.LearntLaw.{LearntRowsAreTrue}
 use Rattle.lsp_laws.specs.ReportLaw.{DesksTell, ReportsAreOfRoutes, ReportsTell}
 use Rattle.lsp_laws.specs.RiskLaw.{BackupsRecordRisks}
-use Rattle.lsp_laws.specs.StandLaw.{CallsStand, CallsStandOver, TurnedCallsStay}
+use Rattle.lsp_laws.specs.StandLaw.{CallsStand, CallsStandOver, GuardedCallsStay, TurnedCallsStay}
 use Rattle.lsp_laws.specs.WavelengthLaw.{CallsKeepWavelengths}
 use Rattle.mesh_laws.specs.AloneLaw.{ActivationsAreAdmitted}
 use Rattle.mesh_laws.specs.ContendLaw.{UncontendedAreAdmitted}
@@ -56,7 +56,10 @@ pub record LawsHold (t : Network) (events : List MeshEvent) : Type 0 where
   -- and so it does over any events with which the run goes on
   pub until : (later : List MeshEvent) → IsRun t (after t start events) later →
       CallsStandOver t (after t start events) later
-  -- over each event that is enabled a turned call goes back only where no fibre of its working LSP is reported
+  -- over each event that is enabled a guarded call turns only where a fibre of its working LSP is reported
+  pub guarded : (e : MeshEvent) → IsTrue (is_enabled t (after t start events) e) →
+      GuardedCallsStay t (after t start events) e
+  -- and a turned call goes back only where none is
   pub turned : (e : MeshEvent) → IsTrue (is_enabled t (after t start events) e) →
       TurnedCallsStay t (after t start events) e
   -- each fibre that is reported of an LSP of a call is of the LSP's route

@@ -9,7 +9,7 @@ ghost use Rattle.lsp_laws.specs.LearntLaw.{EveryLearntRowIsTrue, EveryNodeCanSea
 ghost use Rattle.lsp_laws.specs.NodeLaw.{EveryNodeSharesLawfully};
 ghost use Rattle.lsp_laws.specs.ReportLaw.{EveryDeskTellsFailures, EveryReportIsOfItsRoute, EveryReportTellsFailures};
 ghost use Rattle.lsp_laws.specs.RiskLaw.{EveryBackupRecordsItsRisks};
-ghost use Rattle.lsp_laws.specs.StandLaw.{EveryCallStands, EveryCallStandsUntilReleased, EveryTurnedCallStays};
+ghost use Rattle.lsp_laws.specs.StandLaw.{EveryCallStands, EveryCallStandsUntilReleased, EveryGuardedCallStays, EveryTurnedCallStays};
 ghost use Rattle.lsp_laws.specs.WavelengthLaw.{EveryCallKeepsItsWavelengths};
 ghost use Rattle.mesh_laws.specs.AloneLaw.{EveryActivationIsAdmitted, EveryRunStartsCalm};
 ghost use Rattle.mesh_laws.specs.ContendLaw.{NoContend};
@@ -54,8 +54,9 @@ ghost use Rattle.mesh_laws.specs.SurveyLaw.{NoSurveyedContend};
 /// with its number, its egress and its working LSP, and with its backup where it is guarded,
 /// turning, turned or stuck, which it is then after the event too, unless the event carries out its
 /// release (`stand`); so it does over any events with which the run goes on, none of which carries
-/// out its release (`until`). A turned call goes back only where no fibre of its working LSP is
-/// reported down (`turned`). Each fibre that is reported of an LSP of a call is of the LSP's route
+/// out its release (`until`). A guarded call leaves that state only where a fibre of its working
+/// LSP is reported down, or by its release (`guarded`), and a turned call goes back only where none
+/// is (`turned`). Each fibre that is reported of an LSP of a call is of the LSP's route
 /// (`reported`), and each fibre that a node knows to be down comes in there (`known`).
 ///
 /// LSPs. Each hop of each LSP, its legs at both ends with the messages between them, has a shape of
@@ -127,6 +128,7 @@ pub fn every_run()
     ensures ordered { EveryCallIsOrdered }
     ensures stand { EveryCallStands }
     ensures until { EveryCallStandsUntilReleased }
+    ensures guarded { EveryGuardedCallStays }
     ensures turned { EveryTurnedCallStays }
     ensures reported { EveryReportIsOfItsRoute }
     ensures known { EveryKnownFibreComesIn }

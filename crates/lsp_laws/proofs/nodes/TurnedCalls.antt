@@ -33,7 +33,7 @@ use Rattle.lsp_laws.proofs.nodes.CallsHold.{alarm-holds, clear-holds, message-ho
 use Rattle.lsp_laws.proofs.nodes.SetupsHold.{setup-holds}
 use Rattle.lsp_laws.proofs.nodes.Facts.{MeshFacts}
 use Rattle.lsp_laws.proofs.nodes.NodeRuns.{facts-hold}
-use Rattle.lsp_laws.specs.StandLaw.{EveryTurnedCallStays}
+use Rattle.lsp_laws.specs.StandLaw.{EveryGuardedCallStays, EveryTurnedCallStays}
 use Rattle.ason_base.specs.declared.calls.CallState.TheVariants.{Guarded, Turned}
 use Rattle.ason_base.specs.declared.ids.Fibre.{Fibre}
 use Rattle.mesh_rules.specs.Turns.{has_any}
@@ -187,4 +187,12 @@ every_turned_call_stays t events run e enabled n k c d found later turned left =
     elim ((every_call_leaves t events run e n k c d found later).turned turned) [
       | inl stays ↦ absurd (left stays)
       | inr none ↦ none-reported d.work_reports none
+    ]
+
+-- And a guarded call stays so while none is.
+pub every_guarded_call_stays : EveryGuardedCallStays
+every_guarded_call_stays t events run e enabled n k c d found later guarded left none =
+    elim ((every_call_leaves t events run e n k c d found later).guarded guarded) [
+      | inl stays ↦ left stays
+      | inr some ↦ (let never : has_any [] ≡ true = subst (λ fibres. has_any fibres ≡ true) none some in cc never)
     ]

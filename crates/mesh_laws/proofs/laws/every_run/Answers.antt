@@ -8,7 +8,7 @@ use Rattle.lsp_laws.proofs.hops.Wavelengths.{every_call_keeps}
 use Rattle.lsp_laws.proofs.nodes.CallsStand.{every_call_stands, every_call_stands_until_released}
 use Rattle.lsp_laws.proofs.nodes.NodeLaws.{every_back, every_call, every_label, every_learnt_row, every_live}
 use Rattle.lsp_laws.proofs.nodes.Searches.{every_search}
-use Rattle.lsp_laws.proofs.nodes.TurnedCalls.{every_turned_call_stays}
+use Rattle.lsp_laws.proofs.nodes.TurnedCalls.{every_guarded_call_stays, every_turned_call_stays}
 use Rattle.mesh_laws.proofs.EveryRun.{laws_hold}
 use Rattle.mesh_laws.proofs.alone.Law.{every_activation_admitted, run_starts_calm}
 use Rattle.mesh_laws.proofs.crossing.Law.{no_backups_cross}
@@ -60,6 +60,9 @@ returns-clause-stand c = every_call_stands
 
 pub returns-clause-until : goal.returns-clause-until
 returns-clause-until c = every_call_stands_until_released
+
+pub returns-clause-guarded : goal.returns-clause-guarded
+returns-clause-guarded c = every_guarded_call_stays
 
 pub returns-clause-turned : goal.returns-clause-turned
 returns-clause-turned c = every_turned_call_stays
