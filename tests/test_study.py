@@ -1,5 +1,6 @@
 """`tools/study-load`: what is counted, and what can't be studied."""
 
+import json
 import unittest
 from xml.etree import ElementTree
 
@@ -60,6 +61,16 @@ class StudyTest(unittest.TestCase):
         self.assertEqual(len(root.findall("{*}circle")), 4)
         texts = [text.text for text in root.findall("{*}text")]
         self.assertIn("each backup its own", texts)
+
+    def test_csv_and_json_have_each_trial(self) -> None:
+        words = ("--labels", "1", "--most", "40", "--step", "20", "--trials", "2")
+        head, *rows = [line[0].split(",") for line in self.study(*words, "--csv")]
+        self.assertEqual(head, ["trial", "calls", "blocked", "bare", "working", "shared", "apart"])
+        # One call stands in each direction, without a backup, and holds a wavelength.
+        found = [["1", "20"], ["1", "40"], ["2", "20"], ["2", "40"]]
+        self.assertEqual(rows, [[trial, calls, str(int(calls) - 2), "2", "2", "0", "0"] for trial, calls in found])
+        told = json.loads(tool("study-load", "-", *words, "--json", given=PAIR).out)
+        self.assertEqual([list(map(str, row.values())) for row in told], rows)
 
     def test_what_can_not_be_studied(self) -> None:
         apart = PAIR[: PAIR.index("[[link]]")]

@@ -13,9 +13,10 @@ import unittest
 from pathlib import Path
 from xml.etree import ElementTree
 
-from ason_tools import cuts, plan
-from ason_tools.cuts import Outcome
+from ason_tools import cuts, plan, studies
+from ason_tools.cuts import Cuts, Outcome
 from ason_tools.groups import Group
+from ason_tools.studies import Way
 
 from .support import EXAMPLES, TOOLS, plan_text, tool
 
@@ -44,11 +45,15 @@ END
 """
 
 
+def cut(network: plan.Plan, with_pairs: bool = False) -> tuple[Cuts, list[Outcome]]:
+    """The cuts of each group, or of each two, and what became of them."""
+    asked = Cuts(cuts.standing(network), cuts.pair_cuts(network) if with_pairs else cuts.single_cuts(network))
+    return asked, asked.outcomes(studies.made(asked.study(), Way(2)).values)
+
+
 def studied(name: str, with_pairs: bool = False) -> dict[str, Outcome]:
     """The outcomes of the example's cuts, by name."""
-    network = plan.read((EXAMPLES / f"{name}.toml").read_text())
-    todo = cuts.pair_cuts(network) if with_pairs else cuts.single_cuts(network)
-    return {it.name: it for it in cuts.study(cuts.standing(network), todo, 2, lambda done, count: None)}
+    return {it.name: it for it in cut(plan.read((EXAMPLES / f"{name}.toml").read_text()), with_pairs)[1]}
 
 
 def all_of(terminal: int) -> bytes:
@@ -89,25 +94,26 @@ class OutcomeTest(unittest.TestCase):
         self.assertEqual((len(found.turned), len(found.stuck), found.cut_off), (1, 1, found.stuck))
 
     def test_a_call_without_a_backup_is_cut_off(self) -> None:
-        network = plan.read(plan_text(["setup c1 a c unprotected via 4"]))
-        found = cuts.study(cuts.standing(network), cuts.single_cuts(network), 1, lambda done, count: None)
+        _, found = cut(plan.read(plan_text(["setup c1 a c unprotected via 4"])))
         self.assertEqual([(it.hit, it.bare, it.cut_off) for it in found], [((), (), ())] * 3 + [(("c1",),) * 3])
 
     def test_a_turned_call_is_hit_on_its_backup(self) -> None:
-        network = plan.read((EXAMPLES / "turned.toml").read_text())
-        start = cuts.standing(network)
+        asked, found = cut(plan.read((EXAMPLES / "turned.toml").read_text()))
         # Link 3 has failed, and the backup goes over the links 1 and 2.
         over = {1, 2}
-        self.assertEqual(start.carried, {"c1": over})
-        found = cuts.study(start, cuts.single_cuts(network), 2, lambda done, count: None)
+        self.assertEqual(asked.start.carried, {"c1": over})
         self.assertEqual({it.links[0] for it in found if len(it.links) == 1 and "c1" in it.hit}, over)
 
     def test_a_cut_is_run_once_for_each_set_of_links(self) -> None:
-        network = plan.read((EXAMPLES / "restored.toml").read_text())
-        counts = []
-        cuts.study(cuts.standing(network), cuts.single_cuts(network), 1, lambda done, count: counts.append((done, count)))
+        asked, _ = cut(plan.read((EXAMPLES / "restored.toml").read_text()))
         # The SRLGs 7 and 8 are the links 1 and 2, and no other link carries a call.
-        self.assertEqual(counts, [(1, 2), (2, 2)])
+        self.assertEqual([order.cut for order in asked.study().orders], [(Group("srlg", 7),), (Group("srlg", 8),)])
+
+    def test_what_is_not_run_yet_is_not_told(self) -> None:
+        network = plan.read((EXAMPLES / "apart.toml").read_text())
+        asked = Cuts(cuts.standing(network), cuts.single_cuts(network))
+        # The runs are those of the duct and of its two links; the links 3 to 5 carry nothing, so they need none.
+        self.assertEqual([it.name for it in asked.outcomes({1: {"c1": ["turned", True]}})], ["link 1", "link 3", "link 4", "link 5"])
 
     def test_an_outcome_has_the_name_of_its_groups(self) -> None:
         self.assertEqual(Outcome((Group("srlg", 7), Group("link", 2)), (1, 2), (), (), (), (), ()).name, "srlg 7 + link 2")
@@ -122,8 +128,11 @@ class ToolTest(unittest.TestCase):
         lines = ended.out.splitlines()
         rows = [lines[0].split(), *(line.split() for line in lines[1:3])]
         self.assertEqual(rows, [HEAD, ["link", "1", *"10011"], ["link", "4", *"10011"]])
-        self.assertEqual(lines[3], "4 groups: 2 hit a call, 2 cut a call off")
-        self.assertEqual(lines[4:], ["link 1 cuts off 1 of 2 calls: c2", "link 4 cuts off 1 of 2 calls: c1"])
+        # A call without a backup counts as bare and as cut off, and the lines below the rows say that it can.
+        self.assertEqual([line.split(":")[0] for line in lines[3:6]], ["hit", "turned", "cut off"])
+        self.assertIn("one of the bare", lines[5])
+        self.assertEqual(lines[6], "4 groups: 2 hit a call, 2 cut a call off")
+        self.assertEqual(lines[7:], ["link 1 cuts off 1 of 2 calls: c2", "link 4 cuts off 1 of 2 calls: c1"])
 
     def test_csv_json_and_svg_say_the_same(self) -> None:
         rows = list(csv.DictReader(io.StringIO(tool("study-cuts", "examples/apart.toml", "--csv").out)))
@@ -160,7 +169,7 @@ class ToolTest(unittest.TestCase):
         seen = all_of(reader)
         os.close(reader)
         self.assertEqual(ended.returncode, 0)
-        self.assertIn(b"\rstudy-cuts: 1 of 3 runs\rstudy-cuts: 2 of 3 runs\r", seen)
+        self.assertRegex(seen, rb"\rstudy-cuts: 1 of 3 runs, \d+:\d\d to go\rstudy-cuts: 2 of 3 runs, \d+:\d\d to go\r")
 
     def test_what_can_not_be_studied(self) -> None:
         cases = [

@@ -1,16 +1,16 @@
 """What becomes of a plan's calls when risk groups fail: one by itself, or two at once."""
 
-import os
-from collections.abc import Callable, Iterable, Iterator
-from concurrent.futures import ThreadPoolExecutor, as_completed
 from dataclasses import dataclass, replace
+from functools import cached_property
 from itertools import combinations
+from typing import Any
 
 from . import program
 from .circuits import Circuit, usage
 from .errors import ToolError
 from .groups import Group, failed_links, groups_of
 from .plan import Plan
+from .studies import Study
 from .surveys import Contend, Survey
 
 Groups = tuple[Group, ...]
@@ -84,47 +84,59 @@ def pair_cuts(plan: Plan) -> list[Groups]:
     return [(a, b) for a, b in combinations(links, 2) if not (links[a] <= links[b] or links[b] <= links[a])]
 
 
-def study(start: Standing, cuts: list[Groups], jobs: int, tell: Callable[[int, int], None]) -> list[Outcome]:
-    """The outcome of each cut, by one run for each set of links. `tell` hears how many of how many runs are done."""
-    links = {cut: frozenset(link for group in cut for link in group.links(start.plan)) for cut in cuts}
-    todo = {links[cut]: cut for cut in reversed(cuts) if start.hit(links[cut])}
-    after: dict[frozenset[int], dict[str, Circuit]] = {}
-    for at, found in enumerate(_side_by_side(start.plan, todo, jobs), 1):
-        after.update([found])
-        tell(at, len(todo))
-    return [_outcome(start, cut, links[cut], after.get(links[cut], {})) for cut in cuts]
+@dataclass(frozen=True)
+class Cuts:
+    """The cuts of a study: one run for each set of links that hits a call."""
+
+    start: Standing
+    cuts: list[Groups]
+
+    def study(self) -> Study:
+        """The runs."""
+        orders = [Order(cut, self.start.hit(links)) for links, cut in self._runs.items()]
+        return Study("study-cuts", after, self.start.plan, orders)
+
+    def outcomes(self, values: dict[int, Any]) -> list[Outcome]:
+        """The outcome of each cut, as far as the values of the runs, by their places, are there."""
+        found = {links: values[place] for place, links in enumerate(self._runs) if place in values}
+        missing = self._runs.keys() - found.keys()
+        return [_outcome(self.start, cut, links, found.get(links, {})) for cut, links in self._links.items() if links not in missing]
+
+    @cached_property
+    def _links(self) -> dict[Groups, frozenset[int]]:
+        """The links of each cut."""
+        of = {group: group.links(self.start.plan) for group in groups_of(self.start.plan)}
+        return {cut: frozenset().union(*(of[group] for group in cut)) for cut in self.cuts}
+
+    @cached_property
+    def _runs(self) -> dict[frozenset[int], Groups]:
+        """The first cut of each set of links that hits a call."""
+        found: dict[frozenset[int], Groups] = {}
+        for cut, links in self._links.items():
+            if links not in found and self.start.hit(links):
+                found[links] = cut
+        return found
 
 
-def _side_by_side(
-    plan: Plan, todo: dict[frozenset[int], Groups], jobs: int
-) -> Iterator[tuple[frozenset[int], dict[str, Circuit]]]:
-    """The circuits after each cut, as the runs end."""
-    with ThreadPoolExecutor(jobs) as pool:
-        runs = {pool.submit(circuits, _cut(plan, cut)): links for links, cut in todo.items()}
-        try:
-            for run in as_completed(runs):
-                yield runs[run], run.result()
-        finally:
-            pool.shutdown(cancel_futures=True)
+@dataclass(frozen=True)
+class Order:
+    """What a run is to do: to cut these groups, and to look at these calls, which that hits."""
+
+    cut: Groups
+    hit: tuple[str, ...]
 
 
-def _cut(plan: Plan, cut: Groups) -> Plan:
-    return replace(plan, script=[*plan.script, *(f"fail {group.text()}" for group in cut), "settle 1000"])
+def after(plan: Plan, order: Order) -> dict[str, list[Any]]:
+    """Of each call that the cut hits its state when the network is quiet again, and whether something carries it."""
+    script = [*plan.script, *(f"fail {group.text()}" for group in order.cut), "settle 1000"]
+    found = circuits(replace(plan, script=script))
+    return {name: [found[name].call.state, found[name].carrier is not None] for name in order.hit}
 
 
-def _outcome(start: Standing, cut: Groups, links: frozenset[int], after: dict[str, Circuit]) -> Outcome:
+def _outcome(start: Standing, cut: Groups, links: frozenset[int], found: dict[str, list[Any]]) -> Outcome:
     hit = start.hit(links)
-    by_state = {state: _in_state(after, hit, state) for state in ("turned", "stuck", "bare")}
-    lost = tuple(name for name in hit if after[name].carrier is None)
+    lost = tuple(name for name in hit if not found[name][1])
+    by_state = {state: tuple(name for name in hit if found[name][0] == state) for state in ("turned", "stuck", "bare")}
     turned = tuple(name for name in by_state["turned"] if name not in lost)
     contends = start.survey.between(*cut)
     return Outcome(cut, tuple(sorted(links)), hit, turned, by_state["stuck"], by_state["bare"], lost, contends)
-
-
-def _in_state(after: dict[str, Circuit], names: Iterable[str], state: str) -> tuple[str, ...]:
-    return tuple(name for name in names if after[name].call.state == state)
-
-
-def cores() -> int:
-    """How many runs go side by side without a wish."""
-    return os.cpu_count() or 1
