@@ -95,6 +95,7 @@ class PartsTest(unittest.TestCase):
     STUDIES = {
         "study-cuts": ("examples/apart.toml", "--pairs"),
         "study-load": ("examples/nsfnet.toml", "--labels", "2", "--most", "20", "--step", "10", "--trials", "5"),
+        "study-erlang": ("examples/nsfnet.toml", "--arrivals", "40", "--least", "5", "--most", "20", "--step", "5", "--seeds", "3"),
     }
 
     def test_gathered_parts_give_what_one_run_gives(self) -> None:
@@ -138,8 +139,8 @@ class PartsTest(unittest.TestCase):
         for part in ("0/3", "4/3", "x", "1/", "-1/3"):
             ended = tool("study-cuts", "examples/apart.toml", f"--part={part}")
             self.assertEqual((ended.status, ended.err), (2, "study-cuts: --part is K/N, two whole numbers, with K from 1 to N\n"))
-        ended = tool("study-cuts", "examples/nsfnet.toml", "--jobs", "0")
-        self.assertEqual((ended.status, ended.err), (2, "study-cuts: --jobs is at least 1\n"))
+        ended = tool("study-erlang", "examples/nsfnet.toml", "--jobs", "0")
+        self.assertEqual((ended.status, ended.err), (2, "study-erlang: --jobs is at least 1\n"))
 
 
 class ClusterTest(unittest.TestCase):

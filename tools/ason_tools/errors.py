@@ -1,6 +1,7 @@
 """The error that a tool reports in one sentence, and how a sentence shows a text."""
 
 from collections.abc import Iterable
+from difflib import get_close_matches
 
 
 FAILED = 2
@@ -24,3 +25,10 @@ def quoted(text: object) -> str:
 def listed(names: Iterable[str]) -> str:
     """The first of the names in their order, as a sentence lists them."""
     return ", ".join(quoted(name) for name in sorted(names)[:12]) or "no attribute"
+
+
+def meant(name: str, names: Iterable[str]) -> str:
+    """The question behind a sentence on a name that isn't there: the name that is nearest to it, or nothing."""
+    by_small = {other.lower(): other for other in names}
+    near = get_close_matches(name.lower(), by_small, 1)
+    return f" (did you mean {quoted(by_small[near[0]])}?)" if near else ""

@@ -18,10 +18,10 @@ PAINTS = ("#1f77b4", "#e67700", "#2ca02c")
 class Row:
     """A load, and the mean, the least and the greatest count there."""
 
-    x: int
+    x: float
     mean: float
-    least: int
-    most: int
+    least: float
+    most: float
 
 
 @dataclass(frozen=True)
@@ -32,7 +32,7 @@ class Series:
     rows: list[Row]
 
 
-def draw(series: list[Series], title: str, x_name: str, y_name: str) -> str:
+def draw(series: list[Series], title: str, x_name: str, y_name: str, band: str = "least to greatest") -> str:
     """The means of each series as a line, in a band from the least to the greatest. Several have their names."""
     every = [row for it in series for row in it.rows]
     widest, highest = max(row.x for row in every), max(1, *(row.most for row in every))
@@ -54,7 +54,7 @@ def draw(series: list[Series], title: str, x_name: str, y_name: str) -> str:
         if len(series) > 1:
             drawing.text(LEFT + 16, TOP + 18 + 18 * place, it.name, 13, fill=PAINTS[place], font_weight="bold")
     drawing.text((LEFT + WIDTH - RIGHT) / 2, HEIGHT - 16, x_name, 13, fill=INK, text_anchor="middle")
-    drawing.text(LEFT, TOP - 8, f"{y_name}: mean, and least to greatest", 13, fill=INK)
+    drawing.text(LEFT, TOP - 8, f"{y_name}: mean, and {band}", 13, fill=INK)
     return drawing.document()
 
 
@@ -67,8 +67,8 @@ def _line(drawing: Drawing, rows: list[Row], at: Callable[[float, float], tuple[
         drawing.circle(*at(row.x, row.mean), 4, fill=paint)
 
 
-def _ticks(greatest: int) -> list[int]:
+def _ticks(greatest: float) -> list[int]:
     """Round numbers from 0 on, at most about six."""
     step = 10 ** math.floor(math.log10(greatest)) if greatest > 0 else 1
-    step = next(step * share // 10 for share in (1, 2, 5, 10, 20, 50, 100) if step * share >= 10 and 6 * step * share // 10 >= greatest)
-    return list(range(0, greatest + 1, step))
+    step = next(step * share // 10 for share in (1, 2, 5, 10, 20, 50, 100) if step * share >= 10 and 6 * step * share // 10 >= math.floor(greatest))
+    return list(range(0, math.floor(greatest) + 1, step))

@@ -89,12 +89,12 @@ def run(plan: str | bytes) -> Run:
 
 def route(plan: str | bytes, source: str, target: str) -> Routes:
     """Runs `ason route` on this plan, between the nodes of these names. A ToolError says that it tells no routes, and why."""
-    return routes_told.read(_start(("route", source, target), plan)[1])
+    return routes_told.read(printed(("route", source, target), plan)[1])
 
 
 def survey(plan: str | bytes) -> Survey:
     """Runs `ason survey` on this plan. A ToolError says that it tells no survey, and why."""
-    return surveys.read(_start(("survey",), plan)[1])
+    return surveys.read(printed(("survey",), plan)[1])
 
 
 def decode(lines: str | bytes) -> Run:
@@ -103,11 +103,11 @@ def decode(lines: str | bytes) -> Run:
 
 
 def _run(word: str, given: str | bytes) -> Run:
-    status, text = _start((word,), given)
+    status, text = printed((word,), given)
     return Run(status, text, tables.read(text))
 
 
-def _start(words: tuple[str, ...], given: str | bytes) -> tuple[int, str]:
+def printed(words: tuple[str, ...], given: str | bytes) -> tuple[int, str]:
     """The status and the output of the program with these words."""
     path = program_path()
     data = given.encode("utf-8", "surrogateescape") if isinstance(given, str) else given
