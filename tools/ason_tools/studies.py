@@ -1,7 +1,9 @@
 """The runs of a study: side by side on this machine or on a cluster, all at once or in parts, with a word on how far they are."""
 
 import argparse
+import csv
 import hashlib
+import io
 import json
 import os
 import re
@@ -74,6 +76,13 @@ class Found:
 
     values: dict[int, Any] = field(default_factory=dict)
     is_stopped: bool = False
+
+
+def csv_text(rows: Iterable[Iterable[object]]) -> str:
+    """The rows as CSV; the first has the names of the columns."""
+    text = io.StringIO()
+    csv.writer(text, lineterminator="\n").writerows(rows)
+    return text.getvalue()
 
 
 def cores() -> int:
@@ -224,11 +233,11 @@ class Progress:
         self._width = 0
         self._is_terminal = sys.stderr is not None and sys.stderr.isatty()
 
-    def tell(self, done: int) -> None:
-        """Says that so many runs are done."""
+    def tell(self, done: int, what: str = "runs") -> None:
+        """Says that so many are done."""
         now = time.monotonic()
         left = round((now - self._start) / done * (self._count - done))
-        text = f"{self._name}: {done} of {self._count} runs, {left // 60}:{left % 60:02} to go"
+        text = f"{self._name}: {done} of {self._count} {what}, {left // 60}:{left % 60:02} to go"
         if self._is_terminal:
             self._width = max(self._width, len(text))
             print(f"\r{text:{self._width}}", end="", file=sys.stderr, flush=True)
