@@ -7,7 +7,7 @@ from dataclasses import dataclass
 from itertools import pairwise
 
 from . import script_forms, toml_places
-from .errors import quoted
+from .errors import meant, quoted
 from .files import MARK, place_of
 from .plan import MOST_LABELS, MOST_LINES, MOST_LINKS, MOST_METRIC, MOST_NODES, MOST_SRLGS
 from .tables import Refused
@@ -171,14 +171,14 @@ def _ends(top: Placed, row: Placed, entry: str) -> str:
     ends = [end.value for end in row.value["ends"].items()]
     unknown = next((end for end in ends if end not in names), None)
     if unknown is not None:
-        return f"{entry} ends at {quoted(unknown)}, and no node of the plan has this name"
+        return f"{entry} ends at {quoted(unknown)}, and no node of the plan has this name{meant(unknown, names)}"
     return f"both ends of {entry} are {quoted(ends[0])}"
 
 
 def _unknown_key(table: Placed, keys: dict[str, type], entry: str) -> Finding:
     for key, value in table.value.items():
         if key not in keys:
-            return value.at, f"{entry} has the key {quoted(key)}, and the keys are {', '.join(keys)}"
+            return value.at, f"{entry} has the key {quoted(key)}, and the keys are {', '.join(keys)}{meant(key, keys)}"
     return None, f"{entry} has a key that isn't one of {', '.join(keys)}"
 
 
@@ -222,7 +222,7 @@ def _in_line(top: Placed, row: Placed, number: int, refused: Refused) -> str:
         "name": lambda: f"{quoted(words[1])} is no name: a letter and up to 15 more letters, digits, _ or -",
         "node": lambda: _unknown_node(top, words),
         "same": lambda: f"the call begins and ends at {quoted(words[2])}",
-        "call": lambda: _call_fault(words),
+        "call": lambda: _call_fault(top, words, number),
         "route": lambda: _route_fault(top, words),
         "backup": lambda: _backup_fault(top, words),
         "range": lambda: _RANGES[words[0]],
@@ -252,13 +252,15 @@ def _unknown_node(top: Placed, words: list[str]) -> str | None:
     names = _node_names(top)
     ends = words[2:4] if words[0] == "setup" else words[1:3]
     unknown = next((word for word in ends if word not in names), None)
-    return None if unknown is None else f"no node of the plan has the name {quoted(unknown)}"
+    return None if unknown is None else f"no node of the plan has the name {quoted(unknown)}{meant(unknown, names)}"
 
 
-def _call_fault(words: list[str]) -> str:
+def _call_fault(top: Placed, words: list[str], number: int) -> str:
     if words[0] == "setup":
         return f"a setup before has the name {quoted(words[1])}"
-    return f"no setup before has the name {quoted(words[1])}"
+    before = (str(row.value).split() for row in list(_rows(top, "script"))[: number - 1])
+    names = [line[1] for line in before if line[:1] == ["setup"] and len(line) > 1]
+    return f"no setup before has the name {quoted(words[1])}{meant(words[1], names)}"
 
 
 def _routes(words: list[str]) -> dict[str, list[int]]:

@@ -1,8 +1,8 @@
-"""Which fibres refused calls of a table: where each blocked call found no label on its way."""
+"""Which fibres refused calls of a table: where each blocked call found no label on its way; and how many calls have which cause."""
 
 from collections import Counter
 
-from .circuits import Fibre, usage
+from .circuits import Circuit, Fibre, usage
 from .disjoint import least
 from .plan import Plan
 from .room import Room
@@ -29,3 +29,28 @@ def _fibre(plan: Plan, room: Room, call: Call, setup: Setup | None, failed: froz
         node = links[number].other(node)
     narrow = room.narrow(call.source, route)
     return narrow.fibre if narrow else None
+
+
+def summary(plan: Plan, table: Table, failed: frozenset[int]) -> str:
+    """How many calls are blocked, stuck, without the backup that they asked for or cut off, by cause, and what each fibre refused."""
+    kinds = Counter(kind for it in usage(plan, table, failed).circuits for kind in _kinds(it))
+    lines = [f"{count} of {len(table.calls)} calls: {what}" for what, count in sorted(kinds.items(), key=_by_count)]
+    links = {link.id: link for link in plan.links}
+    for (number, sender), count in sorted(refusals(plan, table, failed).items(), key=_by_count):
+        calls = "call" if count == 1 else "calls"
+        lines.append(f"link {number} from {sender} to {links[number].other(sender)} refuses {count} blocked {calls}")
+    return "".join(line + "\n" for line in lines)
+
+
+def _kinds(circuit: Circuit) -> list[str]:
+    """What is amiss with the call; a call that is stuck or bare can be cut off too."""
+    call = circuit.call
+    cause = f", cause {call.cause}" if call.cause else ""
+    names = {"blocked": "blocked", "stuck": "stuck"} | ({"bare": "without the backup that was asked for"} if call.cause else {})
+    found = [f"{names[call.state]}{cause}"] if call.state in names else []
+    return found + (["cut off, whatever their state"] if circuit.is_cut_off else [])
+
+
+def _by_count(row: tuple[object, int]) -> tuple[int, str]:
+    """The most first."""
+    return -row[1], str(row[0])
