@@ -76,13 +76,18 @@ class Usage:
 
 def usage(plan: Plan, table: Table, failed: frozenset[int] = frozenset()) -> Usage:
     """What the table says, where these links are down. It must be one of this plan's network."""
+    circuits = circuits_of(plan, table, failed)
+    return Usage(circuits, _holders(circuits, {link.id: link for link in plan.links}, table))
+
+
+def circuits_of(plan: Plan, table: Table, failed: frozenset[int]) -> list[Circuit]:
+    """The circuits alone, without who holds which label."""
     _check(plan, table)
     legs: dict[Lsp, list[Leg]] = {}
     for leg in table.legs:
         legs.setdefault(leg.lsp, []).append(leg)
     links = {link.id: link for link in plan.links}
-    circuits = [_circuit(number, call, links, legs, failed) for number, call in enumerate(table.calls, 1)]
-    return Usage(circuits, _holders(circuits, links, table))
+    return [_circuit(number, call, links, legs, failed) for number, call in enumerate(table.calls, 1)]
 
 
 def _circuit(

@@ -6,7 +6,7 @@ from itertools import combinations
 from typing import Any
 
 from . import program
-from .circuits import Circuit, usage
+from .circuits import Circuit, circuits_of
 from .errors import ToolError
 from .groups import Group, failed_links, groups_of
 from .plan import Plan
@@ -70,7 +70,7 @@ def circuits(plan: Plan) -> dict[str, Circuit]:
         raise ToolError(f"ason says {run.refused.text().strip()!r} of the plan (tools/why shows where)")
     if run.status != program.DONE:
         raise ToolError(f"a run ended with status {run.status}: {run.text.strip()[-80:]}")
-    return {it.call.name: it for it in usage(plan, run.table, failed_links(plan)).circuits}
+    return {it.call.name: it for it in circuits_of(plan, run.table, failed_links(plan))}
 
 
 def single_cuts(plan: Plan) -> list[Groups]:
@@ -100,7 +100,16 @@ class Cuts:
         """The outcome of each cut, as far as the values of the runs, by their places, are there."""
         found = {links: values[place] for place, links in enumerate(self._runs) if place in values}
         missing = self._runs.keys() - found.keys()
-        return [_outcome(self.start, cut, links, found.get(links, {})) for cut, links in self._links.items() if links not in missing]
+        told = ((cut, links) for cut, links in self._links.items() if links not in missing)
+        return [_outcome(self.start.hit(links), cut, links, found.get(links, {}), self._contends) for cut, links in told]
+
+    @cached_property
+    def _contends(self) -> dict[frozenset[Group], list[Contend]]:
+        """For which labels calls would contend, by the groups that fail."""
+        found: dict[frozenset[Group], list[Contend]] = {}
+        for contend in self.start.survey.contends:
+            found.setdefault(contend.groups, []).append(contend)
+        return found
 
     @cached_property
     def _links(self) -> dict[Groups, frozenset[int]]:
@@ -133,10 +142,11 @@ def after(plan: Plan, order: Order) -> dict[str, list[Any]]:
     return {name: [found[name].call.state, found[name].carrier is not None] for name in order.hit}
 
 
-def _outcome(start: Standing, cut: Groups, links: frozenset[int], found: dict[str, list[Any]]) -> Outcome:
-    hit = start.hit(links)
+def _outcome(
+    hit: tuple[str, ...], cut: Groups, links: frozenset[int], found: dict[str, list[Any]], contends: dict[frozenset[Group], list[Contend]]
+) -> Outcome:
     lost = tuple(name for name in hit if not found[name][1])
     by_state = {state: tuple(name for name in hit if found[name][0] == state) for state in ("turned", "stuck", "bare")}
     turned = tuple(name for name in by_state["turned"] if name not in lost)
-    contends = start.survey.between(*cut)
-    return Outcome(cut, tuple(sorted(links)), hit, turned, by_state["stuck"], by_state["bare"], lost, contends)
+    wanted = tuple(contends.get(frozenset(cut), ()))
+    return Outcome(cut, tuple(sorted(links)), hit, turned, by_state["stuck"], by_state["bare"], lost, wanted)
