@@ -11,6 +11,8 @@ from pathlib import Path
 from .support import EXAMPLES, TOOLS, Ended, plan_text, tool
 
 READERS = ("study-cuts", "plan-from", "why", "draw", "table-json")
+PLANNERS = ("study-erlang", "plan-grow")
+OTHERS = (*PLANNERS, "study-load", "table-diff")
 BAD_FILES: dict[str, bytes] = {
     "no utf-8": b"\xff\xfe\xfd\xfc",
     "zeros": bytes(1000),
@@ -51,17 +53,17 @@ class FailureTest(unittest.TestCase):
                         self.is_one_sentence(ended, name)
 
     def test_files_that_are_none(self) -> None:
-        for name in READERS:
+        for name in (*READERS, *PLANNERS):
             for path in (str(self.room / "missing"), str(self.room), "/dev/zero", "a\nb"):
                 with self.subTest(name=name, path=path):
                     self.is_one_sentence(tool(name, path), name)
 
     def test_wrong_words(self) -> None:
-        for name in (*READERS, "study-load"):
+        for name in (*READERS, *OTHERS):
             self.is_one_sentence(tool(name, "--no-such-word"), name)
 
     def test_help_has_an_example(self) -> None:
-        for name in (*READERS, "study-load"):
+        for name in (*READERS, *OTHERS):
             ended = tool(name, "--help")
             self.assertEqual((ended.status, ended.err), (0, ""))
             self.assertIn("example:", ended.out)

@@ -100,12 +100,13 @@ class PartsTest(unittest.TestCase):
 
     def test_gathered_parts_give_what_one_run_gives(self) -> None:
         for name, words in self.STUDIES.items():
+            forms = ([], ["--csv"], ["--json"]) if name == "study-cuts" else (["--json"],)
             with tempfile.TemporaryDirectory() as room:
                 paths = [Path(room) / f"{number}.part" for number in (1, 2, 3)]
                 for number, path in enumerate(paths, 1):
                     path.write_text(tool(name, *words, "--part", f"{number}/3", "--jobs", "2").out)
                 files = [str(path) for path in reversed(paths)]
-                for form in ([], ["--csv"], ["--json"]):
+                for form in forms:
                     with self.subTest(name=name, form=form):
                         gathered = tool(name, *words, *form, "--gather", *files)
                         self.assertEqual((gathered.status, gathered.err), (0, ""))
@@ -169,33 +170,53 @@ class ClusterTest(unittest.TestCase):
 
 
 class StopTest(unittest.TestCase):
-    """Ctrl-C leaves what is done."""
+    """A study that is ended before it is done."""
 
-    def test_what_is_done_is_told(self) -> None:
-        numbers = range(1, 9)
-        calls = "".join(f"call c{it} a n{it} bare a.{it}.{it} - -\n" for it in numbers)
-        legs = "".join(f"leg a.{it}.{it} a work live - {it}/1\nleg a.{it}.{it} n{it} work live {it}/1 -\n" for it in numbers)
-        nodes = "".join(f'[[node]]\nname = "n{it}"\nid = {it}\n' for it in numbers) + '[[node]]\nname = "a"\nid = 99\n'
-        links = "".join(f'[[link]]\nid = {it}\nends = ["a", "n{it}"]\nlabels = 1\n' for it in numbers)
-        with tempfile.TemporaryDirectory() as room:
-            program, network = Path(room) / "program", Path(room) / "plan.toml"
-            program.write_text(SLOW.format(room=room, table=f"calls 8 legs 16\n{calls}{legs}"))
-            program.chmod(0o755)
-            network.write_text(nodes + links)
-            command = [sys.executable, str(TOOLS / "study-cuts"), str(network), "--jobs", "1"]
-            how = {"stdout": subprocess.PIPE, "stderr": subprocess.PIPE, "text": True, "start_new_session": True}
-            with subprocess.Popen(command, env=os.environ | {"ASON": str(program)}, **how) as process:
-                while not (Path(room) / "first").exists():
-                    time.sleep(0.02)
-                time.sleep(0.3)
-                os.killpg(process.pid, signal.SIGINT)
-                out, err = process.communicate(timeout=60)
-            late = len([path for path in os.listdir(room) if path.startswith("late")])
+    NUMBERS = range(1, 9)
+
+    def setUp(self) -> None:
+        room = tempfile.TemporaryDirectory()
+        self.addCleanup(room.cleanup)
+        self.room = Path(room.name)
+
+    def begun(self) -> subprocess.Popen[str]:
+        """A study of which a run is done, and another one under way."""
+        calls = "".join(f"call c{it} a n{it} bare a.{it}.{it} - -\n" for it in self.NUMBERS)
+        legs = "".join(f"leg a.{it}.{it} a work live - {it}/1\nleg a.{it}.{it} n{it} work live {it}/1 -\n" for it in self.NUMBERS)
+        nodes = "".join(f'[[node]]\nname = "n{it}"\nid = {it}\n' for it in self.NUMBERS) + '[[node]]\nname = "a"\nid = 99\n'
+        links = "".join(f'[[link]]\nid = {it}\nends = ["a", "n{it}"]\nlabels = 1\n' for it in self.NUMBERS)
+        program, network = self.room / "program", self.room / "plan.toml"
+        program.write_text(SLOW.format(room=self.room, table=f"calls 8 legs 16\n{calls}{legs}"))
+        program.chmod(0o755)
+        network.write_text(nodes + links)
+        command = [sys.executable, str(TOOLS / "study-cuts"), str(network), "--jobs", "1"]
+        how = {"stdout": subprocess.PIPE, "stderr": subprocess.PIPE, "text": True, "start_new_session": True}
+        process = subprocess.Popen(command, env=os.environ | {"ASON": str(program)}, **how)
+        while not (self.room / "first").exists():
+            time.sleep(0.02)
+        time.sleep(0.3)
+        return process
+
+    def late(self) -> int:
+        """How many runs behind the first have ended."""
+        return len([path for path in os.listdir(self.room) if path.startswith("late")])
+
+    def test_ctrl_c_leaves_what_is_done(self) -> None:
+        with self.begun() as process:
+            os.killpg(process.pid, signal.SIGINT)
+            out, err = process.communicate(timeout=60)
         # The run that was under way when the signal came has ended, and is told too; not all were begun.
         self.assertEqual(process.returncode, studies.STOPPED)
-        self.assertTrue(1 <= late < 7, late)
-        self.assertEqual(err, f"study-cuts: stopped: {late + 1} of 8 runs were done, and are told\n")
-        self.assertEqual(len(re.findall(r"^link \d +1 ", out, re.MULTILINE)), late + 1)
+        self.assertTrue(1 <= self.late() < 7, self.late())
+        self.assertEqual(err, f"study-cuts: stopped: {self.late() + 1} of 8 runs were done, and are told\n")
+        self.assertEqual(len(re.findall(r"^link \d +1 ", out, re.MULTILINE)), self.late() + 1)
+
+    def test_the_workers_of_a_killed_study_end(self) -> None:
+        with self.begun() as process:
+            process.kill()
+            # The worker has the other end of the output: it closes when that ends.
+            process.communicate(timeout=30)
+        self.assertLess(self.late(), 7)
 
 
 if __name__ == "__main__":

@@ -9,6 +9,7 @@ import os
 import re
 import signal
 import sys
+import threading
 import time
 from collections.abc import Callable, Iterable, Iterator
 from concurrent.futures import BrokenExecutor, Executor, Future, ProcessPoolExecutor, as_completed
@@ -204,7 +205,7 @@ def _value(run: Future[Any]) -> Any:
 def _pool(way: Way, runs: int) -> Iterator[Executor]:
     """What makes the runs; behind it none is under way."""
     if way.dask is None:
-        with ProcessPoolExecutor(min(way.jobs, runs), initializer=_leave_interrupts) as pool:
+        with ProcessPoolExecutor(min(way.jobs, runs), initializer=_begin_worker, initargs=(os.getpid(),)) as pool:
             yield pool
         return
     try:
@@ -219,9 +220,17 @@ def _pool(way: Way, runs: int) -> Iterator[Executor]:
         yield client.get_executor(retries=2)
 
 
-def _leave_interrupts() -> None:
-    """Has a worker, and the programs that it starts, go on at Ctrl-C: the study itself ends them in order."""
+def _begin_worker(parent: int) -> None:
+    """Has a worker, and the programs that it starts, go on at Ctrl-C: the study itself ends them in order, or ends with them."""
     signal.signal(signal.SIGINT, signal.SIG_IGN)
+    threading.Thread(target=_end_with, args=(parent,), daemon=True).start()
+
+
+def _end_with(parent: int) -> None:
+    """Ends this process once its parent is gone, which a worker that waits for its next run wouldn't see."""
+    while os.getppid() == parent:
+        time.sleep(0.5)
+    os._exit(1)
 
 
 class Progress:
