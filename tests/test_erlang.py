@@ -85,7 +85,8 @@ class TheoryTest(unittest.TestCase):
         for seed in (1, 2):
             order = Order(40.0, seed)
             calls = arrivals.arrivals(asked, order)
-            wanted = [call.name for call in calls if call.comes >= 2.0 and call.name in blocked_by_hand(nsfnet, calls)]
+            blocked = blocked_by_hand(nsfnet, calls)
+            wanted = [call.name for call in calls if call.comes >= 2.0 and call.name in blocked]
             self.assertGreater(len(wanted), 10)
             self.assertEqual(arrivals.counted(asked, order), {"calls": 300, "blocked": {"set": len(wanted)}, "bare": {}})
 

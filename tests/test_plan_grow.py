@@ -56,6 +56,16 @@ class StepsTest(unittest.TestCase):
         self.assertEqual(grown(given, "--ways", "1", "--budget", "1"), [[0, 0, 1, 2], [1, 1, 2, 1]])
         self.assertEqual(grown(given, "--budget", "1"), [[0, 0, 1, 2], [0, 0, 2, 1], [1, 1, 3, 0]])
 
+    def test_on_a_network_of_60_nodes_both_carry_more_than_each_alone(self) -> None:
+        words = ("--labels", "4", "--most", "130", "--step", "130", "--plan", "1")
+        given = plan.read(tool("study-load", "examples/sixty.toml", *words).out)
+        both = grown(given, "--budget", "16")
+        labels = grown(given, "--budget", "16", "--ways", "1")
+        ways = grown(given, "--budget", "0")
+        self.assertTrue(all(rows[-1][1] <= 16 for rows in (both, labels)))
+        self.assertEqual(both[:2], ways)
+        self.assertGreater(both[-1][2], max(labels[-1][2], ways[-1][2]))
+
     def test_a_label_carries_calls_of_both_directions(self) -> None:
         given = network(setups("ab", "ba", "ab", "ba"), [("ab", 1)], names="ab")
         self.assertEqual(grown(given), [[0, 0, 2, 2], [1, 1, 4, 0]])
@@ -122,7 +132,8 @@ class ToolTest(unittest.TestCase):
         self.assertEqual([row["links"] for row in found], [{}, {}, {"1": 1}, {"1": 1}])
         self.assertEqual(found[0]["refused"], [{"link": 1, "from": "a", "calls": 3}])
         root = ElementTree.fromstring(tool("plan-grow", "-", "--step", "1", "--svg", given=self.GIVEN.text()).out)
-        self.assertEqual(len(root.findall("{*}circle")), 4)
+        # A point of each step for the calls that are carried, and one for those that are asked for.
+        self.assertEqual(len(root.findall("{*}circle")), 8)
 
     def test_protected_calls_without_a_backup_are_told(self) -> None:
         given = network(setups("ab", "ab", kind=""), [("ab", 2)], names="ab")

@@ -208,13 +208,35 @@ def placed(room: Room, blocked: Iterable[Wanted], ways: Ways, budget: Budget) ->
     while left:
         most = budget.left if spent == 0 else min(budget.step, budget.left) - spent
         fits = [fit for call in left if (fit := _best(room, call, ways)) is not None and fit.cost <= most]
-        if not fits:
+        new = _free(room, fits, ways) if any(fit.cost == 0 for fit in fits) else _cheapest(room, fits)
+        if not new:
             break
-        fit = _first(fits)
+        spent += sum(fit.cost for fit in new)
+        found += new
+        names = {fit.call.name for fit in new}
+        left = [call for call in left if call.name not in names]
+    return found
+
+
+def _free(room: Room, fits: list[Fit], ways: Ways) -> list[Fit]:
+    """Takes the ways that need no more labels, the shortest first; one that others have taken by then gives way to another."""
+    found = []
+    for fit in sorted((fit for fit in fits if fit.cost == 0), key=lambda fit: len(fit.route)):
+        now = _best(room, fit.call, ways)
+        if now is not None and now.cost == 0:
+            room.take(now)
+            found.append(now)
+    return found
+
+
+def _cheapest(room: Room, fits: list[Fit]) -> list[Fit]:
+    """Takes the way that costs least; of such the one whose growth the most others want too, and then the shortest."""
+    least = min((fit.cost for fit in fits), default=0)
+    cheap = [fit for fit in fits if fit.cost == least]
+    wished = Counter(fit.grows for fit in cheap)
+    found = sorted(cheap, key=lambda fit: (-wished[fit.grows], len(fit.route)))[:1]
+    for fit in found:
         room.take(fit)
-        spent += fit.cost
-        found.append(fit)
-        left.remove(fit.call)
     return found
 
 
@@ -222,14 +244,6 @@ def _best(room: Room, call: Wanted, ways: Ways) -> Fit | None:
     """The way of the call for which the fewest labels are added, and the shortest of such."""
     fits = [fit for route in ways.between(call.source, call.target) if (fit := room.fit(call, route)) is not None]
     return min(fits, key=lambda fit: (fit.cost, len(fit.route)), default=None)
-
-
-def _first(fits: list[Fit]) -> Fit:
-    """The fit that costs least; of such the one whose growth the most others want too, and then the shortest."""
-    least = min(fit.cost for fit in fits)
-    cheap = [fit for fit in fits if fit.cost == least]
-    wished = Counter(fit.grows for fit in cheap)
-    return min(cheap, key=lambda fit: (-wished[fit.grows] if least else 0, len(fit.route)))
 
 
 def next_step(last: Step, ways: Ways, budget: Budget) -> Step | None:

@@ -1,10 +1,11 @@
 """The least ways between two nodes (Yen's algorithm)."""
 
 from dataclasses import dataclass, field
+from functools import cached_property
 
-from .disjoint import inner_nodes, least, without
-from .groups import Group
-from .plan import Plan
+from .disjoint import inner_nodes
+from .plan import Link, Plan
+from .routes import by_metric, least_over, links_around
 from .setups import Route
 
 
@@ -22,14 +23,22 @@ class Ways:
             self._known[source, target] = self._least(source, target)
         return self._known[source, target]
 
+    @cached_property
+    def _around(self) -> dict[str, list[Link]]:
+        return links_around(self.plan)
+
+    @cached_property
+    def _metrics(self) -> dict[int, int]:
+        return {link.id: link.metric for link in self.plan.links}
+
     def _least(self, source: str, target: str) -> list[Route]:
-        first = least(self.plan, source, target)
+        first = self._way(source, target, set(), set())
         found, others = [first] if first else [], set()
         while found and len(found) < self.count:
             others |= set(self._beside(source, target, found)) - set(found)
             if not others:
                 break
-            found.append(min(others, key=lambda route: (self._cost(route), route)))
+            found.append(min(others, key=lambda route: (sum(map(self._metrics.__getitem__, route)), route)))
             others.remove(found[-1])
         return found
 
@@ -40,11 +49,16 @@ class Ways:
         ways = []
         for place, node in enumerate(nodes):
             start = last[:place]
-            barred = [Group("link", route[place]) for route in found if route[:place] == start]
-            rest = least(without(self.plan, barred, nodes[:place]), node, target)
+            barred = {route[place] for route in found if route[:place] == start}
+            rest = self._way(node, target, barred, set(nodes[:place]))
             ways += [start + rest] if rest else []
         return ways
 
-    def _cost(self, route: Route) -> int:
-        metrics = {link.id: link.metric for link in self.plan.links}
-        return sum(metrics[link] for link in route)
+    def _way(self, source: str, target: str, barred: set[int], gone: set[str]) -> Route | None:
+        """The least way without these links and these nodes."""
+        around = {
+            node: [link for link in links if link.id not in barred and gone.isdisjoint(link.ends)]
+            for node, links in self._around.items()
+        }
+        route = least_over(around, source, target, by_metric)
+        return None if route is None else tuple(link.id for link in route)

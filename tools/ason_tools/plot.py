@@ -1,4 +1,4 @@
-"""A plot of counts against a load, as SVG."""
+"""A plot of counts or shares against a load, as SVG."""
 
 import math
 from collections.abc import Callable
@@ -32,8 +32,8 @@ class Series:
     rows: list[Row]
 
 
-def draw(series: list[Series], title: str, x_name: str, y_name: str, band: str = "least to greatest") -> str:
-    """The means of each series as a line, in a band from the least to the greatest. Several have their names."""
+def draw(series: list[Series], title: str, x_name: str, y_name: str, shown: str = "mean, and least to greatest") -> str:
+    """The means of each series as a line, in a band from the least to the greatest; `shown` says what these are. Several have their names."""
     every = [row for it in series for row in it.rows]
     widest, highest = max(row.x for row in every), max(1, *(row.most for row in every))
     drawing = Drawing(WIDTH, HEIGHT, title)
@@ -54,7 +54,7 @@ def draw(series: list[Series], title: str, x_name: str, y_name: str, band: str =
         if len(series) > 1:
             drawing.text(LEFT + 16, TOP + 18 + 18 * place, it.name, 13, fill=PAINTS[place], font_weight="bold")
     drawing.text((LEFT + WIDTH - RIGHT) / 2, HEIGHT - 16, x_name, 13, fill=INK, text_anchor="middle")
-    drawing.text(LEFT, TOP - 8, f"{y_name}: mean, and {band}", 13, fill=INK)
+    drawing.text(LEFT, TOP - 8, f"{y_name}: {shown}", 13, fill=INK)
     return drawing.document()
 
 

@@ -28,7 +28,11 @@ def links_around(plan: Plan) -> dict[str, list[Link]]:
 
 def least_route(plan: Plan, source: str, target: str, cost: Cost) -> list[Link] | None:
     """The links of the route of least cost, and among those of the least list of link ids. None where none leads there."""
-    around = links_around(plan)
+    return least_over(links_around(plan), source, target, cost)
+
+
+def least_over(around: dict[str, list[Link]], source: str, target: str, cost: Cost) -> list[Link] | None:
+    """The same over these links of each node."""
     reached: set[str] = set()
     heap: list[tuple[int, list[int], str, list[Link]]] = [(0, [], source, [])]
     while heap:
