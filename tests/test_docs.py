@@ -12,7 +12,9 @@ from .test_index import PAGES, crates, sections
 
 PICTURES = {
     "docs/tools.md": {"before.svg": "docs/nsfnet.svg", "blocking.svg": "docs/blocking.svg", "twenty.svg": "docs/twenty.svg"},
-    "docs/first-plan.md": {"my.svg": "docs/first-plan.svg"},
+    "docs/first-plan.md": {
+        "my.svg": "docs/first-plan.svg", "load.svg": "docs/load.svg", "grown.svg": "docs/grown.svg", "cuts.svg": "docs/cuts.svg",
+    },
     "docs/restoration.md": {"strip.svg": "docs/restored.svg"},
 }
 

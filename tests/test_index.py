@@ -7,7 +7,7 @@ from pathlib import Path
 from .support import TOP
 
 PAGES = ["README.md", *sorted(str(path.relative_to(TOP)) for path in (TOP / "docs").rglob("*.md"))]
-FOR_USERS = ("README.md", "docs/first-plan.md", "docs/restoration.md", "docs/tools.md")
+FOR_USERS = ("README.md", "docs/first-plan.md", "docs/restoration.md", "docs/studies.md", "docs/tools.md")
 ABOUT_SOURCES = [page for page in PAGES if page not in FOR_USERS]
 BY_HAND = TOP / "tests/wrong-bodies"
 INDEX = "**In the sources"
