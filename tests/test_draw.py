@@ -235,7 +235,7 @@ class PictureTest(unittest.TestCase):
     def test_dot_has_an_edge_for_each_circuit_on_a_link(self) -> None:
         text = dot.draw(self.scene({4}))
         paint = scene.COLOURS[0]
-        self.assertIn(f'"a" -- "c" [label="east", color="{paint}", style=dashed, penwidth=2];', text)
+        self.assertIn(f'"a" -- "c" [label="east", color="{paint}", style=dashed, penwidth=2, dir=forward];', text)
         self.assertEqual(len(re.findall("style=solid", text)), 2)
         self.assertIn('label="4 down"', text)
 

@@ -14,11 +14,16 @@ Fibre = tuple[int, str]
 
 @dataclass(frozen=True)
 class Span:
-    """A circuit on one link, and whether its signal goes over it there."""
+    """A circuit on one link, the node that sends on it, whether its signal goes over it, and whether one comes back."""
 
     circuit: "Circuit"
     link: int
+    sender: str
     carries: bool
+
+    @property
+    def is_two_way(self) -> bool:
+        return self.circuit.is_two_way
 
 
 @dataclass(frozen=True)
@@ -34,12 +39,16 @@ class Circuit:
     work: tuple[int, ...]
     backup: tuple[int, ...]
     carrier: Lsp | None
+    senders: dict[tuple[Lsp | None, int], str] = field(default_factory=dict, compare=False)
+    """The node that sends on each link of each LSP."""
+
+    is_two_way: bool = False
 
     @property
     def spans(self) -> list[Span]:
         """The links of the working LSP, then those of the backup."""
         routes = ((self.call.work, self.work), (self.call.backup, self.backup))
-        return [Span(self, link, lsp == self.carrier) for lsp, route in routes for link in route]
+        return [Span(self, link, self.senders[lsp, link], lsp == self.carrier) for lsp, route in routes for link in route]
 
     @property
     def carrying(self) -> frozenset[int]:
@@ -99,7 +108,10 @@ def _circuit(
     end = reduce(lambda node, link: links[link].other(node), route, call.source)
     is_connected = len(own) == len(route) + 1 and end == call.target and all(leg.phase == "live" for leg in own)
     is_whole = is_connected and failed.isdisjoint(route)
-    return Circuit(number, call, work, backup, lsp if is_whole else None)
+    known = [leg for lsp in (call.work, call.backup) if lsp for leg in legs.get(lsp, [])]
+    senders = {(leg.lsp, leg.outgoing.link): leg.node for leg in known if leg.outgoing}
+    is_two_way = any(leg.two_way for leg in known)
+    return Circuit(number, call, work, backup, lsp if is_whole else None, senders, is_two_way)
 
 
 def _holders(circuits: list[Circuit], links: dict[int, Link], table: Table) -> dict[Fibre, dict[int, list[Holder]]]:

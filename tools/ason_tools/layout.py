@@ -4,9 +4,8 @@ import math
 import random
 from itertools import combinations
 
+from .geometry import Point
 from .plan import Plan
-
-Point = tuple[float, float]
 
 _ROUNDS = 30
 """Rounds of the force layout, which settles in about so many."""

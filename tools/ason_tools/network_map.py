@@ -1,15 +1,17 @@
-"""The map of a picture: the nodes, the links, and the circuits side by side on them."""
+"""The map of a picture: the nodes, the links, and the circuits side by side on them, or the links' loads."""
 
 import math
-from dataclasses import dataclass
+from dataclasses import dataclass, field
 
 from .circuits import Span
-from .layout import Point
-from .plan import Link, Plan
-from .scene import DASHES, FAINT, FAULT, INK, PAPER, SOFT, Scene, colour
+from .geometry import Box, Point, box_around, distance, nearest, text_width
+from .fibre_loads import Load, loads
+from .placing import NODE_RADIUS, Ground, name_spots
+from .scene import DASHES, FAINT, FAULT, INK, PAPER, SOFT, Scene, colour, load_colour
 from .svg import Drawing
+from .tracks import Track, asides, bed, lane, tracks_of
 
-MARGIN = 60.0
+MARGIN = 70.0
 """The room around the nodes, for their names."""
 
 USUAL = (880.0, 560.0)
@@ -18,134 +20,203 @@ USUAL = (880.0, 560.0)
 USUAL_COUNT = 35
 LEAST_SCALE, MOST_SCALE = 0.6, 3.0
 
-LANE = 6.0
-BROADEST = 42.0
-"""The most room that the lanes of a link take together."""
+NAME_SIZE, NAME_HIGH = 14.0, 15.0
+TAG_RADIUS = 7.0
+NUMBER_HIGH = 16.0
+CROSS = 12.0
 
-MOST_TAGS = 16
-"""The most circuits of a link that get their numbers on it; of more they would cover each other."""
+FIBRE = 8.0
+"""How wide a fibre is drawn that shows its load."""
 
-NODE_RADIUS = 11.0
+LEADER = 9.0
+"""A name that is farther from its node gets a line to it."""
 
-Box = tuple[float, float, float, float]
-"""The left, upper, right and lower edge of a text or of the map."""
+ARROW_GAP, ARROW_LONG = NODE_RADIUS + 6.0, 9.0
+
+SHARES = tuple(0.5 + way * step / 40 for step in range(17) for way in ((1, -1) if step else (1,)))
+"""The shares of a link's way at which a badge may stand: from the middle outwards."""
+
+LEAST_BAND = 1.2
+"""How wide the least load is drawn."""
+
+PALE = 0.45
+"""The opacity of what is reserved, in the colour of the load."""
+
+
+@dataclass(frozen=True)
+class _Tag:
+    """A circuit's number on a lane of a link."""
+
+    span: Span
+    at: Point
+
+
+@dataclass
+class Arranged:
+    """A map as it is to be drawn: its ways, what stands where, and how often something had to be covered."""
+
+    scene: Scene
+    points: dict[str, Point]
+    tracks: list[Track]
+    numbers: dict[int, Box] = field(default_factory=dict)
+    names: dict[str, Box] = field(default_factory=dict)
+    tags: list[_Tag] = field(default_factory=list)
+    covered: int = 0
 
 
 def size(scene: Scene) -> tuple[float, float]:
     """The size of the room for the nodes: the greater, the more they, the links and a link's circuits are."""
     count = len(scene.plan.nodes) + len(scene.plan.links)
-    busiest = max((len(spans) for spans in scene.spans_by_link().values()), default=0)
+    spans = {} if scene.shows_load else scene.spans_by_link()
+    busiest = max(map(len, spans.values()), default=0)
     scale = max(LEAST_SCALE, math.sqrt(count / USUAL_COUNT)) * min(1.8, 1 + 0.1 * max(0, busiest - 4))
     scale = min(MOST_SCALE, scale)
     return USUAL[0] * scale, USUAL[1] * scale
 
 
-def draw(drawing: Drawing, scene: Scene, points: dict[str, Point], edges: Box) -> None:
-    """Draws the map with the nodes at these points, and their names within these edges."""
-    spans = scene.spans_by_link()
-    tracks = [_Track(link, points[link.ends[0]], points[link.ends[1]], bow) for link, bow in _bows(scene.plan)]
-    for track in tracks:
-        _lanes(drawing, track, spans.get(track.link.id, []), track.link.id in scene.failed)
-    taken: list[Point] = []
-    for track in tracks:
-        taken += _tags(drawing, track, spans.get(track.link.id, []))
+def arrange(scene: Scene, points: dict[str, Point], edges: Box) -> Arranged:
+    """Finds a place for each name and each badge of a map with the nodes at these points, within these edges."""
+    tracks = tracks_of(scene.plan, points)
+    spans = {} if scene.shows_load else scene.spans_by_link()
+    half = {track.link.id: _bed(scene, spans.get(track.link.id, [])) / 2 for track in tracks}
+    lines = [line for track in tracks for line in track.lines(half[track.link.id])]
+    ground = Ground(points, lines, edges)
+    made = Arranged(scene, points, tracks)
+    # The shortest links have the fewest places for their numbers.
+    for track in sorted(tracks, key=lambda track: track.length):
+        made.numbers[track.link.id] = _place_number(ground, scene, track)
+    first = _foremost(tracks, spans)
+    _place_tags(ground, made, spans, first, True)
+    crowded = {name: sum(name in track.link.ends for track in tracks) for name in points}
+    for name in sorted(points, key=lambda name: -crowded[name]):
+        boxes = name_spots(points[name], text_width(name, NAME_SIZE), NAME_HIGH)
+        made.names[name] = boxes[ground.place_name(name, boxes)]
+    _place_tags(ground, made, spans, first, False)
+    made.covered = ground.covered
+    return made
+
+
+def draw(drawing: Drawing, made: Arranged) -> None:
+    """Draws the map."""
+    scene = made.scene
+    spans = {} if scene.shows_load else scene.spans_by_link()
+    load = loads(scene) if scene.shows_load else {}
     full = scene.full_links()
-    for track in sorted(tracks, key=lambda track: track.link.id not in spans):
-        marks = _Marks(track.link.id in spans, track.link.id in full, track.link.id in scene.failed)
-        taken.append(_number(drawing, track, marks, taken))
-    lines = [
-        _Line(points[link.ends[0]], points[link.ends[1]], _bed(len(spans.get(link.id, ()))) / 2)
-        for link in scene.plan.links
+    for track in made.tracks:
+        if load:
+            _draw_load(drawing, track, load, track.link.id in scene.failed)
+        else:
+            _draw_lanes(drawing, track, spans.get(track.link.id, []), track.link.id in scene.failed)
+    for tag in made.tags:
+        _draw_tag(drawing, tag)
+    for track in made.tracks:
+        number = track.link.id
+        is_used = number in spans or any(load[number, end].taken for end in track.link.ends if load)
+        marks = _Marks(is_used, number in full, number in scene.failed)
+        _draw_number(drawing, number, made.numbers[number], marks)
+    _draw_nodes(drawing, made)
+
+
+def _bed(scene: Scene, spans: list[Span]) -> float:
+    """How wide a link is drawn."""
+    return 2 * FIBRE + 3 if scene.shows_load else bed(len(spans))
+
+
+def _place_number(ground: Ground, scene: Scene, track: Track) -> Box:
+    """The place of the link's number: on the link, near its middle."""
+    wide = _number_wide(track.link.id)
+    high = NUMBER_HIGH
+    if track.link.id in scene.failed:
+        wide, high = max(wide, 2 * CROSS), 2 * CROSS
+    boxes = [box_around(track.at(share, 0), wide, high) for share in SHARES]
+    place = ground.place_badge(boxes, track.link.id, True)
+    return boxes[place or 0]
+
+
+def _number_wide(number: int) -> float:
+    return 10 + 6.4 * len(str(number))
+
+
+def _foremost(tracks: list[Track], spans: dict[int, list[Span]]) -> set[tuple[int, int, bool]]:
+    """Of each circuit, and of what carries it and what doesn't, the longest link: there its number has to stand."""
+    longest: dict[tuple[int, bool], Track] = {}
+    for track in tracks:
+        for span in spans.get(track.link.id, []):
+            key = (span.circuit.number, span.carries)
+            if key not in longest or longest[key].length < track.length:
+                longest[key] = track
+    return {(track.link.id, *key) for key, track in longest.items()}
+
+
+def _place_tags(
+    ground: Ground, made: Arranged, spans: dict[int, list[Span]], first: set[tuple[int, int, bool]], are_first: bool
+) -> None:
+    """Places for the circuits' numbers on their lanes: those that have to stand, or those that may where there is room."""
+    rows = [
+        (track, span, aside)
+        for track in made.tracks
+        for span, aside in zip(spans.get(track.link.id, []), asides(len(spans.get(track.link.id, []))))
     ]
-    _nodes(drawing, points, _Names([*taken, *points.values()], lines, [], edges))
+    for track, span, aside in rows:
+        if ((track.link.id, span.circuit.number, span.carries) in first) != are_first:
+            continue
+        points = [track.at(share, aside) for share in _tag_shares(track)]
+        wide = 2 * (TAG_RADIUS + 1)
+        place = ground.place_badge([box_around(at, wide, wide) for at in points], track.link.id, are_first)
+        if place is not None:
+            made.tags.append(_Tag(span, points[place]))
 
 
-def _bows(plan: Plan) -> list[tuple[Link, float]]:
-    """Each link with how far it is bent aside, which tells parallel links apart."""
-    parallel: dict[frozenset[str], list[Link]] = {}
-    for link in plan.links:
-        parallel.setdefault(frozenset(link.ends), []).append(link)
-    return [bow for links in parallel.values() for bow in _bent(links)]
+def _tag_shares(track: Track) -> list[float]:
+    """The shares of the way where a circuit's number may stand: not upon an arrowhead."""
+    room = (ARROW_GAP + ARROW_LONG + TAG_RADIUS + 2) / track.length
+    return [share for share in SHARES if room <= share <= 1 - room] or [0.5]
 
 
-def _bent(links: list[Link]) -> list[tuple[Link, float]]:
-    gap = min(34.0, 240.0 / len(links))
-    return [(link, gap * (place - (len(links) - 1) / 2)) for place, link in enumerate(links)]
-
-
-class _Track:
-    """The way of a link from end to end: a straight line, or two where it is bent aside."""
-
-    def __init__(self, link: Link, start: Point, end: Point, bow: float) -> None:
-        self.link = link
-        if link.ends[0] > link.ends[1]:
-            start, end = end, start
-        self._start, self._end, self._bow = start, end, bow
-        length = math.dist(start, end) or 1.0
-        self.length = length
-        self._side = ((start[1] - end[1]) / length, (end[0] - start[0]) / length)
-
-    def at(self, share: float, aside: float) -> Point:
-        """The point at this share of the way, this far aside."""
-        away = aside + self._bow * (1 - abs(2 * share - 1))
-        x = self._start[0] + share * (self._end[0] - self._start[0]) + away * self._side[0]
-        y = self._start[1] + share * (self._end[1] - self._start[1]) + away * self._side[1]
-        return x, y
-
-    def points(self, aside: float) -> list[Point]:
-        """The corners of the lane that lies this far aside."""
-        return [self.at(share, aside) for share in ((0.0, 0.5, 1.0) if self._bow else (0.0, 1.0))]
-
-
-def _asides(count: int) -> list[float]:
-    """How far aside each of so many lanes lies."""
-    lane = min(LANE, BROADEST / max(1, count))
-    return [lane * (place - (count - 1) / 2) for place in range(count)]
-
-
-def _bed(count: int) -> float:
-    """How wide so many lanes are together."""
-    asides = _asides(count)
-    return asides[-1] - asides[0] + LANE + 3 if asides else 2.5
-
-
-def _lanes(drawing: Drawing, track: _Track, spans: list[Span], is_failed: bool) -> None:
-    """A lane for each circuit: solid where it carries its call there, else dashed."""
-    bed = {"stroke_width": _bed(len(spans)), "stroke_opacity": 0.35 if spans else 1}
-    drawing.polyline(track.points(0), stroke=FAULT if is_failed else FAINT, **bed)
-    for span, aside in zip(spans, _asides(len(spans))):
+def _draw_lanes(drawing: Drawing, track: Track, spans: list[Span], is_failed: bool) -> None:
+    """A lane for each circuit: solid where it carries its call there, else dashed; and its direction."""
+    look = {"stroke_width": bed(len(spans)), "stroke_opacity": 0.35 if spans else 1}
+    drawing.polyline(track.points(0), stroke=FAULT if is_failed else FAINT, **look, class_="link", data_link=track.link.id)
+    half = min(4.5, lane(len(spans)) * 0.75)
+    for span, aside in zip(spans, asides(len(spans))):
         style = {} if span.carries else {"stroke_dasharray": DASHES}
-        width = min(3.6, BROADEST / len(spans) * 0.7)
-        drawing.polyline(track.points(aside), stroke=colour(span.circuit), stroke_width=width, **style)
+        width, paint = min(3.6, lane(len(spans)) * 0.7), colour(span.circuit)
+        drawing.polyline(track.points(aside), stroke=paint, stroke_width=width, **style)
+        for is_forward in (True, False):
+            if span.is_two_way or is_forward == (span.sender == track.first):
+                drawing.polygon(track.arrow(aside, is_forward, ARROW_GAP, ARROW_LONG, half), fill=paint)
 
 
-def _tags(drawing: Drawing, track: _Track, spans: list[Span]) -> list[Point]:
-    """The circuits' numbers on their lanes, if they aren't too many: filled where the circuit carries its call."""
-    count, points = len(spans), []
-    if count > MOST_TAGS:
-        return points
-    for place, (span, aside) in enumerate(zip(spans, _asides(count))):
-        x, y = track.at(_tag_share(place, count, track.length), aside)
-        paint = colour(span.circuit)
-        drawing.circle(x, y, 7, fill=paint if span.carries else PAPER, stroke=paint, stroke_width=1.6)
-        text = {"text_anchor": "middle", "font_weight": "bold", "fill": PAPER if span.carries else paint}
-        drawing.text(x, y + 3, str(span.circuit.number), 8.5, **text)
-        points.append((x, y))
-    return points
+def _draw_load(drawing: Drawing, track: Track, load: dict[tuple[int, str], Load], is_failed: bool) -> None:
+    """A band for each fibre, which runs on the right: in colour what is used, pale what is reserved, grey what others hold."""
+    bed_paint = FAULT if is_failed else PAPER
+    look = {"stroke_opacity": 0.5 if is_failed else 1, "class_": "link", "data_link": track.link.id}
+    drawing.polyline(track.points(0), stroke=bed_paint, stroke_width=2 * FIBRE + 3, **look)
+    for sender, side in ((track.first, 1), (track.last, -1)):
+        fibre = load[track.link.id, sender]
+        drawing.polyline(track.points(side * (FIBRE / 2 + 0.5)), stroke=FAINT, stroke_width=FIBRE, stroke_opacity=0.6)
+        paint, from_middle = load_colour(fibre.share), 0.5
+        for count, tone, opacity in ((fibre.used, paint, 1), (fibre.reserved, paint, PALE), (fibre.others, SOFT, 1)):
+            width = max(LEAST_BAND, FIBRE * count / fibre.labels) if count else 0.0
+            if count:
+                aside = side * (from_middle + width / 2)
+                drawing.polyline(track.points(aside), stroke=tone, stroke_width=width, stroke_opacity=opacity)
+            from_middle += width
 
 
-def _tag_share(place: int, count: int, length: float) -> float:
-    """The share of the way at which a lane's number stands: half of them before the middle, the others behind."""
-    before = (count + 1) // 2
-    room = min(0.5, 24 / length)
-    first, last = (room, 0.5 - room * 0.7) if place < before else (0.5 + room * 0.7, 1 - room)
-    within, number = (place, before) if place < before else (place - before, count - before)
-    return first + (last - first) * (within + 0.5) / number
+def _draw_tag(drawing: Drawing, tag: _Tag) -> None:
+    """A circuit's number on its lane: filled where the circuit carries its call."""
+    (x, y), span = tag.at, tag.span
+    paint = colour(span.circuit)
+    fill = paint if span.carries else PAPER
+    drawing.circle(x, y, TAG_RADIUS, fill=fill, stroke=paint, stroke_width=1.6, class_="tag", data_link=span.link)
+    text = {"text_anchor": "middle", "font_weight": "bold", "fill": PAPER if span.carries else paint}
+    drawing.text(x, y + 3, str(span.circuit.number), 8.5, **text)
 
 
 @dataclass(frozen=True)
 class _Marks:
-    """What a link's number shows: whether a circuit is on the link, a fibre of it has no free label, and it is down."""
+    """What a link's number shows: whether a label is held, a fibre of it has no free label, and it is down."""
 
     is_used: bool
     is_full: bool
@@ -157,22 +228,21 @@ class _Marks:
         return not (self.is_used or self.is_full or self.is_failed)
 
 
-def _number(drawing: Drawing, track: _Track, marks: _Marks, taken: list[Point]) -> Point:
-    """The link's number near its middle: on red where a fibre has no free label, with a cross where it is down."""
-    spots = [track.at(share, 0) for share in (0.5, 0.45, 0.55, 0.4, 0.6, 0.35, 0.65, 0.3, 0.7, 0.25, 0.75)]
-    x, y = next((spot for spot in spots if all(math.dist(spot, other) > 18 for other in taken)), spots[0])
-    text = str(track.link.id)
-    if marks.is_plain:
-        drawing.outlined(x, y + 3, text, 9, fill=SOFT, text_anchor="middle")
-        return x, y
+def _draw_number(drawing: Drawing, number: int, box: Box, marks: _Marks) -> None:
+    """The link's number: on red where a fibre has no free label, with a cross where it is down."""
+    x, y = (box[0] + box[2]) / 2, (box[1] + box[3]) / 2
+    text, wide = str(number), _number_wide(number)
     if marks.is_failed:
-        cross(drawing, x, y, 17)
-    half = 5 + 3.2 * len(text)
+        cross(drawing, x, y, CROSS)
+    own = {"class_": "number", "data_link": number}
     edge = FAULT if marks.is_full or marks.is_failed else SOFT
+    if marks.is_plain:
+        drawing.rect(x - wide / 2, y - 6, wide, 12, rx=3, fill=PAPER, **own)
+        drawing.text(x, y + 3, text, 9, fill=SOFT, text_anchor="middle")
+        return
     fill = FAULT if marks.is_full else PAPER
-    drawing.rect(x - half, y - 8, 2 * half, 16, rx=3, fill=fill, stroke=edge, stroke_width=1)
+    drawing.rect(x - wide / 2, y - 8, wide, NUMBER_HIGH, rx=3, fill=fill, stroke=edge, stroke_width=1, **own)
     drawing.text(x, y + 4, text, 11, text_anchor="middle", fill=PAPER if marks.is_full else INK)
-    return x, y
 
 
 def cross(drawing: Drawing, x: float, y: float, half: float) -> None:
@@ -182,90 +252,14 @@ def cross(drawing: Drawing, x: float, y: float, half: float) -> None:
         drawing.line(*ends, stroke=FAULT, stroke_width=4, stroke_linecap="round")
 
 
-@dataclass(frozen=True)
-class _Line:
-    """A link between two points, half as wide as its circuits lie side by side."""
-
-    start: Point
-    end: Point
-    half: float
-
-    def is_near(self, box: Box) -> bool:
-        """Whether the line may touch the box: whether the least box around it does."""
-        return all(
-            min(self.start[axis], self.end[axis]) - self.half < box[axis + 2]
-            and box[axis] < max(self.start[axis], self.end[axis]) + self.half
-            for axis in (0, 1)
-        )
-
-    def length_in(self, box: Box) -> float:
-        """How much of the line is in the box, by the algorithm of Liang and Barsky."""
-        first, last = 0.0, 1.0
-        for axis in (0, 1):
-            low, high = box[axis] - self.half, box[axis + 2] + self.half
-            start, way = self.start[axis], self.end[axis] - self.start[axis]
-            if way == 0:
-                if not low < start < high:
-                    return 0.0
-                continue
-            enter, leave = sorted(((low - start) / way, (high - start) / way))
-            first, last = max(first, enter), min(last, leave)
-        return max(0.0, last - first) * math.dist(self.start, self.end)
-
-
-@dataclass
-class _Names:
-    """What a node's name mustn't cover: points, links, the names that stand, and what is beyond the edges."""
-
-    points: list[Point]
-    lines: list[_Line]
-    placed: list[Box]
-    edges: Box
-
-    def place(self, spots: list[Box], own: Point) -> Box:
-        """The spot that covers the least but for the node's own point. The name stands there from now on."""
-        around = tuple(pick(box[side] for box in spots) for side, pick in enumerate((min, min, max, max)))
-        near = _Names(
-            [point for point in self.points if point != own and _is_in(around, point)],
-            [line for line in self.lines if line.is_near(around)],
-            self.placed,
-            self.edges,
-        )
-        best = min(spots, key=near._covered)
-        self.placed.append(best)
-        return best
-
-    def _covered(self, box: Box) -> float:
-        """How much a name in this box would cover."""
-        points = sum(_is_in(box, point) for point in self.points)
-        names = sum(box[0] < it[2] and it[0] < box[2] and box[1] < it[3] and it[1] < box[3] for it in self.placed)
-        left, top, right, bottom = self.edges
-        outside = box[0] < left or box[1] < top or box[2] > right or box[3] > bottom
-        return 600 * points + 400 * names + 2000 * outside + sum(line.length_in(box) for line in self.lines)
-
-
-def _is_in(box: Box, point: Point) -> bool:
-    room = NODE_RADIUS
-    return box[0] - room < point[0] < box[2] + room and box[1] - room < point[1] < box[3] + room
-
-
-def _nodes(drawing: Drawing, points: dict[str, Point], names: _Names) -> None:
-    """The nodes with their names, each where it covers the least."""
-    for x, y in points.values():
-        drawing.circle(x, y, NODE_RADIUS, fill=INK, stroke=PAPER, stroke_width=2)
-    for name, point in points.items():
-        box = names.place(_spots(name, point), point)
-        drawing.outlined(box[0], box[3] - 4, name, 14, fill=INK, font_weight="bold")
-
-
-def _spots(name: str, at: Point) -> list[Box]:
-    """Where the node's name may stand: below, above, right, left, and at the four corners."""
-    x, y = at
-    wide, high, gap = 8.2 * len(name), 17.0, NODE_RADIUS + 4
-    corners = [
-        (x - wide / 2, y + gap), (x - wide / 2, y - gap - high),
-        (x + gap, y - high / 2), (x - gap - wide, y - high / 2),
-        (x + gap * 0.7, y + gap * 0.7), (x - gap * 0.7 - wide, y + gap * 0.7),
-        (x + gap * 0.7, y - gap * 0.7 - high), (x - gap * 0.7 - wide, y - gap * 0.7 - high),
-    ]  # fmt: skip
-    return [(left, top, left + wide, top + high) for left, top in corners]
+def _draw_nodes(drawing: Drawing, made: Arranged) -> None:
+    """The nodes with their names, and a line between the two where they are apart."""
+    for name, box in made.names.items():
+        own = made.points[name]
+        if distance(box, own) > NODE_RADIUS + LEADER:
+            drawing.line(*own, *nearest(box, own), stroke=SOFT, stroke_width=1, stroke_dasharray="2 2")
+    for name, (x, y) in made.points.items():
+        drawing.circle(x, y, NODE_RADIUS, fill=INK, stroke=PAPER, stroke_width=2, class_="node", data_node=name)
+    for name, box in made.names.items():
+        place = {"class_": "name", "data_node": name, "textLength": box[2] - box[0], "lengthAdjust": "spacingAndGlyphs"}
+        drawing.text(box[0], box[3] - 4, name, NAME_SIZE, fill=INK, font_weight="bold", **place)

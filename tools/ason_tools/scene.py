@@ -19,6 +19,28 @@ PAPER = "#ffffff"
 DASHES = "9 5"
 """The line of what doesn't carry its call."""
 
+MOST_LANES = len(COLOURS)
+"""So many circuits are told apart by their colours; of more the map shows the load of the links."""
+
+LOADS = ("#2f9e8f", "#7fb241", "#e0a800", "#e8711a", FAULT)
+"""The colours of a load: up to a quarter, a half and three quarters, less than all labels, and all."""
+
+
+def load_colour(share: float) -> str:
+    """The colour of a fibre of whose labels this share is taken."""
+    return LOADS[4] if share >= 1 else LOADS[min(3, int(share * 4 - 1e-9))]
+
+
+def _lighter(paint: str) -> str:
+    """The colour as it reads on a dark ground: half way to white."""
+    parts = (int(paint[place : place + 2], 16) for place in (1, 3, 5))
+    return "#" + "".join(f"{(part + 255) // 2:02x}" for part in parts)
+
+
+DARK = {PAPER: "#16191d", INK: "#e9ecef", SOFT: "#9aa3ab", FAINT: "#495057", FAULT: "#ff6b6b"}
+DARK |= {paint: _lighter(paint) for paint in COLOURS}
+"""What each colour becomes where the reader's screen is dark."""
+
 
 @dataclass(frozen=True)
 class Scene:
@@ -32,6 +54,12 @@ class Scene:
     contended: frozenset[tuple[Fibre, int]] = frozenset()
     """The labels for which calls would contend if two groups failed, where that was asked for."""
 
+    is_load: bool | None = None
+    """Whether the map shows the load of the links; where it isn't said, above so many circuits."""
+
+    nothing: str = ""
+    """A sentence that says why there is no circuit to show."""
+
     @property
     def circuits(self) -> list[Circuit]:
         """The circuits that are drawn."""
@@ -40,6 +68,11 @@ class Scene:
     def has(self, circuit: Circuit) -> bool:
         """Whether the circuit is drawn."""
         return self.chosen is None or circuit.call.name in self.chosen
+
+    @property
+    def shows_load(self) -> bool:
+        """Whether the map shows loads in place of circuits."""
+        return len(self.circuits) > MOST_LANES if self.is_load is None else self.is_load
 
     def spans_by_link(self) -> dict[int, list[Span]]:
         """The drawn circuits on each link."""
