@@ -15,12 +15,22 @@ NO_TRACE = 1
 """The status of `trace_frames` where what it reads is no trace of a run."""
 
 
+NAME = "trace_frames"
+
+
 def program_path() -> Path:
-    """The path of the program: what TRACE_FRAMES names, or what `rt` has built here."""
+    """The path of the program: what TRACE_FRAMES names, or what stands beside `ason`, or what `rt` has built here."""
     named = os.environ.get("TRACE_FRAMES")
-    path = Path(named) if named else REPOSITORY / "crates" / "trace_frames" / "out" / "trace_frames"
-    if not path.is_file():
-        raise ToolError("trace_frames isn't built: `rt run trace_frames` builds it, or TRACE_FRAMES names a program that is built")
+    if named:
+        places = [Path(named)]
+    else:
+        ason = os.environ.get("ASON")
+        beside = Path(ason).parent if ason else REPOSITORY / "out"
+        places = [beside / NAME, REPOSITORY / "crates" / NAME / "out" / NAME]
+    path = next((place for place in places if place.is_file()), None)
+    if path is None:
+        where = " nor ".join(str(place) for place in places)
+        raise ToolError(f"trace_frames isn't built: neither {where} is there (`rt run trace_frames` builds it, or TRACE_FRAMES names it)")
     return path
 
 

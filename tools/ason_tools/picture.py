@@ -21,7 +21,7 @@ CROWDED = 24
 
 def draw(scene: Scene, with_labels: bool) -> str:
     """The SVG document of one moment: the map, the legend beside or below it, and where it is asked for the grid."""
-    (made,), (wide, high) = _arranged([scene], 0.0)
+    (made,), (wide, high) = arranged([scene], 0.0)
     room, tall = wide + 2 * MARGIN, high + 2 * MARGIN
     beside = legend.one_column(scene)
     key = legend.key_height([scene])
@@ -45,7 +45,7 @@ def draw(scene: Scene, with_labels: bool) -> str:
 
 def draw_strip(scenes: list[Scene], with_labels: bool, title: str) -> str:
     """The SVG document of several moments of one network, side by side, each under its title."""
-    found, (wide, high) = _arranged(scenes, HEADING)
+    found, (wide, high) = arranged(scenes, HEADING)
     room = max(wide + MARGIN, *(legend.one_column(scene).width for scene in scenes))
     grids = [grid.size(scene, room) if with_labels else (0.0, 0.0) for scene in scenes]
     width = MARGIN + max(room, *(it[0] for it in grids))
@@ -66,7 +66,7 @@ def draw_strip(scenes: list[Scene], with_labels: bool, title: str) -> str:
     return drawing.document()
 
 
-def _arranged(scenes: list[Scene], top: float) -> tuple[list[Arranged], tuple[float, float]]:
+def arranged(scenes: list[Scene], top: float) -> tuple[list[Arranged], tuple[float, float]]:
     """The maps of these moments, with the nodes of all at the same points, and the size of the room for these."""
     wide, high = (max(sizes) for sizes in zip(*map(network_map.size, scenes)))
     best: tuple[int, list[Arranged], tuple[float, float]] | None = None

@@ -102,6 +102,11 @@ def decode(lines: str | bytes) -> Run:
     return _run("decode", lines)
 
 
+def check(trace: bytes) -> tuple[int, str]:
+    """Runs `ason check` on this trace: its status and what it printed."""
+    return _start(("check",), trace)
+
+
 def _run(word: str, given: str | bytes) -> Run:
     status, text = printed((word,), given)
     return Run(status, text, tables.read(text))
