@@ -314,8 +314,8 @@ class NamesTest(unittest.TestCase):
 
 
 REFUSED: list[tuple[bytes, dict[str, object], str]] = [
-    (b"", {}, "it is neither GraphML nor GML nor a network of SNDlib"),
-    (b"hello", {}, "it is neither GraphML nor GML nor a network of SNDlib"),
+    (b"", {}, "it is neither GraphML nor GML nor a network of SNDlib or GNPy"),
+    (b"hello", {}, "it is neither GraphML nor GML nor a network of SNDlib or GNPy"),
     (b"<a>", {}, "it is no XML: line 1, column 4: no element found"),
     (b"<svg/>", {}, "its outermost element is 'svg', neither graphml nor network"),
     (b"<graphml/>", {}, "it has no graph"),

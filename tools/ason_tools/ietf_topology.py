@@ -1,12 +1,14 @@
 """Topologies in JSON of the YANG modules ietf-network-topology (RFC 8345) and ietf-te-topology (RFC 8795)."""
 
-import json
 from dataclasses import dataclass
 from typing import Any
 
 from .building import Builder
 from .errors import ToolError, quoted
+from .json_document import load
 from .topology import Position, position_of
+
+__all__ = ["OneWay", "build", "load"]
 
 TE_TYPE = "te-topology"
 """The network type of RFC 8795."""
@@ -28,19 +30,6 @@ class OneWay:
     @property
     def ends(self) -> tuple[str, str]:
         return self.source[0], self.target[0]
-
-
-def load(text: str) -> dict[str, Any]:
-    """The JSON object that the text spells."""
-    try:
-        top = json.loads(text)
-    except ValueError as error:
-        raise ToolError(f"it is no JSON: {str(error)[:1].lower()}{str(error)[1:]}") from error
-    except RecursionError as error:
-        raise ToolError("its values stand too deep") from error
-    if not isinstance(top, dict):
-        raise ToolError("it is no JSON object")
-    return top
 
 
 def build(top: dict[str, Any], wanted: str | None, labels: int, convert: bool) -> Builder:

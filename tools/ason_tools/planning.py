@@ -3,15 +3,17 @@
 from dataclasses import dataclass, replace
 import math
 
-from . import gml, graphml, sndlib
+from . import gml, gnpy, graphml, sndlib
+from .disjoint import ways_beside
 from .ducts import ducts
 from .errors import ToolError, listed, quoted
 from .files import as_text
 from .names import Namer
 from .plan import MOST_LINKS, MOST_METRIC, MOST_NODES, MOST_SETUPS, MOST_SRLGS, Link, Node, Plan
 from .risks import srlgs_of
-from .routes import by_hops, by_metric, least_route
+from .routes import Cost, by_hops, by_metric, routes_in_order
 from .topology import Demand, Edge, Topology, number_of
+from .vetoes import Veto, vetoes
 from .xml_tree import read_tree
 
 
@@ -21,7 +23,8 @@ class Wishes:
 
     `metric` names an attribute, of which `per` make one unit of the metric. `srlg` names the attribute that has an
     edge's SRLGs; spans at most `duct` kilometres apart get one for their duct. A demand is a setup for each `units` of
-    it. With `settle` each setup comes to its end before the next is posted.
+    it. With `settle` each setup comes to its end before the next is posted. `infeasible` are routes that mustn't be given,
+    each as the ids that it passes.
     """
 
     labels: int = 80
@@ -35,6 +38,7 @@ class Wishes:
     srlg: str | None = None
     duct: float | None = None
     units: float | None = None
+    infeasible: tuple[tuple[str, ...], ...] | None = None
 
 
 @dataclass
@@ -53,8 +57,10 @@ def read_topology(data: bytes) -> Topology:
         return sndlib.read_native(as_text(data, "it").lstrip())
     if gml.is_gml(head):
         return gml.read(as_text(head, "it"))
+    if gnpy.is_gnpy(head):
+        return gnpy.read(as_text(head, "it"))
     if not head.startswith((b"<", b"\xff\xfe", b"\xfe\xff")):
-        raise ToolError("it is neither GraphML nor GML nor a network of SNDlib")
+        raise ToolError("it is neither GraphML nor GML nor a network of SNDlib or GNPy")
     root = read_tree(data)
     if root.tag == "graphml":
         return graphml.read(root)
@@ -66,6 +72,8 @@ def read_topology(data: bytes) -> Topology:
 def make_plan(topology: Topology, wishes: Wishes) -> Planned:
     """The plan of the topology. Its setups are the demands and then the calls that are wished for."""
     notes = list(topology.notes)
+    if wishes.metric is None:
+        wishes = replace(wishes, metric=topology.metric)
     edges = _edges(topology, notes)
     _check_size(topology, len(edges))
     nodes, renamed = _nodes(topology, wishes)
@@ -79,7 +87,9 @@ def make_plan(topology: Topology, wishes: Wishes) -> Planned:
     if wishes.duct is not None:
         _add_ducts(plan, wishes.duct, notes)
     demands = topology.demands + _wished(topology, names, wishes)
-    renamed += _add_setups(plan, demands, names, wishes, notes)
+    barred, told = vetoes([list(route) for route in wishes.infeasible or ()], topology, names, edges)
+    notes += told
+    renamed += _add_setups(plan, demands, names, wishes, notes, _Router(plan, wishes, barred))
     return Planned(plan, renamed, notes)
 
 
@@ -167,6 +177,7 @@ def _wished(topology: Topology, names: dict[str, str], wishes: Wishes) -> list[D
     for site in topology.sites:
         for text in (names[site.key], site.title, site.key):
             keys.setdefault(text, site.key)
+    keys = topology.aliases | keys
     demands = []
     for number, call in enumerate(wishes.calls, 1):
         missing = next((end for end in call if end not in keys), None)
@@ -176,21 +187,55 @@ def _wished(topology: Topology, names: dict[str, str], wishes: Wishes) -> list[D
     return demands
 
 
+class _Router:
+    """The routes of a plan's setups: the least ones that aren't barred."""
+
+    def __init__(self, plan: Plan, wishes: Wishes, barred: list[Veto]) -> None:
+        self._plan, self._wishes, self._barred = plan, wishes, barred
+        self._cost: Cost = by_hops if wishes.metric is None else by_metric
+
+    def working(self, source: str, target: str) -> list[Link] | None:
+        """The least route that may be given."""
+        return self._first(self._plan, source, target)
+
+    def words(self, source: str, target: str, route: list[Link]) -> tuple[str, bool]:
+        """The words of a setup behind its nodes, and whether it goes without the backup that was wished for.
+
+        Where routes are barred the backup is given too, since the program may find a barred one.
+        """
+        wishes = self._wishes
+        via = f" via {_ids(route)}" if wishes.routes_given else ""
+        if not wishes.protected:
+            return f" unprotected{via}", False
+        if wishes.infeasible is None:
+            return via, False
+        beside = ways_beside(self._plan, source, tuple(link.id for link in route))
+        backup = self._first(beside, source, target)
+        return (f" unprotected{via}", True) if backup is None else (f"{via} backup {_ids(backup)}", False)
+
+    def _first(self, plan: Plan, source: str, target: str) -> list[Link] | None:
+        routes = routes_in_order(plan, source, target, self._cost)
+        return next((route for route in routes if not any(veto.bars(source, route) for veto in self._barred)), None)
+
+
+def _ids(route: list[Link]) -> str:
+    return ",".join(str(link.id) for link in route)
+
+
 def _add_setups(
-    plan: Plan, demands: list[Demand], names: dict[str, str], wishes: Wishes, notes: list[str]
+    plan: Plan, demands: list[Demand], names: dict[str, str], wishes: Wishes, notes: list[str], router: _Router
 ) -> list[tuple[str, str, str]]:
     """A setup line for each demand between two nodes that a route joins. Tells which id became which name."""
     namer, renamed, setups = Namer("d"), [], []
-    cost = by_hops if wishes.metric is None else by_metric
     for demand in demands:
         missing = next((end for end in (demand.source, demand.target) if end not in names), None)
         if missing is not None:
             raise ToolError(f"demand {quoted(demand.key)} ends at {quoted(missing)}, which is no node of the file")
         source, target = names[demand.source], names[demand.target]
-        route = least_route(plan, source, target, cost)
+        route = router.working(source, target)
         count = _setups_of(demand, wishes)
         if not route or count == 0:
-            wanting = "has one node at both ends" if source == target else "has no route of at most 63 links"
+            wanting = "has one node at both ends" if source == target else _WITHOUT_ROUTE[wishes.infeasible is not None]
             notes.append(f"demand {quoted(demand.key)} {'asks for nothing' if route else wanting} and is left out")
             continue
         if len(setups) + count > MOST_SETUPS:
@@ -198,15 +243,15 @@ def _add_setups(
             raise ToolError(f"{needed}, and a plan has at most {MOST_SETUPS:,}")
         given = [namer.name(demand.key) for _ in range(count)]
         renamed += [("call", demand.key, given[0])] if given[0] != demand.key else []
-        setups += [f"setup {name} {source} {target}{_kind(route, wishes)}" for name in given]
+        words, is_bare = router.words(source, target, route)
+        if is_bare:
+            notes.append(f"demand {quoted(demand.key)} has no backup that isn't infeasible: it goes unprotected")
+        setups += [f"setup {name} {source} {target}{words}" for name in given]
     plan.script = [line for setup in setups for line in ([setup, "settle 1000"] if wishes.settle else [setup])]
     return renamed
 
 
-def _kind(route: list[Link], wishes: Wishes) -> str:
-    """The words of a setup behind its nodes."""
-    kind = "" if wishes.protected else " unprotected"
-    return kind + (" via " + ",".join(str(link.id) for link in route) if wishes.routes_given else "")
+_WITHOUT_ROUTE = {False: "has no route of at most 63 links", True: "has no route of at most 63 links that isn't infeasible"}
 
 
 def _setups_of(demand: Demand, wishes: Wishes) -> int:

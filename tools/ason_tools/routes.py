@@ -1,7 +1,7 @@
 """Least routes over a plan's links."""
 
 import heapq
-from collections.abc import Callable
+from collections.abc import Callable, Iterator
 
 from .plan import MOST_STEPS, Link, Plan
 
@@ -46,3 +46,42 @@ def least_over(around: dict[str, list[Link]], source: str, target: str, cost: Co
             if link.other(node) not in reached:
                 heapq.heappush(heap, (so_far + cost(link), ids + [link.id], link.other(node), route + [link]))
     return None
+
+
+MOST_LOOKS = 200_000
+"""So many beginnings of routes are looked at before a search for further ones ends."""
+
+
+def routes_in_order(plan: Plan, source: str, target: str, cost: Cost) -> Iterator[list[Link]]:
+    """The routes without a node twice, each of at least the cost of the one before; of equal ones by their link ids."""
+    around, left = links_around(plan), _costs_to(plan, target, cost)
+    if source not in left:
+        return
+    heap: list[tuple[int, list[int], int, str, list[Link]]] = [(left[source], [], 0, source, [])]
+    for _ in range(MOST_LOOKS):
+        if not heap:
+            return
+        _, ids, so_far, node, route = heapq.heappop(heap)
+        if node == target:
+            yield route
+            continue
+        if len(route) == MOST_STEPS:
+            continue
+        behind = {source, *(end for link in route for end in link.ends)}
+        for link in around[node]:
+            other, spent = link.other(node), so_far + cost(link)
+            if other in left and other not in behind:
+                heapq.heappush(heap, (spent + left[other], ids + [link.id], spent, other, route + [link]))
+
+
+def _costs_to(plan: Plan, target: str, cost: Cost) -> dict[str, int]:
+    """The least cost of a way from each node to this one, where there is one."""
+    around, found, heap = links_around(plan), {}, [(0, target)]
+    while heap:
+        spent, node = heapq.heappop(heap)
+        if node in found:
+            continue
+        found[node] = spent
+        for link in around[node]:
+            heapq.heappush(heap, (spent + cost(link), link.other(node)))
+    return found

@@ -32,6 +32,8 @@ class Edge:
     ends: tuple[str, str]
     attributes: dict[str, str] = field(default_factory=dict)
     is_directed: bool = False
+    elements: tuple[str, ...] = ()
+    """What the line is made of, both ways, where the file tells: fibres and amplifiers by their ids."""
 
 
 @dataclass(frozen=True)
@@ -52,6 +54,11 @@ class Topology:
     edges: list[Edge] = field(default_factory=list)
     demands: list[Demand] = field(default_factory=list)
     notes: list[str] = field(default_factory=list)
+    metric: str | None = None
+    """The attribute of an edge that is its metric where none is wished for."""
+
+    aliases: dict[str, str] = field(default_factory=dict)
+    """Further ids of nodes, each with the key of its node."""
 
 
 def first_of(attributes: dict[str, str], names: tuple[str, ...]) -> str | None:
