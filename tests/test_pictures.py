@@ -198,6 +198,13 @@ class LoadTest(unittest.TestCase):
         self.assertFalse(drawn["few"].shows_load)
         self.assertIn("labels in use, reserved (pale) and free (grey)", picture.draw(drawn["many"], False))
 
+    def test_calls_have_numbers_beside_a_load_where_the_grid_has_them(self) -> None:
+        drawn = scene_of(sixty(21))
+        numbers = [len(re.findall(">21</text>", picture.draw(drawn, with_labels))) for with_labels in (False, True)]
+        # Link 21 has its number too.
+        self.assertEqual(numbers[0], 1)
+        self.assertGreater(numbers[1], 2)
+
     def test_the_load_may_be_asked_for(self) -> None:
         self.assertIn("labels in use", tool("draw", "examples/two.toml", "--load").out)
         self.assertNotIn("carries its call", tool("draw", "examples/two.toml", "--load").out)
@@ -233,6 +240,8 @@ class LegendTest(unittest.TestCase):
         ended = tool("draw", "examples/nsfnet.toml", "--hit", "link", "1")
         self.assertEqual((ended.status, ended.err), (0, "draw: no call's working route has a link of link 1\n"))
         self.assertIn(">No call's working route has a link of link 1<", ended.out)
+        ended = tool("draw", "examples/apart.toml", "--strip", "--hit", "link", "4")
+        self.assertEqual((ended.status, ended.err), (0, "draw: no call's working route has a link of link 4\n"))
         ended = tool("draw", "-", given=plan_text())
         self.assertEqual((ended.status, ended.err), (0, "draw: the table has no call\n"))
 

@@ -11,11 +11,12 @@ from pathlib import Path
 from unittest.mock import patch
 
 from ason_tools import frames
+from ason_tools.scene import COLOURS, LOADS
 
 from .networks import sixty
 from .support import EXAMPLES, ason_told, plan_text, tool
 
-CHROMIUM = ("chromium", "--headless", "--no-sandbox", "--disable-gpu", "--window-size=1600,1200", "--dump-dom")
+CHROMIUM = ("chromium", "--headless", "--no-sandbox", "--disable-gpu", "--disable-dev-shm-usage", "--window-size=1600,1200", "--dump-dom")
 
 # Steps to each place and notes what the page shows there.
 VISIT = """
@@ -174,6 +175,21 @@ class PageTest(unittest.TestCase):
             with self.subTest(sentence=sentence):
                 ended = tool("trace-page", given=text)
                 self.assertEqual((ended.status, ended.out, ended.err), (2, "", f"trace-page: the standard input: {sentence}\n"))
+
+
+class LoadTest(unittest.TestCase):
+    """The map above 20 calls."""
+
+    def test_many_calls_are_a_load_and_the_picked_one_a_lane(self) -> None:
+        script = [f"setup c{number} a c unprotected via 4" for number in range(1, 22)] + ["settle 99"]
+        page = page_of(trace_of(plan_text(script).replace("labels = 2", "labels = 80")))
+        look = """
+        const lines = [...document.querySelectorAll("#map-legs polyline")];
+        const found = lines.map((line) => [line.getAttribute("stroke"), Number(line.getAttribute("stroke-width"))]);
+        """
+        found, _ = in_browser(page, look)
+        # 21 of 80 labels are more than a quarter, and so wide a part of a fibre of 8 points; then the lane of c1 on its bed.
+        self.assertEqual(found, [[LOADS[1], 2.1], ["var(--paper)", 9], [COLOURS[0], 4]])
 
 
 class LargeTest(unittest.TestCase):

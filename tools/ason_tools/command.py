@@ -58,6 +58,13 @@ def note(text: str) -> None:
         print(text, file=sys.stderr)
 
 
+def progress(done: int, count: int, what: str) -> None:
+    """Shows on a terminal how far the tool is; nothing is left of it at the end."""
+    if sys.stderr is not None and sys.stderr.isatty():
+        text = f"{os.path.basename(sys.argv[0])}: {done} of {count} {what}"
+        print(f"\r{text}" if done < count else f"\r{' ' * len(text)}\r", end="", file=sys.stderr, flush=True)
+
+
 def _say(sentence: str) -> None:
     name = os.path.basename(sys.argv[0])
     try:

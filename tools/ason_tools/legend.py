@@ -47,27 +47,30 @@ def _width(scene: Scene) -> float:
     return LEFT + BETWEEN + longest + 26
 
 
-def draw_list(drawing: Drawing, scene: Scene, corner: tuple[float, float], into: Columns) -> None:
-    """A row for each circuit: its number and colour, its ends, and its state, red where nothing carries it."""
+def draw_list(drawing: Drawing, scene: Scene, corner: tuple[float, float], into: Columns, has_numbers: bool) -> None:
+    """A row for each circuit: its number and colour where a part of the picture has these, its ends, and its state."""
     left, top = corner
     if scene.nothing:
-        drawing.text(left, top + 4, scene.nothing, TEXT, fill=FAULT, class_="nothing")
+        sentence = scene.nothing[:1].upper() + scene.nothing[1:]
+        drawing.text(left, top + 4, sentence, TEXT, fill=FAULT, class_="nothing")
     for place, circuit in enumerate(scene.circuits):
         column, row = divmod(place, max(1, into.rows))
-        _row(drawing, scene, circuit, (left + column * into.width, top + ROW * row), into.width)
+        at = (left + column * into.width, top + ROW * row)
+        if has_numbers:
+            drawing.circle(at[0] + 8, at[1], 7.5, fill=colour(circuit))
+            text = {"text_anchor": "middle", "font_weight": "bold", "fill": PAPER}
+            drawing.text(at[0] + 8, at[1] + 3, str(circuit.number), 8.5, **text)
+        _row(drawing, circuit, (at[0] + LEFT * has_numbers, at[1]), at[0] + into.width - 26)
 
 
-def _row(drawing: Drawing, scene: Scene, circuit: Circuit, at: tuple[float, float], width: float) -> None:
+def _row(drawing: Drawing, circuit: Circuit, at: tuple[float, float], right: float) -> None:
+    """The circuit's ends and its state, red where nothing carries it."""
     left, y = at
     is_lost = circuit.is_cut_off or circuit.call.state == "blocked"
-    if not scene.shows_load:
-        drawing.circle(left + 8, y, 7.5, fill=colour(circuit))
-        drawing.text(left + 8, y + 3, str(circuit.number), 8.5, text_anchor="middle", font_weight="bold", fill=PAPER)
     ink = FAULT if is_lost else INK
-    indent = 0.0 if scene.shows_load else LEFT
-    drawing.text(left + indent, y + 4, _ends(circuit), TEXT, fill=ink)
+    drawing.text(left, y + 4, _ends(circuit), TEXT, fill=ink)
     weight = "bold" if is_lost else "normal"
-    drawing.text(left + width - 26, y + 4, state_of(circuit), TEXT, fill=ink, text_anchor="end", font_weight=weight)
+    drawing.text(right, y + 4, state_of(circuit), TEXT, fill=ink, text_anchor="end", font_weight=weight)
 
 
 def _ends(circuit: Circuit) -> str:

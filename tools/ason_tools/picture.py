@@ -36,7 +36,7 @@ def draw(scene: Scene, with_labels: bool) -> str:
     below = grid.size(scene, width - MARGIN) if with_labels else (0.0, 0.0)
     drawing = Drawing(max(width, below[0] + MARGIN), height + below[1], scene.title, DARK)
     network_map.draw(drawing, made)
-    legend.draw_list(drawing, scene, list_at, told)
+    legend.draw_list(drawing, scene, list_at, told, with_labels or not scene.shows_load)
     legend.draw_key(drawing, *key_at, [scene])
     if with_labels:
         grid.draw(drawing, scene, (MARGIN / 2, height), width - MARGIN)
@@ -59,7 +59,7 @@ def draw_strip(scenes: list[Scene], with_labels: bool, title: str) -> str:
         drawing.text(left + MARGIN / 2, HEADING, scene.title, 18, fill=INK, font_weight="bold")
         with drawing.moved(left + (width - wide) / 2 - MARGIN):
             network_map.draw(drawing, made)
-        legend.draw_list(drawing, scene, (left + MARGIN / 2, lists), told[place])
+        legend.draw_list(drawing, scene, (left + MARGIN / 2, lists), told[place], with_labels or not scene.shows_load)
         if with_labels:
             grid.draw(drawing, scene, (left + MARGIN / 2, below), room)
     legend.draw_key(drawing, MARGIN / 2, bottom + legend.ROW, scenes)

@@ -6,7 +6,7 @@ last one: what has changed there at a node was changed by the one event of it be
 """
 
 import os
-from collections.abc import Iterable
+from collections.abc import Callable, Iterable
 from concurrent.futures import ThreadPoolExecutor
 from dataclasses import dataclass, field
 from itertools import pairwise
@@ -40,13 +40,21 @@ class _Window:
     makers: dict[str, int]
 
 
-def changes_of(data: bytes, trace: Trace, handed: Iterable[tuple[Delivery, Message]]) -> list[Change]:
-    """What each event of the trace changed, in their order. The trace is what these bytes spell."""
+def changes_of(
+    data: bytes, trace: Trace, handed: Iterable[tuple[Delivery, Message]], tell: Callable[[int, int], None]
+) -> list[Change]:
+    """What each event of the trace changed, in their order. The trace is what these bytes spell.
+
+    Meanwhile it is told how many of how many prefixes are checked.
+    """
     windows = _windows(trace, {id(entry) for entry, message in handed if message.type != "Ack"})
     lines = event_lines(data, trace)
     places = [windows[0].start, *(window.end for window in windows)] if windows else [0]
+    found = []
     with ThreadPoolExecutor(os.cpu_count()) as pool:
-        found = list(pool.map(lambda place: _table(trace, lines, place), places))
+        for table in pool.map(lambda place: _table(trace, lines, place), places):
+            found.append(table)
+            tell(len(found), len(places))
     if found[-1] != _ordered(trace.table):
         raise ToolError("it is no trace of a run: its table isn't the one to which its events lead")
     by_event: dict[int, Change] = {}

@@ -2,6 +2,7 @@
 
 import json
 import re
+from collections.abc import Callable
 from html import escape
 from pathlib import Path
 from typing import Any
@@ -12,7 +13,7 @@ from .courses import Heard, heard
 from .errors import ToolError
 from .groups import Group, changes
 from .prefixes import Change
-from .scene import COLOURS, DARK, Scene
+from .scene import COLOURS, DARK, LOADS, Scene
 from .tables import Call, Leg, Message
 from .traces import Delivery, Post, Trace
 
@@ -21,15 +22,16 @@ HERE = Path(__file__).resolve().parent
 Json = dict[str, Any]
 
 
-def page(data: bytes, trace: Trace, title: str) -> str:
-    """The document, which needs no other file and no network."""
+def page(data: bytes, trace: Trace, title: str, tell: Callable[[int, int], None]) -> str:
+    """The document, which needs no other file and no network. How far it is, is told meanwhile."""
     taken = frames.deliveries(data, trace)
     handed = list(frames.handed_up(taken))
     messages = heard(trace, handed)
-    found = prefixes.changes_of(data, trace, handed)
+    found = prefixes.changes_of(data, trace, handed, tell)
     told = {
         "title": title,
         "colours": COLOURS,
+        "loads": LOADS,
         "dark": [DARK[paint] for paint in COLOURS],
         **_map(trace),
         "changes": [_change(change) for change in found],

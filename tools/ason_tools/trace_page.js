@@ -36,8 +36,9 @@ function roundsOf() {
   const ticks = new Map(), found = [0];
   let most = 0;
   for (const line of lines) {
-    const [, node, word] = line.split(" ", 3);
-    if (word === "tick") {
+    const stamp = line.indexOf(" "), word = line.indexOf(" ", stamp + 1);
+    const node = line.slice(stamp + 1, word);
+    if (line.endsWith(" tick")) {
       ticks.set(node, (ticks.get(node) || 0) + 1);
       most = Math.max(most, ticks.get(node));
     }
@@ -169,23 +170,60 @@ function drawMap() {
   }
 }
 
-// The legs and the failures of this line.
+const MOST_LANES = 20, BROADEST = 26, FIBRE = 8;
+
+// The legs and the failures of this line: a lane for each LSP, or the load of the links and the call that was picked.
 function showMap() {
   const layer = byId("map-legs");
   layer.replaceChildren();
-  const failed = failedLinks(), onLink = new Map();
+  const failed = failedLinks(), onLink = new Map(), isLoad = NAMES.length > MOST_LANES;
   for (const [key, text] of state.legs) {
     const leg = legOf(key, text);
     if (leg.link) onLink.set(leg.link, [...(onLink.get(leg.link) || []), leg]);
   }
-  for (const [number, , , corners] of data.links) {
-    const line = byId(`link-${number}`), legs = onLink.get(number) || [];
-    const gap = Math.min(6, 42 / Math.max(1, legs.length));
-    line.setAttribute("stroke", failed.has(number) ? "var(--fault)" : "var(--faint)");
-    line.setAttribute("stroke-width", legs.length ? gap * (legs.length - 1) + 9 : 3);
-    line.setAttribute("stroke-opacity", legs.length ? 0.4 : 1);
-    legs.forEach((leg, place) => drawLeg(layer, leg, LINKS.get(number), gap * (place - (legs.length - 1) / 2), Math.min(3.6, gap * 0.7)));
-    if (failed.has(number)) drawCross(layer, isBetween(corners, 0.5), LINKS.get(number)[4]);
+  for (const link of data.links) {
+    const legs = onLink.get(link[0]) || [], isDown = failed.has(link[0]);
+    if (isLoad) drawLoad(layer, link, legs, isDown); else drawLanes(layer, link, legs, isDown);
+    if (isDown) drawCross(layer, isBetween(link[3], 0.5), link[4]);
+  }
+}
+
+function drawBed(link, width, isDown, opacity) {
+  const line = byId(`link-${link[0]}`);
+  line.setAttribute("stroke", isDown ? "var(--fault)" : "var(--faint)");
+  line.setAttribute("stroke-width", width);
+  line.setAttribute("stroke-opacity", opacity);
+}
+
+function drawLanes(layer, link, legs, isDown) {
+  const gap = Math.min(6, BROADEST / Math.max(1, legs.length));
+  drawBed(link, legs.length ? gap * (legs.length - 1) + 9 : 3, isDown, legs.length ? 0.4 : 1);
+  legs.forEach((leg, place) => drawLeg(layer, leg, link, gap * (place - (legs.length - 1) / 2), Math.min(3.6, gap * 0.7)));
+}
+
+// A band for each fibre, on the right of its direction: labels in use, then those that are reserved, in the colour of the load.
+function drawLoad(layer, link, legs, isDown) {
+  drawBed(link, 2 * FIBRE + 2, isDown, 0.4);
+  for (const [sender, side] of [[link[1], 1], [link[2], -1]]) {
+    const labels = new Map();
+    for (const leg of legs) {
+      const label = leg.outgoing.split("/")[1];
+      if (leg.node === sender && label !== "-") labels.set(label, labels.get(label) || leg.phase === "live");
+    }
+    const used = [...labels.values()].filter(Boolean).length, share = labels.size / link[5];
+    const paint = share >= 1 ? data.loads[4] : data.loads[Math.min(3, Math.floor(share * 4 - 1e-9))];
+    let from = 0.5;
+    for (const [count, opacity] of [[used, 1], [labels.size - used, 0.45]]) {
+      const width = count ? Math.max(1.2, FIBRE * count / link[5]) : 0;
+      const style = { points: pointsOf(lane(link[3], side * (from + width / 2))), fill: "none", stroke: paint, "stroke-width": width, "stroke-opacity": opacity };
+      if (count) make("svg:polyline", style, layer);
+      from += width;
+    }
+  }
+  const mine = legs.filter((leg) => state.picked && state.picked[0] === "call" && data.owners[leg.lsp] === state.picked[1]);
+  for (const leg of mine) {
+    make("svg:polyline", { points: pointsOf(link[3]), fill: "none", stroke: "var(--paper)", "stroke-width": 9 }, layer);
+    drawLeg(layer, leg, link, 0, 4);
   }
 }
 
@@ -272,6 +310,7 @@ function pick(kind, name) {
   if (!found.length) make("span", { class: "soft" }, room, "nothing happened there");
   room.scrollTop = 0;
   if (kind === "call") chooseRoute(name);
+  showMap();
 }
 
 const CONCERNS = {
