@@ -10,9 +10,9 @@ use Rattle.ason_base.specs.declared.ids.NodeId.{NodeId}
 use Rattle.ason_base.specs.declared.steps.Step.{Step}
 use Rattle.ason_base.specs.declared.tables.Leg.{Leg}
 use Rattle.mesh_rules.specs.declared.events.MeshEvent.{MeshEvent}
-use Rattle.mesh_rules.specs.Events.{IsRun, after, first_route, or_route, route_of, sent_at_ingress, step}
+use Rattle.mesh_rules.specs.Events.{IsRun, after, route_of, step}
 use Rattle.mesh_rules.specs.Legs.{is_asked}
-use Rattle.mesh_rules.specs.Machine.{Mesh, start}
+use Rattle.mesh_rules.specs.Machine.{start}
 use Rattle.lsp_laws.specs.CallLaw.{phase_of}
 use Rattle.lsp_laws.specs.HopLaw.{leg_at, mail_between}
 use Rattle.lsp_laws.specs.HopShapes.{AskedLeg, leg_kind, phase_kind}
@@ -32,6 +32,7 @@ use Rattle.mesh_laws.proofs.decided.AskedGoal.{asked_goal, asked-soon}
 use Rattle.mesh_laws.proofs.soon.Words.{both}
 use Rattle.mesh_laws.proofs.decided.AskedWas.{asked-was}
 use Rattle.mesh_laws.proofs.soon.Soon.{AllGood, reached, nearer}
+use Rattle.mesh_laws.proofs.soon.AtFailure.{route-stays}
 
 -- Words
 
@@ -61,19 +62,6 @@ one-end t from a b route first second =
     go : (o : Option NodeId) → is_end o a ≡ true → is_end o b ≡ true → a ≡ b
     go None x y = absurd (cc x)
     go (Some n) x y = same_node a b (let p : n.0 ≡ a.0 = grind arith in let q : n.0 ≡ b.0 = grind arith in sym p ∙ q)
-
--- a route that was sent stays
-route-longer : (t : Network) (s : Mesh) (a b : List MeshEvent) (l : Lsp) (route : List Step) →
-    route_of t s a l ≡ Some route → route_of t s (a ++ b) l ≡ Some route
-route-longer t s [] b l route e = absurd (cc e)
-route-longer t s (x ∷ a) b l route e =
-    go (first_route l (sent_at_ingress t s x l)) e (λ h. route-longer t (step t s x) a b l route h)
-  where
-    go : (o : Option (List Step)) → or_route o (route_of t (step t s x) a l) ≡ Some route →
-        (route_of t (step t s x) a l ≡ Some route → route_of t (step t s x) (a ++ b) l ≡ Some route) →
-        or_route o (route_of t (step t s x) (a ++ b) l) ≡ Some route
-    go None h again = again h
-    go (Some r) h again = h
 
 module _ (t : Network) (l : Lsp) (route : List Step) (end : NodeId) where
   abbrev p : Plan
@@ -108,7 +96,7 @@ module _ (t : Network) (l : Lsp) (route : List Step) (end : NodeId) where
       let longer : IsRun t start (done ++ e ∷ []) = run-first t start (done ++ e ∷ []) todo more in
       let now : IsRun t start done = run-first t start done (e ∷ todo) run in
       let next : after t start (done ++ e ∷ []) ≡ step t (after t start done) e = after-append t start done (e ∷ []) in
-      let sent' = route-longer t start done (e ∷ []) l route sent in
+      let sent' = route-stays t start done (e ∷ []) l route sent in
       let rest = along (done ++ e ∷ []) todo more sent' made
       (subst (λ x. is_waiting (leg_at (after t x todo) l l.ingress) ≡ true) (sym next) waits) in
       let here = known done now sent made in

@@ -1,6 +1,6 @@
 -- Along the events since the failure what the goal needs is there at each state.
-use Rattle.std.proofs.Common.{◌<◌, append-nil, ◌≡◌, ℕ, suc, Bool, true, false, nat_eq, List, [], ◌∷◌, ◌++◌, refl, sym, ◌∙◌, ap, subst}
-use Rattle.std.specs.Prelude.{◌&&◌, Some, slice_get}
+use Rattle.std.proofs.Common.{append_assoc, ◌<◌, append-nil, ◌≡◌, ℕ, suc, true, false, nat_eq, List, [], ◌∷◌, ◌++◌, refl, sym, ◌∙◌, ap, subst}
+use Rattle.std.specs.Prelude.{Some, slice_get}
 use Rattle.std.specs.List.{AllByRecursion}
 use Rattle.ason_base.specs.Network.{IsTopology, Network, find_link}
 use Rattle.ason_base.specs.declared.calls.CallState.{CallState}
@@ -30,11 +30,11 @@ use Rattle.mesh_laws.proofs.soon.Roles.{Fixed, Roles, Scene}
 use Rattle.mesh_laws.proofs.soon.Scenes.{scene}
 use Rattle.mesh_laws.proofs.soon.Soon.{AllGood}
 use Rattle.mesh_laws.proofs.soon.Struck.{alarm-known}
-use Rattle.mesh_laws.proofs.soon.Swept.{append-assoc}
 use Rattle.mesh_laws.specs.SoonLaw.{PostsNothing}
 use Rattle.ason_base.specs.declared.ids.NodeId.{NodeId}
 use Rattle.lsp_laws.proofs.hops.HopLaws.{follows}
 use Rattle.lsp_laws.proofs.hops.Planned.{Follows}
+use Rattle.mesh_laws.proofs.soon.Words.{and-none}
 
 -- a call that has its backup stands
 pub backed-standing : (f : CallState) → has_backup f ≡ true → is_standing_call f ≡ true
@@ -53,10 +53,6 @@ no-release k [] all = refl
 no-release k (Order c ∷ items) all = absurd all.0
 no-release k (Alarm f ∷ items) all = refl
 no-release k (Clear f ∷ items) all = absurd all.0
-
-and-none : (b : Bool) → (b && false) ≡ false
-and-none true = refl
-and-none false = refl
 
 -- nor does any other event, while no order waits
 pub unreleased : (s : Mesh) (n : ℕ) (k : CallNo) (e : MeshEvent) → NoneUp s → is_released_by s n k e ≡ false
@@ -210,6 +206,6 @@ module _ (t : Network) (valid : IsTopology t) (g : Group) (r : Roles) (fixed : F
         },
         subst (λ x. AllGood t (failure_goal t r) x todo) next
             (all-good (done ++ e ∷ []) todo more only.1 (subst (λ x. NoneRefused t x todo) (sym next) none.2)
-            (λ first later parts. subst Tells (sym (append-assoc done (e ∷ []) first))
+            (λ first later parts. subst Tells (sym (append_assoc done (e ∷ []) first))
             (tells (e ∷ first) later (ap (λ xs. e ∷ xs) parts))) known'),
       )

@@ -1,5 +1,5 @@
 -- The call that is guarded as the group fails.
-use Rattle.std.proofs.Common.{append-nil, ◌≡◌, ℕ, Bool, true, false, List, [], ◌∷◌, ◌++◌, refl, sym, ap, subst}
+use Rattle.std.proofs.Common.{append_assoc, append-nil, ◌≡◌, ℕ, Bool, true, false, List, [], ◌∷◌, ◌++◌, refl, sym, ap, subst}
 use Rattle.std.specs.Prelude.{Option, Some, None}
 use Rattle.std.specs.List.{AllByRecursion}
 use Rattle.ason_base.specs.Network.{IsTopology, Network}
@@ -35,7 +35,6 @@ use Rattle.mesh_laws.proofs.restoration.Calls.{BackupThere, backup-there}
 use Rattle.mesh_laws.specs.SoonLaw.{IsStruck, PostsNothing}
 use Rattle.mesh_laws.proofs.soon.NoneUp.{NoneUp}
 use Rattle.mesh_laws.proofs.soon.AtStart.{none-up-at-first}
-use Rattle.mesh_laws.proofs.soon.Swept.{append-assoc}
 
 -- Its state
 
@@ -146,7 +145,7 @@ module _ (t : Network) (valid : IsTopology t) (events : List MeshEvent) (run : I
       IsRun t start ((struck.before ++ Post (Fail g) ∷ []) ++ first)
   run-to first later parts =
       run-first t start (base ++ first) later
-      (subst (IsRun t start) (sym (append-assoc base first later))
+      (subst (IsRun t start) (sym (append_assoc base first later))
       (subst (λ xs. IsRun t start (base ++ xs)) (sym parts) whole-run))
 
   abbrev alone-to : (first later : List MeshEvent) → first ++ later ≡ struck.since → Alone t (base ++ first) g

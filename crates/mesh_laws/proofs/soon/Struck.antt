@@ -21,6 +21,7 @@ use Rattle.lsp_laws.specs.ReportLaw.{DesksTell, after_items}
 use Rattle.lsp_laws.proofs.hops.Plans.{same}
 use Rattle.mesh_laws.proofs.reports.KnownFibres.{has-more, same_fibre-is}
 use Rattle.mesh_laws.proofs.soon.Swept.{StandsIn}
+use Rattle.mesh_laws.proofs.soon.Words.{and-none}
 
 -- The alarm is there
 
@@ -28,10 +29,6 @@ behind-one : (f : Fibre) (i : DeskItem) (items : List DeskItem) →
     (before : List DeskItem) × StandsIn items (Alarm f) before →
     (before : List DeskItem) × StandsIn (i ∷ items) (Alarm f) before
 behind-one f i items later = (i ∷ later.0, record { later = later.1.later; all = ap (λ xs. i ∷ xs) later.1.all })
-
-and-none : (b : Bool) → (b && false) ≡ false
-and-none true = refl
-and-none false = refl
 
 at-alarm : (f g : Fibre) (items : List DeskItem) (b : Bool) → same_fibre f g ≡ b →
     after_items f (same_fibre f g || false) items ≡ true →

@@ -1,5 +1,5 @@
 -- What stands in a list stays there until it is taken, and in a sweep it is taken; so it is with what is on a desk.
-use Rattle.std.proofs.Common.{◌≡◌, ◌<◌, ℕ, suc, Bool, true, false, cond, nat_eq, List, [], ◌∷◌, ◌++◌, drop, length, refl, sym, ap, subst, arith, append-nil}
+use Rattle.std.proofs.Common.{append_assoc, ◌≡◌, ◌<◌, ℕ, suc, Bool, true, false, cond, nat_eq, List, [], ◌∷◌, ◌++◌, drop, length, refl, sym, ap, subst, arith, append-nil}
 use Rattle.std.specs.Prelude.{◌&&◌}
 use Rattle.ason_base.specs.Network.{Network, find_link}
 use Rattle.ason_base.specs.declared.commands.Command.{Command}
@@ -17,11 +17,6 @@ use Rattle.mesh_rules.specs.Machine.{Mesh, commit, sent_to, without_first, witho
 use Rattle.mesh_laws.specs.Sweeps.{handled_at, handles_one, taken, takes_one, IsSweep}
 
 -- Lists
-
--- lists one behind the other
-pub append-assoc : {X : Type 0} (a b c : List X) → (a ++ b) ++ c ≡ a ++ (b ++ c)
-append-assoc [] b c = refl
-append-assoc (x ∷ a) b c = ap (λ xs. x ∷ xs) (append-assoc a b c)
 
 -- one list is what is left of the other without its first k members, with more behind it
 pub record MovesOn {X : Type 0} (k : ℕ) (old new : List X) : Type 0 where
@@ -131,7 +126,7 @@ pub data Turn {X : Type 0} (k : ℕ) (ys : List X) (x : X) (before : List X) : T
 
 -- what stood behind these, and still does where none was taken
 still-in : {X : Type 0} (x : X) (before later more : List X) → StandsIn ((before ++ x ∷ later) ++ more) x before
-still-in x before later more = record { later = later ++ more; all = append-assoc before (x ∷ later) more }
+still-in x before later more = record { later = later ++ more; all = append_assoc before (x ∷ later) more }
 
 turned : {X : Type 0} (k : ℕ) (b : Bool) → k ≡ cond b 1 0 → (xs ys : List X) (x : X) (before later more : List X) →
     xs ≡ before ++ x ∷ later → ys ≡ drop k xs ++ more → Turn k ys x before

@@ -1,4 +1,4 @@
--- Which event takes a message, and which handles an item of a desk.
+-- Tests, and which event takes a message or handles an item of a desk.
 use Rattle.std.proofs.Common.{◌≡◌, ℕ, Bool, true, false, cond, nat_eq, refl, arith}
 use Rattle.std.specs.Prelude.{◌&&◌}
 use Rattle.ason_base.specs.declared.ids.NodeId.{NodeId}
@@ -12,6 +12,11 @@ pub both : (a b : Bool) → (a && b) ≡ true → (a ≡ true) × (b ≡ true)
 both true true e = (refl, refl)
 both true false e = absurd (cc e)
 both false b e = absurd (cc e)
+
+-- a test, and one that fails
+pub and-none : (b : Bool) → (b && false) ≡ false
+and-none true = refl
+and-none false = refl
 
 is-one : (b : Bool) → ◌≡◌ {A = ℕ} (cond b 1 0) 1 → b ≡ true
 is-one true e = refl
