@@ -7,6 +7,7 @@ pub mod CallParts
 pub mod CallStepKeeps
 pub mod CallTouched
 pub mod CallMoves
+pub mod CallOver
 pub mod CallWalk
 pub mod CallWays
 pub mod CallChanges

@@ -7,6 +7,5 @@ pub mod MovesOn
 pub mod Moving
 pub mod OtherLegs
 pub mod Others
-pub mod Over
 pub mod Sources
 pub mod Waits

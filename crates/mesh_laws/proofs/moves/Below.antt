@@ -30,7 +30,7 @@ use Rattle.lsp_laws.proofs.nodes.CallWalk.{message-holds}
 use Rattle.lsp_laws.proofs.nodes.CallWays.{Becomes, Way}
 use Rattle.lsp_laws.proofs.nodes.OrderWalk.{alarm-holds, clear-holds, protect-holds, release-holds, retry-holds, revert-holds, tick-holds}
 use Rattle.mesh_laws.proofs.moves.Moved.{becomes-moved}
-use Rattle.mesh_laws.proofs.moves.Over.{AnySent}
+use Rattle.lsp_laws.proofs.nodes.CallOver.{AnySent}
 use Rattle.lsp_laws.proofs.nodes.SetupsHold.{setup-holds}
 use Rattle.lsp_laws.proofs.nodes.Facts.{MeshFacts}
 use Rattle.lsp_laws.proofs.nodes.NodeRuns.{facts-hold, facts-start, facts-step}

@@ -13,7 +13,7 @@ use Rattle.mesh_rules.specs.declared.events.MeshEvent.TheVariants.{Take, Desk, T
 use Rattle.mesh_rules.specs.Machine.{Mesh}
 use Rattle.lsp_laws.proofs.nodes.CallWays.{Removed, Reported, Reverted, Ticked}
 use Rattle.mesh_laws.specs.SourceLaw.{HandlesRevert, HasTicked, IsRefused, IsReverted, IsTold, ItTicks, TakesNotify, TakesRemoval}
-use Rattle.mesh_laws.proofs.moves.Over.{CameOver, IsAt, IsFirst, IsFirstOrder}
+use Rattle.lsp_laws.proofs.nodes.CallOver.{CameOver, IsAt, IsFirst, IsFirstOrder}
 
 no_order-reports : (items : List DeskItem) → IsFirstOrder items Reported → ⊥
 no_order-reports [] came = came

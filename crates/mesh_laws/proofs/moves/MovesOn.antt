@@ -10,7 +10,7 @@ use Rattle.lsp_laws.proofs.nodes.NodeRuns.{facts-hold}
 use Rattle.mesh_laws.specs.MovesLaw.{EveryCallMovesOn, MovesOn}
 use Rattle.mesh_laws.proofs.moves.Moved.{becomes-moved}
 use Rattle.mesh_laws.proofs.moves.Moving.{IsSameCall, moves-none}
-use Rattle.mesh_laws.proofs.moves.Over.{AnySent, CameOver, step-stands}
+use Rattle.lsp_laws.proofs.nodes.CallOver.{AnySent, CameOver, step-stands}
 
 moved-on : (t : Network) (c d : CallRec) → IsSameCall t.wait c d → MovesOn c d
 moved-on t c d same = record {

@@ -36,7 +36,7 @@ use Rattle.lsp_laws.proofs.nodes.CallWays.{Becomes, ByRetry, ByRevert, AtOnce, W
 use Rattle.lsp_laws.proofs.nodes.OrderWalk.{work-names}
 use Rattle.mesh_laws.proofs.acts.Tests.{stuck-is, turned-is}
 use Rattle.mesh_laws.proofs.moves.Moved.{becomes-moved}
-use Rattle.mesh_laws.proofs.moves.Over.{AnySent}
+use Rattle.lsp_laws.proofs.nodes.CallOver.{AnySent}
 
 -- k is the number of another call
 module _ (k : CallNo) where

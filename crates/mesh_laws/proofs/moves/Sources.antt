@@ -25,7 +25,7 @@ use Rattle.lsp_laws.proofs.nodes.Facts.{MeshFacts}
 use Rattle.lsp_laws.proofs.nodes.NodeRuns.{facts-hold}
 use Rattle.mesh_laws.specs.SourceLaw.{CameBack, EveryCodeHasSource, EveryTurnedCallWaits, HasSource, IsHit, IsOrdered, IsRefused, IsReported, IsReverted, IsStuckBusy, IsTicked, IsUnchanged, LacksLabelBack, TurnedBecomes, WasThere}
 use Rattle.mesh_laws.proofs.acts.Tests.{any-some, bare-is, none-any}
-use Rattle.mesh_laws.proofs.moves.Over.{AnySent, CameOver, IsAt, step-stands}
+use Rattle.lsp_laws.proofs.nodes.CallOver.{AnySent, CameOver, IsAt, step-stands}
 use Rattle.mesh_laws.proofs.moves.Came.{refused, reverted, ticks, told}
 
 -- Turned calls

@@ -31,16 +31,15 @@ use Rattle.mesh_nodes.proofs.CallList.{find-with_call, find-without_call, found-
 use Rattle.mesh_nodes.proofs.Cases.{if_cases}
 use Rattle.lsp_laws.specs.StandLaw.{is_first_release, is_release_of, is_released_by}
 use Rattle.lsp_laws.proofs.nodes.CallParts.{number-is}
-use Rattle.lsp_laws.proofs.nodes.CallChanges.{AreChanges, EachCall}
+use Rattle.lsp_laws.proofs.nodes.CallChanges.{AreChanges, EachCall, OfAny}
 use Rattle.lsp_laws.proofs.nodes.SetupsHold.{setup-holds}
 use Rattle.lsp_laws.proofs.nodes.CallWalk.{message-holds}
 use Rattle.lsp_laws.proofs.nodes.CallWays.{Becomes, IsWayOf, Retried, Reverted, Ticked, Way}
 use Rattle.lsp_laws.proofs.nodes.OrderWalk.{alarm-holds, clear-holds, protect-holds, release-holds, retry-holds, revert-holds, tick-holds}
 use Rattle.ason_base.specs.declared.tables.Out.{Out}
-use Rattle.mesh_laws.proofs.moves.Moved.{becomes-moved}
+use Rattle.lsp_laws.proofs.nodes.SameCalls.{becomes-same}
 
--- what came to a node, over an event
-
+-- what came to a node over an event: the first message of a list
 abbrev pub IsFirst : List Msg → Way → Type 0
 IsFirst [] way = ⊥
 IsFirst (m ∷ ms) way = IsWayOf m way
@@ -120,7 +119,8 @@ module _ (k : CallNo) (c : CallRec) (Q : CallRec → Type 0) (itself : Q c) wher
       (found : find_call k s.calls ≡ Some c) where
     keeps : (d e : CallRec) → Becomes p s W AnySent d e → IsOne d → On e
     keeps d e way one number =
-        let is : d ≡ c = one (sym (becomes-moved p.wait p s W AnySent refl d e way).number ∙ number) in
+        let same = becomes-same OfAny p s W AnySent (λ g m j f found first into. tt) d e way in
+        let is : d ≡ c = one (sym same.moves.number ∙ number) in
         made e (subst (λ x. Becomes p s W AnySent x e) is way)
 
     one : EachCall IsOne s.calls
