@@ -11,6 +11,7 @@ export PYTHONPATH
 end() {
     # shellcheck disable=SC2086  # each is a number
     kill $started 2>"$room/ended"
+    wait
     rm -rf "$room"
 }
 started=

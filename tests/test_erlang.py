@@ -184,7 +184,7 @@ class ToolTest(unittest.TestCase):
             (["--least", "0"], loads),
             (["--step", "0"], loads),
             (["--least", "9", "--most", "8"], loads),
-            (["--labels", "81"], "the standard input: --labels is 1 to 80"),
+            (["--labels", "81"], "--labels is 1 to 80"),
             (["--seeds", "0"], "--arrivals and --seeds are at least 1, and --warm-up is at least 0"),
             (["--arrivals", "9000"], f"10 Erlang need more than 4,096 setups, which no plan has: {fewer}"),
         ]

@@ -104,6 +104,7 @@ class JsonTest(unittest.TestCase):
             "built asking 0\n": "it isn't what ason load prints",
             "x: the plan has no fault\nhello\n": "the line 'hello' isn't what tools/why prints",
             "x: the plan has no fault\n    hello\n": "line 2 isn't what tools/why prints",
+            "x: the plan has no fault\n1 of 1 calls: blocked\nhello\n": "a line isn't what tools/why --sum prints",
             "no node a b\n": "line 1 isn't what ason route prints",
         }
         for text, sentence in cases.items():
@@ -156,6 +157,9 @@ class SumTest(unittest.TestCase):
         ends = ["a b", "a b", "a b", "a b", "b a", "b a", "b a"]
         script = [line for number, pair in enumerate(ends, 1) for line in (f"setup c{number} {pair} unprotected via 1", "settle 99")]
         ended = tool("why", "-", "--sum", given=plan_text([*script, "setup c8 c d via 3"]))
+        (part,) = json.loads(tool("table-json", given=ended.out).out)
+        self.assertEqual((part["part"], part["calls"], list(part["counts"].values())), ("sum", 8, [3, 1]))
+        self.assertEqual(part["refusals"][0], {"link": 1, "source": "a", "target": "b", "calls": 2})
         self.assertEqual(
             ended.out.splitlines()[1:],
             [

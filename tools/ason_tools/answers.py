@@ -59,6 +59,26 @@ class Why:
 
 
 @dataclass(frozen=True)
+class Refusal:
+    """A fibre that refuses blocked calls, and how many."""
+
+    link: int
+    source: str
+    target: str
+    calls: int
+
+
+@dataclass(frozen=True)
+class Sums:
+    """What `tools/why --sum` tells: of how many calls, how many are how, and which fibres refuse them."""
+
+    plan: str
+    calls: int
+    counts: dict[str, int]
+    refusals: tuple[Refusal, ...]
+
+
+@dataclass(frozen=True)
 class Fault:
     """What `tools/why` tells of a plan that is refused: where the fault is, if it shows, the line's text, and what is wrong."""
 
@@ -70,12 +90,14 @@ class Fault:
     sentences: tuple[str, ...]
 
 
-Answer = Survey | Routes | Best | NoRoutes | Load | Why | Fault
+Answer = Survey | Routes | Best | NoRoutes | Load | Why | Sums | Fault
 
 _TOTAL = re.compile(r"total (\d+)")
 _ROUTE = re.compile(r"(?:primary|backup) (\d+) (\d+(?:,\d+)*)")
 _COUNTS = re.compile(rf"({'|'.join(PHASES)}) " + " ".join(rf"{state} (\d+)" for state in STATES))
 _CALL = re.compile(r"call (\S+) from (\S+) to (\S+) is (\w+)(?:, cause (\S+))?")
+_COUNT = re.compile(r"(\d+) of (\d+) calls: (.+)")
+_REFUSES = re.compile(r"link (\d+) from (\S+) to (\S+) refuses (\d+) blocked calls?")
 _SOUND = re.compile(r"(.*): the plan has no fault")
 _FAULT = re.compile(r"(.*?)(?::(\d+):(\d+))?: refused (?:plan (\w+(?: \d+)?) (\w+)|input too long)")
 
@@ -117,8 +139,10 @@ def _load(text: str) -> Load:
     return Load({it[1]: dict(zip(STATES, map(int, it.groups()[1:]))) for it in found})
 
 
-def _why(text: str) -> Why:
+def _why(text: str) -> Why | Sums:
     first, *lines = text.splitlines()
+    if lines and _COUNT.fullmatch(lines[0]):
+        return _sums(_SOUND.fullmatch(first)[1], lines)
     calls: list[Cause] = []
     for is_sentence, group in groupby(lines, lambda line: line.startswith("    ")):
         rows = [line.strip() for line in group]
@@ -130,6 +154,15 @@ def _why(text: str) -> Why:
         else:
             raise ToolError("line 2 isn't what tools/why prints")
     return Why(_SOUND.fullmatch(first)[1], tuple(calls))
+
+
+def _sums(path: str, lines: list[str]) -> Sums:
+    counts = list(filter(None, map(_COUNT.fullmatch, lines)))
+    refusals = list(filter(None, map(_REFUSES.fullmatch, lines)))
+    if len(counts) + len(refusals) < len(lines):
+        raise ToolError("a line isn't what tools/why --sum prints")
+    fibres = tuple(Refusal(int(it[1]), it[2], it[3], int(it[4])) for it in refusals)
+    return Sums(path, int(counts[0][2]), {it[3]: int(it[1]) for it in counts}, fibres)
 
 
 def _cause(line: str) -> Cause:

@@ -87,8 +87,8 @@ def csv_text(rows: Iterable[Iterable[object]]) -> str:
 
 
 def cores() -> int:
-    """How many runs go side by side without a wish."""
-    return len(os.sched_getaffinity(0))
+    """How many runs go side by side without a wish: one for each processor that this process may use, where that is known."""
+    return len(os.sched_getaffinity(0)) if hasattr(os, "sched_getaffinity") else os.cpu_count() or 1
 
 
 def add_words(parser: command.Parser) -> None:
