@@ -42,8 +42,9 @@ use Rattle.mesh_laws.specs.RestedLaw.{AreOpposite, Arrives, Leaves}
 
 -- Labels
 
--- A leg of the node keeps an LSP of this role off the label x of the fibre f: light of x on f arrives at it, and one of the
--- two is a working LSP, or both are backups whose primaries have a risk in common. risks: those of the LSP's primary.
+-- A leg of the node keeps an LSP of this role off the label x of the fibre f: light of x on f arrives at it, and one of
+-- the two is a working LSP, or both are backups whose primaries have a risk in common. risks: those of the LSP's
+-- primary.
 pub record KeepsOff (legs : List Leg) (r : Role) (risks : List Risk) (f : Fibre) (x : ℕ) : Type 0 where
   pub leg : Leg
   pub there : Contains legs leg
@@ -103,8 +104,8 @@ pub data HasCause (t : Network) (x : NodeState) (d : NodeId) (m : Asked) (code :
       KeepsOff x.legs (asks_as m.role) (risks_of_primary (known_rows (local_node t d) x) m.role) f y) →
       HasCause t x d m code
 
--- A Path of an LSP that has no leg at d comes from another node, and what d sends back is a PathErr of its own: it has a
--- cause. None is that its route doesn't lead on, which never comes.
+-- A Path of an LSP that has no leg at d comes from another node, and what d sends back is a PathErr of its own: it has
+-- a cause. None is that its route doesn't lead on, which never comes.
 abbrev pub RefusalsHaveCauses : Network → List MeshEvent → Type 0
 RefusalsHaveCauses t events =
     (u d e : NodeId) (l : Lsp) (k : LinkId)
@@ -141,8 +142,8 @@ pub data SetupCause (t : Network) (x : NodeState) (n to : NodeId) (via : Option 
       GoesOver via (IsWalk (known_rows (local_node t n) x) NoLink NoNode n to) (hop ∷ rest) → IsLinkAt t n hop.link out → AreOpposite (fibre_out out n) f →
       ((y : ℕ) → 1 ≤ y → y ≤ out.labels → KeepsOff x.legs role.Work [] f y) → SetupCause t x n to via both cause
 
--- why the ingress n, which keeps x, doesn't get a backup for the call c beside the working LSP, whose route was the primary;
--- o: the route on which each LSP was sent
+-- why the ingress n, which keeps x, doesn't get a backup for the call c beside the working LSP, whose route was the
+-- primary; o: the route on which each LSP was sent
 pub data BackupCause (t : Network) (o : Lsp → Option (List Step)) (x : NodeState) (n : NodeId) (c : CallRec)
     (cause : Cause) : Type 0 where
   -- n doesn't know a link of the primary
@@ -175,8 +176,8 @@ pub data BackupCause (t : Network) (o : Lsp → Option (List Step)) (x : NodeSta
 abbrev pub Uses : Fibre → ℕ → Leg → Type 0
 Uses f x g = Arrives f x g ⊎ Leaves f x g
 
--- the leg of another backup that is being activated, is activated, or waits after that to be let go uses a label that this
--- leg uses
+-- the leg of another backup that is being activated, is activated, or waits after that to be let go uses a label that
+-- this leg uses
 pub record IsBusy (legs : List Leg) (own : Leg) : Type 0 where
   pub other : Leg
   pub fibre : Fibre
@@ -188,8 +189,8 @@ pub record IsBusy (legs : List Leg) (own : Leg) : Type 0 where
   pub own_uses : Uses fibre label own
   pub other_uses : Uses fibre label other
 
--- A Path of an LSP whose leg stands at d comes from another node, and what d sends back is a PathErr that removes nothing:
--- it says busy, and the leg is.
+-- A Path of an LSP whose leg stands at d comes from another node, and what d sends back is a PathErr that removes
+-- nothing: it says busy, and the leg is.
 abbrev pub BusyLegsAreBusy : Network → List MeshEvent → Type 0
 BusyLegsAreBusy t events =
     (u d e : NodeId) (l : Lsp) (k : LinkId)
@@ -206,8 +207,8 @@ abbrev pub EveryBusyIsBusy : Type 0
 EveryBusyIsBusy =
     (t : Network) (events : List MeshEvent) → IsRun t start events → BusyLegsAreBusy t events
 
--- A Resv comes to d from another node than the previous one of the leg, and what d sends to that one is a PathErr of its
--- own: each label that was offered and may go on from the one that came is kept off.
+-- A Resv comes to d from another node than the previous one of the leg, and what d sends to that one is a PathErr of
+-- its own: each label that was offered and may go on from the one that came is kept off.
 abbrev pub LacksHaveCauses : Network → List MeshEvent → Type 0
 LacksHaveCauses t events =
     (u d v e : NodeId) (l : Lsp) (k : LinkId) (x : ℕ)
@@ -225,8 +226,8 @@ abbrev pub EveryLackHasCause : Type 0
 EveryLackHasCause =
     (t : Network) (events : List MeshEvent) → IsRun t start events → LacksHaveCauses t events
 
--- A Resv comes to the ingress n of a protected call, of the working LSP that the call waits for. The call stays as it is, or
--- a backup is asked for, or it stands without one for a cause.
+-- A Resv comes to the ingress n of a protected call, of the working LSP that the call waits for. The call stays as it
+-- is, or a backup is asked for, or it stands without one for a cause.
 abbrev pub LoneCallsHaveCauses : Network → List MeshEvent → Type 0
 LoneCallsHaveCauses t events =
     (u n e : NodeId) (l : Lsp)
@@ -255,8 +256,8 @@ pub record IsToldOf (code : ErrCode) (c d : CallRec) : Type 0 where
   pub work : c.state ≡ Asking → (d.state ≡ Blocked) × (d.work ≡ None)
   pub back : c.state ≡ Pairing → (d.state ≡ Bare) × (d.back ≡ None)
 
--- A PathErr that gives up an LSP comes to its ingress, where a call asks for the LSP: the call is told of the refusal with
--- the code that came.
+-- A PathErr that gives up an LSP comes to its ingress, where a call asks for the LSP: the call is told of the refusal
+-- with the code that came.
 abbrev pub RefusalsAreTold : Network → List MeshEvent → Type 0
 RefusalsAreTold t events =
     (u n e at_node : NodeId) (l : Lsp) (code : ErrCode)

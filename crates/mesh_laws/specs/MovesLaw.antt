@@ -44,8 +44,8 @@ may_move before later = false
 abbrev pub IsDownTwice : CallRec → Type 0
 IsDownTwice d = (d.work_reports ≢ []) × (d.back_reports ≢ [])
 
--- d is the call c after an event: it stands as it was ordered, and has moved as the table says; a blocked call keeps its
--- cause; and a cause BackDown that it hadn't before comes only where fibres of both its LSPs are reported
+-- d is the call c after an event: it stands as it was ordered, and has moved as the table says; a blocked call keeps
+-- its cause; and a cause BackDown that it hadn't before comes only where fibres of both its LSPs are reported
 pub record MovesOn (c d : CallRec) : Type 0 where
   pub number : d.call ≡ c.call
   pub egress : d.egress ≡ c.egress

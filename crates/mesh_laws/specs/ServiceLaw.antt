@@ -26,8 +26,8 @@ pub record Serves (t : Network) (events : List MeshEvent) : Type 0 where
   pub of_link : LabelsAreOfLinks t events
   -- Rest: once no message is under way and each desk is empty,
 
-  -- no label is held for a call that is gone: each leg is of a call that stands, in the phase of its state, at each node of
-  -- its route and no other
+  -- no label is held for a call that is gone: each leg is of a call that stands, in the phase of its state, at each
+  -- node of its route and no other
   pub rested : IsQuiet (after t start events) → NothingIsLeft t events
   -- what is sent into each fibre is taken out of it at its other end, label by label, and nothing else is
   pub taken : IsQuiet (after t start events) → SentIsTaken t (after t start events)
@@ -47,7 +47,8 @@ pub record Serves (t : Network) (events : List MeshEvent) : Type 0 where
   pub torn : TornLegsGiveUp t events
   -- Refusals
 
-  -- a node refuses an LSP only for want of labels or of room, for a fibre that is down, or for a risk that it doesn't know
+  -- a node refuses an LSP only for want of labels or of room, for a fibre that is down, or for a risk that it doesn't
+  -- know
   pub caused : RefusalsHaveCauses t events
   -- an activation is refused only where another backup uses a label of this one
   pub busy : BusyLegsAreBusy t events
@@ -65,7 +66,8 @@ pub record Serves (t : Network) (events : List MeshEvent) : Type 0 where
   pub blocked : BlockedCallsStay t events
   -- a turned call changes only by a tick of its node, by a report, or by an order to go back
   pub turned : TurnedCallsWait t events
-  -- a code is a call's cause only where a PathErr brought it, where the backup is busy, or where a first link has no label
+  -- a code is a call's cause only where a PathErr brought it, where the backup is busy, or where a first link has no
+  -- label
   pub coded : CodesHaveSources t events
   -- a tick counts in each call that waits to go back, at the end of the wait it goes back, and no other call changes
   pub counted : TicksCount t events

@@ -43,8 +43,8 @@ pub data IsReverted (s : Mesh) (n : ℕ) (k : CallNo) : MeshEvent → Type 0 whe
 pub data HasTicked (n : ℕ) : MeshEvent → Type 0 where
   ItTicks : (m : NodeId) → n ≡ m.0 → HasTicked n (Tick m)
 
--- What becomes of a turned call c, by the event e: d. Only a tick of its node, a Notify that the node takes, or an order
--- changes it.
+-- What becomes of a turned call c, by the event e: d. Only a tick of its node, a Notify that the node takes, or an
+-- order changes it.
 pub data TurnedBecomes (s : Mesh) (n : ℕ) (e : MeshEvent) (c d : CallRec) : Type 0 where
   IsUnchanged : d ≡ c → TurnedBecomes s n e c d
   -- a report: it is turned still, and its count begins anew where its working LSP is hit

@@ -16,7 +16,8 @@ use Rattle.mesh_rules.specs.Machine.{start}
 abbrev pub Waits : ℕ → CallRec → Type 0
 Waits wait c = (1 ≤ wait) × (c.state ≡ Turned) × (c.work_reports ≡ [])
 
--- d is what a tick makes of c: it waits a tick more, or at the end of the wait it goes back; any other call stays as it is
+-- d is what a tick makes of c: it waits a tick more, or at the end of the wait it goes back; any other call stays as it
+-- is
 pub record TickCounts (wait : ℕ) (c d : CallRec) : Type 0 where
   pub counts : Waits wait c → c.ticks + 1 < wait → d ≡ record c { ticks = c.ticks + 1 }
   pub ends : Waits wait c → wait ≤ c.ticks + 1 → d ≡ record c { state = Guarded; cause = Unset; ticks = 0 }

@@ -111,8 +111,8 @@ ghost use Rattle.mesh_laws.specs.SurveyLaw.{NoSurveyedContend};
 /// follow while nothing more is posted and no node ticks (`ends`), and where no such event is
 /// enabled no message is under way and each desk is empty (`quiet`).
 ///
-/// What all clauses but `searchable`, `calm` and `quiet` say of one state, and `no_contend` with
-/// them, the last one says in one word (`together`). It says two things more of what the state's
+/// What all clauses but `searchable`, `calm` and `quiet` say of one state, and `no_contend` and the
+/// laws of service with them, the last one says in one word (`together`). It says two things more of what the state's
 /// rows show, over a topology: their survey lists all calls that would contend; and the state is
 /// calm where it is quiet, no group has failed and each backup's leg is Asked or Held.
 pub fn every_run()

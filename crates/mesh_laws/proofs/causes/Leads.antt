@@ -20,8 +20,8 @@ use Rattle.lsp_laws.proofs.hops.Planned.{EachFollows, Routes}
 use Rattle.lsp_laws.proofs.hops.Plans.{IsRoute, Plan, distinct, hops, link_at, node_at, same, same_node}
 use Rattle.lsp_laws.proofs.hops.Purposes.{DownFits, Each, UpFits}
 
--- the route that is left at d, over the link k, ends there just where d is the LSP's egress; else its first step is d's, over
--- another link of d
+-- the route that is left at d, over the link k, ends there just where d is the LSP's egress; else its first step is
+-- d's, over another link of d
 abbrev pub LeadsOn : Network → NodeId → NodeId → LinkId → List Step → Type 0
 LeadsOn t d e k [] = d ≡ e
 LeadsOn t d e k (hop ∷ route) =
