@@ -34,7 +34,7 @@ use Rattle.mesh_rules.specs.Calls.{find_call}
 use Rattle.mesh_rules.specs.Events.{IsRun, after, route_of, step}
 use Rattle.mesh_rules.specs.KnownRows.{known_rows}
 use Rattle.mesh_rules.specs.Legs.{find_leg}
-use Rattle.mesh_rules.specs.LocalNodes.{fibre_in, fibre_out, local_node, own_link}
+use Rattle.mesh_rules.specs.LocalNodes.{fibre_in, fibre_out, local_node}
 use Rattle.mesh_rules.specs.Machine.{start}
 use Rattle.mesh_rules.specs.State.{NodeState}
 use Rattle.lsp_laws.specs.HopLaw.{leg_at}
@@ -215,16 +215,16 @@ LacksHaveCauses t events =
     (ms : List Msg) (g : Leg) (f : Fibre) (in_link : LinkSpec) (e' : NodeId) (code : ErrCode) → u.0 ≢ d.0 → v.0 ≢ d.0 →
     (after t start events).mail u.0 d.0 ≡ Resv l e k x ∷ ms →
     leg_at (after t start events) l d ≡ Some g → g.prev ≡ Some v → g.in_fibre ≡ Some f →
-    own_link (local_node t d) f.link ≡ Some in_link →
+    IsLinkAt t d f.link in_link →
     (step t (after t start events) (Take d u)).mail d.0 v.0 ≡
     (after t start events).mail d.0 v.0 ++ PathErr l e' d true code ∷ [] → (y : ℕ) → IsTrue (has g.offered y) →
     ((local_node t d).convert ≡ true) ⊎ (y ≡ x) → 1 ≤ y → y ≤ in_link.labels →
     KeepsOff ((after t start events).nodes d.0).legs g.role g.risks f y
 
--- over every network and every run
+-- over every topology and every run
 abbrev pub EveryLackHasCause : Type 0
 EveryLackHasCause =
-    (t : Network) (events : List MeshEvent) → IsRun t start events → LacksHaveCauses t events
+    (t : Network) (events : List MeshEvent) → IsTopology t → IsRun t start events → LacksHaveCauses t events
 
 -- A Resv comes to the ingress n of a protected call, of the working LSP that the call waits for. The call stays as it
 -- is, or a backup is asked for, or it stands without one for a cause.

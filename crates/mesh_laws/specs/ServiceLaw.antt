@@ -53,7 +53,7 @@ pub record Serves (t : Network) (events : List MeshEvent) : Type 0 where
   -- an activation is refused only where another backup uses a label of this one
   pub busy : BusyLegsAreBusy t events
   -- no label is found for an answer only where each one that may go on is kept off
-  pub lacks : LacksHaveCauses t events
+  pub lacks : IsTopology t → LacksHaveCauses t events
   -- a protected call gets no backup only for a cause that stands at its ingress
   pub lone : IsTopology t → LoneCallsHaveCauses t events
   -- and a call is told of the refusal of its LSP with the code that came

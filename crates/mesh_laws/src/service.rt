@@ -35,8 +35,8 @@ pub fn every_rest()
 /// Of every run: an Asked leg and a torn one have no label in, and a torn one no back label out
 /// (`torn`). A backup goes over the route that its order gives (`backed`). A node refuses a Path
 /// for a cause that stands there (`caused`) and an activation where the leg of another backup uses
-/// a label of its own (`busy`), and it finds no label for a Resv where each that may go on is kept
-/// off (`lacks`). Over a topology each order that a node handles does what it says: a call that is
+/// a label of its own (`busy`), and over a topology it finds no label for a Resv where each that may
+/// go on is kept off (`lacks`). There each order that a node handles does what it says: a call that is
 /// blocked at once, or gets no backup, has a cause that stands at its ingress (`acts`); so has a
 /// protected call that gets none as its working LSP is connected (`lone`). An order changes no call
 /// but its own (`others`), and no leg of an LSP that no such call names (`spared`).

@@ -21,15 +21,19 @@ use Rattle.mesh_rules.specs.Activations.{armed_on, path_again, resv_to, taken_on
 use Rattle.mesh_rules.specs.Changes.{Answer}
 use Rattle.mesh_rules.specs.Events.{after, step}
 use Rattle.mesh_rules.specs.Legs.{following, is_active_backup, is_contended, is_held, is_over, label_through, previous}
-use Rattle.mesh_rules.specs.LocalNodes.{LocalNode, local_node}
+use Rattle.mesh_rules.specs.LocalNodes.{LocalNode, local_node, own_link}
 use Rattle.mesh_rules.specs.Machine.{Mesh, sent_to, start}
 use Rattle.mesh_rules.specs.Messages.{arrival}
 use Rattle.mesh_rules.specs.Paths.{is_none}
 use Rattle.mesh_rules.specs.Resvs.{answered, is_expected, labels_left, passed_back, resv_with}
 use Rattle.mesh_rules.specs.State.{NodeState}
-use Rattle.mesh_nodes.proofs.Cases.{if_cases}
-use Rattle.lsp_laws.proofs.hops.Plans.{other, same}
-use Rattle.mesh_laws.specs.CauseLaw.{EveryBusyIsBusy, EveryLackHasCause, IsBusy}
+use Rattle.mesh_nodes.proofs.Cases.{if_cases, both_left}
+use Rattle.lsp_laws.proofs.hops.Plans.{other, same, own_near}
+use Rattle.ason_base.specs.Network.{IsTopology, Network, find_link, other_end}
+use Rattle.ason_base.specs.declared.network.LinkSpec.{LinkSpec}
+use Rattle.mesh_rules.proofs.Topologies.{topology_searchable}
+use Rattle.mesh_nodes.proofs.routes.Nodes.{found-link}
+use Rattle.mesh_laws.specs.CauseLaw.{IsLinkAt, EveryBusyIsBusy, EveryLackHasCause, IsBusy}
 use Rattle.mesh_laws.proofs.acts.Busy.{leg-busy}
 use Rattle.mesh_laws.proofs.causes.KeptOff.{offered-kept_off}
 use Rattle.mesh_laws.proofs.causes.Refused.{same-rest}
@@ -123,9 +127,23 @@ every_busy t events run u d e l k route set up r ms g e' code apart first here s
     path-tells u l e' d false code (local_node t d) x (arrival l e u k) (drop 1 route) r g
     (same-rest (s.mail d.0 u.0) _ _ (sym goes ∙ sent))
 
+-- over a topology a node knows its own links by their numbers
+own-of : (t : Network) → IsTopology t → (d : NodeId) (k : LinkId) (link : LinkSpec) → IsLinkAt t d k link →
+    own_link (local_node t d) k ≡ Some link
+own-of t valid d k link at =
+    own_near t k d (other_end link d) (record {
+      link = link;
+      found = subst (λ j. find_link t j ≡ Some link) at.id
+          (found-link t.links link (both_left _ _ (topology_searchable t valid)) at.there);
+      id = at.id;
+      touches = at.ends;
+      far = refl;
+    })
+
 -- a Resv for which no label is left, over every run
 pub every_lack : EveryLackHasCause
-every_lack t events run u d v e l k x ms g f in_link e' code apart away first here prev into own sent y was may low high =
+every_lack t events valid run u d v e l k x ms g f in_link e' code apart away first here prev into at sent y was may low
+    high =
     let s : Mesh = after t start events in
     let z : NodeState = s.nodes d.0 in
     let h : Neighbour = record { node = v; fibre = f } in
@@ -134,6 +152,6 @@ every_lack t events run u d v e l k x ms g f in_link e' code apart away first he
     let goes : (step t s (Take d u)).mail d.0 v.0
     ≡ (s.mail d.0 v.0 ++ sent_to v.0 (resv_with (local_node t d) z (arrival l e u k) x (Some g)).sent) =
     rw (first, same d.0, tests, here) refl in
-    offered-kept_off (local_node t d) z.legs g.role g.risks f in_link g.offered x own
+    offered-kept_off (local_node t d) z.legs g.role g.risks f in_link g.offered x (own-of t valid d f.link in_link at)
     (resv-tells v l e' d true code (local_node t d) z (arrival l e u k) x g h before
     (same-rest (s.mail d.0 v.0) _ _ (sym goes ∙ sent))) y was may low high
