@@ -1,5 +1,7 @@
 """The runs of a study: in parts, on a cluster's executor, stopped, and with workers that fail."""
 
+import contextlib
+import io
 import json
 import os
 import re
@@ -10,6 +12,7 @@ import tempfile
 import time
 import unittest
 from pathlib import Path
+from unittest import mock
 
 from ason_tools import studies
 from ason_tools.errors import ToolError
@@ -87,6 +90,21 @@ class RunsTest(unittest.TestCase):
     def test_the_mark_tells_studies_apart(self) -> None:
         marks = {Study(name, square, given, orders).mark for name, given, orders in (("a", 1, [1]), ("b", 1, [1]), ("a", 2, [1]), ("a", 1, [2]))}
         self.assertEqual(len(marks), 4)
+
+
+class ProgressTest(unittest.TestCase):
+    """How far a study is."""
+
+    def test_where_nobody_looks_on_a_line_comes_each_minute(self) -> None:
+        err = io.StringIO()
+        # It begins at 0, and is told at 20, 60 and 80 seconds.
+        with contextlib.redirect_stderr(err), mock.patch("time.monotonic", side_effect=[0.0, 20.0, 60.0, 80.0]):
+            progress = studies.Progress("squares", 10)
+            for done in (1, 3, 4):
+                progress.tell(done)
+            progress.end()
+        # Three runs took a minute, so seven take 140 seconds.
+        self.assertEqual(err.getvalue(), "squares: 3 of 10 runs, 2:20 to go\n")
 
 
 class PartsTest(unittest.TestCase):
