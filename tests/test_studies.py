@@ -85,7 +85,7 @@ class RunsTest(unittest.TestCase):
         with self.assertRaisesRegex(ToolError, r"\Arun \d has no end\Z"):
             studies.made(Study("failing", failing, 0, [1, 2, 3]), Way(2))
         with self.assertRaisesRegex(ToolError, "a process that made runs was killed"):
-            studies.made(Study("killed", killed, 0, [1]), Way(1))
+            studies.made(Study("killed", killed, 0, [1, 2, 3]), Way(2))
 
     def test_the_mark_tells_studies_apart(self) -> None:
         marks = {Study(name, square, given, orders).mark for name, given, orders in (("a", 1, [1]), ("b", 1, [1]), ("a", 2, [1]), ("a", 1, [2]))}
