@@ -156,6 +156,10 @@ class StatisticsTest(unittest.TestCase):
         self.assertAlmostEqual(found.mean, 0.2)
         self.assertAlmostEqual(found.most, 0.2 + 4.303 * 0.1 / math.sqrt(3), places=4)
         self.assertEqual(found.least, 0.0)
+        # Of 200 calls none is blocked with a chance of 5 % where each is with 1 - 0.05 ** (1 / 200).
+        none = arrivals.load_of(1.0, [{"calls": 100, "blocked": {}, "bare": {}}] * 2).blocked
+        self.assertEqual((none.mean, none.least), (0.0, 0.0))
+        self.assertAlmostEqual(none.most, 1 - 0.05 ** (1 / 200), places=3)
         self.assertEqual(arrivals.interval([0.4]), arrivals.Interval(0.4, 0.0, 1.0))
 
 

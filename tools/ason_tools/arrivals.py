@@ -175,7 +175,9 @@ def load_of(erlang: float, runs: list[dict[str, Any]]) -> Load:
     sums = sum((Counter(run["blocked"]) for run in runs), Counter())
     bare = sum(sum(run["bare"].values()) for run in runs)
     causes = {cause: sums[cause] / calls for cause in sorted(sums)}
-    return Load(erlang, len(runs), calls, interval(shares), causes, bare / calls)
+    # Seeds without a blocked call would leave no width. Where 3 are to be expected, none comes once in twenty studies.
+    blocked = interval(shares) if any(shares) else Interval(0.0, 0.0, min(1.0, 3 / calls))
+    return Load(erlang, len(runs), calls, blocked, causes, bare / calls)
 
 
 def interval(shares: list[float]) -> Interval:
