@@ -6,7 +6,7 @@ from dataclasses import dataclass, field
 from .circuits import Span
 from .geometry import Box, Point, box_around, distance, nearest, text_width
 from .fibre_loads import Load, loads
-from .placing import NODE_RADIUS, Ground, name_spots
+from .placing import NODE_RADIUS, Ground
 from .scene import DASHES, FAINT, FAULT, INK, PAPER, SOFT, Scene, colour, load_colour
 from .svg import Drawing
 from .tracks import Track, asides, bed, lane, tracks_of
@@ -89,8 +89,7 @@ def arrange(scene: Scene, points: dict[str, Point], edges: Box) -> Arranged:
     _place_tags(ground, made, spans, first, True)
     crowded = {name: sum(name in track.link.ends for track in tracks) for name in points}
     for name in sorted(points, key=lambda name: -crowded[name]):
-        boxes = name_spots(points[name], text_width(name, NAME_SIZE), NAME_HIGH)
-        made.names[name] = boxes[ground.place_name(name, boxes)]
+        made.names[name] = ground.place_name(name, text_width(name, NAME_SIZE), NAME_HIGH)
     _place_tags(ground, made, spans, first, False)
     made.covered = ground.covered
     return made

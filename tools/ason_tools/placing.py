@@ -1,7 +1,7 @@
 """Where names and badges stand on a map, so that they cover nothing."""
 
 import math
-from collections.abc import Callable
+from collections.abc import Callable, Iterable, Iterator
 from dataclasses import dataclass, field
 
 from .geometry import Box, Line, Point, box_around, distance, hull, is_overlap
@@ -15,6 +15,9 @@ GAP = 2.0
 
 NEARER = 5.0
 """By how much a name is nearer to its own node than to any other."""
+
+FOREIGN = 80.0
+"""A node that is farther from all places of a name isn't looked at."""
 
 GAPS = (4.0, 7.0, 11.0, 16.0, 23.0, 32.0, 44.0, 60.0)
 TURNS = 24
@@ -36,37 +39,38 @@ class Ground:
 
     def place_badge(self, boxes: list[Box], link: int, is_needed: bool) -> int | None:
         """The first box that covers nothing but the badge's own link. Without one: the least bad one, or None."""
-        near = self._near(boxes)
-        return self._chosen(boxes, lambda box, most: near.cost(box, link, most), is_needed)
+        near = self._near(hull(boxes))
+        found = self._chosen(boxes, lambda box, most: near.cost(box, link, most), is_needed)
+        return None if found is None else boxes.index(found)
 
-    def place_name(self, name: str, boxes: list[Box]) -> int:
-        """The first box that covers nothing, and is nearer to the name's own node than to others."""
-        near = self._near(boxes)
+    def place_name(self, name: str, wide: float, high: float) -> Box:
+        """The first box of this size beside the node that covers nothing, and is nearer to it than to other nodes."""
         own = self.nodes[name]
-        found = self._chosen(boxes, lambda box, most: near.cost(box, None, most) + TO_NODE * near.is_foreign(box, own), True)
-        return 0 if found is None else found
+        reach = 2 * (NODE_RADIUS + GAPS[-1])
+        near = self._near(box_around(own, 2 * wide + reach, 2 * high + reach))
+        spots = name_spots(own, wide, high)
+        found = self._chosen(spots, lambda box, most: near.cost(box, None, most) + TO_NODE * near.is_foreign(box, own), True)
+        return found or box_around(own, wide, high)
 
-    def _chosen(self, boxes: list[Box], cost_of: Callable[[Box, float], float], is_needed: bool) -> int | None:
-        """The place of the first box without a cost, which is taken. Else of the cheapest one, where one is needed."""
+    def _chosen(self, boxes: Iterable[Box], cost_of: Callable[[Box, float], float], is_needed: bool) -> Box | None:
+        """The first box without a cost, which is taken. Else the cheapest one, where one is needed."""
         best, least = None, math.inf
-        for place, box in enumerate(boxes):
+        for box in boxes:
             cost = cost_of(box, least)
             if cost < least:
-                best, least = place, cost
+                best, least = box, cost
             if cost == 0:
                 break
         if least and not is_needed:
             return None
         self.covered += least > 0
         if best is not None:
-            self.placed.append(boxes[best])
+            self.placed.append(best)
         return best
 
-    def _near(self, boxes: list[Box]) -> "Ground":
-        """What of all this may be near to these boxes."""
-        around = hull(boxes) if boxes else self.edges
-        wide = 80.0
-        nodes = {name: at for name, at in self.nodes.items() if distance(around, at) < wide}
+    def _near(self, around: Box) -> "Ground":
+        """What of all this may be near to boxes within this one."""
+        nodes = {name: at for name, at in self.nodes.items() if distance(around, at) < FOREIGN}
         placed = [box for box in self.placed if is_overlap(around, box, GAP)]
         return Ground(nodes, [line for line in self.lines if line.is_near(around)], self.edges, placed)
 
@@ -92,10 +96,10 @@ class Ground:
         return any(at != own and distance(box, at) < room for at in self.nodes.values())
 
 
-def name_spots(at: Point, wide: float, high: float) -> list[Box]:
+def name_spots(at: Point, wide: float, high: float) -> Iterator[Box]:
     """Where the name of the node there may stand: below it first, then all around, and then farther away."""
     turns = sorted(range(TURNS), key=lambda turn: (turn % (TURNS // 4), turn))
-    return [_beside(at, 2 * math.pi * turn / TURNS, gap, (wide, high)) for gap in GAPS for turn in turns]
+    return (_beside(at, 2 * math.pi * turn / TURNS, gap, (wide, high)) for gap in GAPS for turn in turns)
 
 
 def _beside(at: Point, angle: float, gap: float, size: tuple[float, float]) -> Box:
