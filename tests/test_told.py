@@ -116,13 +116,14 @@ class DiffTest(unittest.TestCase):
     """Two tables."""
 
     def test_what_has_no_table(self) -> None:
-        cases = {
-            ("-", "-"): "both tables can't be of the standard input",
-            ("examples/idle.out", "-"): "the standard input: the output has no table",
-        }
-        for words, sentence in cases.items():
-            ended = tool("table-diff", *words, given="stopped at limit a\n")
-            self.assertEqual((ended.status, ended.out, ended.err), (2, "", f"table-diff: {sentence}\n"))
+        cases = [
+            (("-", "-"), "", 2, "both tables can't be of the standard input"),
+            (("examples/idle.out", "-"), "", 2, "the standard input: the output has no table"),
+            (("examples/idle.out", "-"), "stopped at limit a\n", 6, "the standard input: ason printed no table: stopped at limit a"),
+        ]
+        for words, given, status, sentence in cases:
+            ended = tool("table-diff", *words, given=given)
+            self.assertEqual((ended.status, ended.out, ended.err), (status, "", f"table-diff: {sentence}\n"))
 
     def test_a_diff_by_hand(self) -> None:
         with self.files(BEFORE, AFTER) as (before, after):

@@ -104,7 +104,7 @@ def decode(lines: str | bytes) -> Run:
 
 def check(trace: bytes) -> tuple[int, str]:
     """Runs `ason check` on this trace: its status and what it printed."""
-    return _start(("check",), trace)
+    return printed(("check",), trace)
 
 
 def _run(word: str, given: str | bytes) -> Run:
