@@ -319,7 +319,7 @@ class ToolTest(unittest.TestCase):
 
     def test_a_refused_plan_is_not_drawn(self) -> None:
         ended = tool("draw", "-", given=plan_text(["settle 0"]))
-        self.assertEqual(ended.status, 2)
+        self.assertEqual(ended.status, 3)
         self.assertIn("refused plan script 1 range", ended.err)
 
 
