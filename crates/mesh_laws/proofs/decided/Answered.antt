@@ -83,22 +83,22 @@ module _ (t : Network) (l : Lsp) (route : List Step) (end : NodeId) where
           → Known events) (sym is) (λ x. record { purpose = q; planned = x }) pl
 
   -- where its leg is Asked at the end, it is Asked all along
-  record Along (done todo : List MeshEvent) : Type 0 where
-    pub good : AllGood t (asked_goal t l (plan route end)) (after t start done) todo
+  record Along (done ahead : List MeshEvent) : Type 0 where
+    pub good : AllGood t (asked_goal t l (plan route end)) (after t start done) ahead
     pub waits : is_waiting (leg_at (after t start done) l l.ingress) ≡ true
 
-  along : (done todo : List MeshEvent) → IsRun t start (done ++ todo) → route_of t start done l ≡ Some route →
+  along : (done ahead : List MeshEvent) → IsRun t start (done ++ ahead) → route_of t start done l ≡ Some route →
       makes_route t l.ingress end route ≡ true →
-      is_waiting (leg_at (after t (after t start done) todo) l l.ingress) ≡ true → Along done todo
+      is_waiting (leg_at (after t (after t start done) ahead) l l.ingress) ≡ true → Along done ahead
   along done [] run sent made waits = record { good = tt; waits = waits }
-  along done (e ∷ todo) run sent made waits =
-      let more : IsRun t start ((done ++ e ∷ []) ++ todo) = subst (IsRun t start) (sym (append-one done e todo)) run in
-      let longer : IsRun t start (done ++ e ∷ []) = run-first t start (done ++ e ∷ []) todo more in
-      let now : IsRun t start done = run-first t start done (e ∷ todo) run in
+  along done (e ∷ ahead) run sent made waits =
+      let more : IsRun t start ((done ++ e ∷ []) ++ ahead) = subst (IsRun t start) (sym (append-one done e ahead)) run in
+      let longer : IsRun t start (done ++ e ∷ []) = run-first t start (done ++ e ∷ []) ahead more in
+      let now : IsRun t start done = run-first t start done (e ∷ ahead) run in
       let next : after t start (done ++ e ∷ []) ≡ step t (after t start done) e = after-append t start done (e ∷ []) in
       let sent' = route-stays t start done (e ∷ []) l route sent in
-      let rest = along (done ++ e ∷ []) todo more sent' made
-      (subst (λ x. is_waiting (leg_at (after t x todo) l l.ingress) ≡ true) (sym next) waits) in
+      let rest = along (done ++ e ∷ []) ahead more sent' made
+      (subst (λ x. is_waiting (leg_at (after t x ahead) l l.ingress) ≡ true) (sym next) waits) in
       let here = known done now sent made in
       let there = known (done ++ e ∷ []) longer sent' made in
       let after-it : is_waiting (leg_at (step t (after t start done) e) l l.ingress) ≡ true =
@@ -118,7 +118,7 @@ module _ (t : Network) (l : Lsp) (route : List Step) (end : NodeId) where
             later = subst (λ x. Chain t there.purpose l (plan route end) (leg_at x l) (mail_between x l)) next
                 there.planned.chain;
           },
-          subst (λ x. AllGood t (asked_goal t l (plan route end)) x todo) next rest.good,
+          subst (λ x. AllGood t (asked_goal t l (plan route end)) x ahead) next rest.good,
         );
         waits = before-it;
       }

@@ -180,19 +180,19 @@ module _ (t : Network) (valid : IsTopology t) (g : Group) (r : Roles) (fixed : F
       }
 
   -- Since the failure all is as the goal needs it.
-  pub all-good : (done todo : List MeshEvent) → IsRun t start (done ++ todo) → AllByRecursion PostsNothing todo →
-      NoneRefused t (after t start done) todo →
-      ((first later : List MeshEvent) → first ++ later ≡ todo → Tells (done ++ first)) → Known done →
-      AllGood t (failure_goal t r) (after t start done) todo
+  pub all-good : (done ahead : List MeshEvent) → IsRun t start (done ++ ahead) → AllByRecursion PostsNothing ahead →
+      NoneRefused t (after t start done) ahead →
+      ((first later : List MeshEvent) → first ++ later ≡ ahead → Tells (done ++ first)) → Known done →
+      AllGood t (failure_goal t r) (after t start done) ahead
   all-good done [] run only none tells known = tt
-  all-good done (e ∷ todo) run only none tells known =
+  all-good done (e ∷ ahead) run only none tells known =
       let s : Mesh = after t start done in
-      let now : IsRun t start done = run-first t start done (e ∷ todo) run in
-      let more : IsRun t start ((done ++ e ∷ []) ++ todo) = subst (IsRun t start) (sym (append-one done e todo)) run in
-      let longer : IsRun t start (done ++ e ∷ []) = run-first t start (done ++ e ∷ []) todo more in
+      let now : IsRun t start done = run-first t start done (e ∷ ahead) run in
+      let more : IsRun t start ((done ++ e ∷ []) ++ ahead) = subst (IsRun t start) (sym (append-one done e ahead)) run in
+      let longer : IsRun t start (done ++ e ∷ []) = run-first t start (done ++ e ∷ []) ahead more in
       let next : after t start (done ++ e ∷ []) ≡ step t s e = after-append t start done (e ∷ []) in
-      let told_now : Tells done = subst Tells (append-nil done) (tells [] (e ∷ todo) refl) in
-      let told_then : Tells (done ++ e ∷ []) = tells (e ∷ []) todo refl in
+      let told_now : Tells done = subst Tells (append-nil done) (tells [] (e ∷ ahead) refl) in
+      let told_then : Tells (done ++ e ∷ []) = tells (e ∷ []) ahead refl in
       let known' = known-step done e now (enabled-last t start done e longer) only.0 told_then known in (
         record {
           here = its-scene done now told_now known;
@@ -204,8 +204,8 @@ module _ (t : Network) (valid : IsTopology t) (g : Group) (r : Roles) (fixed : F
               (fibre_of r) ≡ true) (sym is)
               (alarm-known t s (node_at r.work_plan (suc r.place)) r.link rest own was);
         },
-        subst (λ x. AllGood t (failure_goal t r) x todo) next
-            (all-good (done ++ e ∷ []) todo more only.1 (subst (λ x. NoneRefused t x todo) (sym next) none.2)
+        subst (λ x. AllGood t (failure_goal t r) x ahead) next
+            (all-good (done ++ e ∷ []) ahead more only.1 (subst (λ x. NoneRefused t x ahead) (sym next) none.2)
             (λ first later parts. subst Tells (sym (append_assoc done (e ∷ []) first))
             (tells (e ∷ first) later (ap (λ xs. e ∷ xs) parts))) known'),
       )
