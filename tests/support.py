@@ -1,5 +1,6 @@
 """What the tests share."""
 
+import signal
 import subprocess
 import sys
 from dataclasses import dataclass
@@ -27,6 +28,11 @@ def tool(name: str, *words: str, given: bytes | str = b"", folder: Path | str = 
     command = [sys.executable, str(TOOLS / name), *words]
     ended = subprocess.run(command, input=data, capture_output=True, cwd=folder, check=False)
     return Ended(ended.returncode, ended.stdout.decode(), ended.stderr.decode())
+
+
+def take_interrupts() -> None:
+    """Run in a process that is started: it takes Ctrl-C, also where the tests were begun in the background, which ignores it."""
+    signal.signal(signal.SIGINT, signal.SIG_DFL)
 
 
 def ason_told(*words: str, given: bytes | str = b"") -> Ended:

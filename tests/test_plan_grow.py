@@ -21,7 +21,7 @@ from ason_tools.kways import Ways
 from ason_tools.plan import Link, Node, Plan
 from ason_tools.refusals import refusals
 
-from .support import TOOLS, tool
+from .support import TOOLS, take_interrupts, tool
 
 
 def network(script: list[str], links: list[tuple[str, int]], convert: bool = True, names: str = "abc") -> Plan:
@@ -148,7 +148,7 @@ class ToolTest(unittest.TestCase):
             path.chmod(0o755)
             (Path(room) / "plan.toml").write_text(self.GIVEN.text())
             command = [sys.executable, str(TOOLS / "plan-grow"), str(Path(room) / "plan.toml"), "--csv"]
-            how = {"stdout": subprocess.PIPE, "text": True, "start_new_session": True}
+            how = {"stdout": subprocess.PIPE, "text": True, "start_new_session": True, "preexec_fn": take_interrupts}
             with subprocess.Popen(command, env=os.environ | {"ASON": str(path)}, **how) as process:
                 while not (Path(room) / "runs").exists() or len((Path(room) / "runs").read_text()) < 3:
                     time.sleep(0.02)

@@ -18,7 +18,7 @@ from ason_tools import studies
 from ason_tools.errors import ToolError
 from ason_tools.studies import Part, Study, Way
 
-from .support import EXAMPLES, TOOLS, tool
+from .support import EXAMPLES, TOOLS, take_interrupts, tool
 
 # A stand-in for the package: its executor notes the address, and makes the runs in a thread.
 DISTRIBUTED = """\
@@ -208,7 +208,7 @@ class StopTest(unittest.TestCase):
         program.chmod(0o755)
         network.write_text(nodes + links)
         command = [sys.executable, str(TOOLS / "study-cuts"), str(network), "--jobs", "1"]
-        how = {"stdout": subprocess.PIPE, "stderr": subprocess.PIPE, "text": True, "start_new_session": True}
+        how = {"stdout": subprocess.PIPE, "stderr": subprocess.PIPE, "text": True, "start_new_session": True, "preexec_fn": take_interrupts}
         process = subprocess.Popen(command, env=os.environ | {"ASON": str(program)}, **how)
         while not (self.room / "first").exists():
             time.sleep(0.02)
