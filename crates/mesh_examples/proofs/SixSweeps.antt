@@ -8,6 +8,7 @@ use Rattle.ason_base.specs.declared.tables.CallRec.{CallRec}
 use Rattle.mesh_rules.specs.declared.events.MeshEvent.{MeshEvent}
 use Rattle.mesh_rules.specs.Events.{after}
 use Rattle.mesh_rules.specs.Machine.{Mesh, start}
+use Rattle.mesh_laws.specs.InOrderLaw.{sweeps_in_order}
 use Rattle.mesh_laws.specs.SoonLaw.{sweeps_for}
 use Rattle.mesh_examples.proofs.GuardedCall as guarded_call
 use Rattle.mesh_examples.proofs.Scene.{all_enabled, desk, fails_link, learns, takes_each, triangle}
@@ -64,6 +65,12 @@ waits = refl
 most : map (sweeps_for network struck) ((after network start before).nodes 1).calls ≡ 6 ∷ []
 unfolding labels.numbers_from
 most = refl
+
+-- In order of number the same events are four sweeps, to the ends of `one`, `three`, `five` and `six`, in each of which the
+-- nodes 1, 2 and 3 have their parts: one, a hop up from the node 2 to the node 1, and the two hops of the backup.
+in_order : map (sweeps_in_order network struck) ((after network start before).nodes 1).calls ≡ 4 ∷ []
+unfolding labels.numbers_from
+in_order = refl
 
 abbrev states : List MeshEvent → List CallState
 states events = map (λ (c : CallRec). c.state) ((after network start events).nodes 1).calls

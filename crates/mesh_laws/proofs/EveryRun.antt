@@ -31,7 +31,7 @@ use Rattle.mesh_laws.proofs.rest.Rests.{every_run_ends, every_run_rests}
 use Rattle.mesh_laws.proofs.restoration.Law.{every_hit_call}
 use Rattle.mesh_laws.proofs.safe.Law.{every_run_safe}
 use Rattle.mesh_laws.proofs.sent.Law.{every_list, every_sent}
-use Rattle.mesh_laws.proofs.soon.Law.{every_hit_call_soon}
+use Rattle.mesh_laws.proofs.soon.Law.{every_hit_call_in_order, every_hit_call_soon}
 use Rattle.mesh_laws.proofs.Serves.{network_serves}
 
 pub laws_hold : EveryRunKeepsTheLaws
@@ -68,6 +68,7 @@ laws_hold t events run =
       admitted = λ valid. every_activation_admitted t events valid run;
       restored = λ valid. every_hit_call t events valid run;
       soon = λ valid. every_hit_call_soon t events valid run;
+      in_order = λ valid. every_hit_call_in_order t events valid run;
       uncontended = λ valid. no_contend t events valid run;
       listed = λ valid. every_contend_listed t events valid run;
       shown = λ valid. calm_shown t events valid run;

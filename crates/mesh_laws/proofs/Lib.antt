@@ -1,4 +1,5 @@
 pub mod EveryRun
+pub mod Numbered
 pub mod alone
 pub mod contends
 pub mod crossing

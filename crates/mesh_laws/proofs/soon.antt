@@ -7,6 +7,9 @@ pub mod AtStart
 pub mod CallGoesOn
 pub mod CallPhases
 pub mod CallsSayDown
+pub mod Delays
+pub mod HitCall
+pub mod InOrder
 pub mod Law
 pub mod MessagesSayDown
 pub mod NoneUp
@@ -16,6 +19,7 @@ pub mod OneHop
 pub mod ReportComes
 pub mod ReportsStay
 pub mod Roles
+pub mod RouteNodes
 pub mod Routed
 pub mod Scenes
 pub mod Soon

@@ -2,6 +2,7 @@ pub mod AloneLaw
 pub mod ContendLaw
 pub mod HeardLaw
 pub mod HomeLaw
+pub mod InOrderLaw
 pub mod KnownLaw
 pub mod OrderLaw
 pub mod RestLaw

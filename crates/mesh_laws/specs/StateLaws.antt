@@ -27,6 +27,7 @@ use Rattle.mesh_laws.specs.RestLaw.{RunEnds, added, handled}
 use Rattle.mesh_laws.specs.RestorationLaw.{RestorationHolds}
 use Rattle.mesh_laws.specs.SafeLaw.{IsSafe}
 use Rattle.mesh_laws.specs.SetupLaw.{CallsAreDecided, LspsAreAnswered}
+use Rattle.mesh_laws.specs.InOrderLaw.{RestoredInOrder}
 use Rattle.mesh_laws.specs.SoonLaw.{RestoredSoon}
 use Rattle.mesh_laws.specs.ServiceLaw.{Serves}
 use Rattle.mesh_laws.specs.SurveyLaw.{CalmIsShown, ContendsAreListed}
@@ -95,6 +96,8 @@ pub record LawsHold (t : Network) (events : List MeshEvent) : Type 0 where
   pub restored : IsTopology t → RestorationHolds t events
   -- and it is so after as many sweeps as its own routes are long, while nothing else is posted
   pub soon : IsTopology t → RestoredSoon t events
+  -- or sooner, where the nodes have their parts of each sweep in order
+  pub in_order : IsTopology t → RestoredInOrder t events
   -- nor is an activation refused while two groups alone fail that don't contend
   pub uncontended : IsTopology t → UncontendedAreAdmitted t events
   -- and the survey of the state's rows lists all calls that would contend

@@ -22,6 +22,7 @@ ghost use Rattle.mesh_laws.specs.RestLaw.{EveryRestIsQuiet, EveryRunEnds, EveryR
 ghost use Rattle.mesh_laws.specs.RestorationLaw.{EveryHitCallIsRestored};
 ghost use Rattle.mesh_laws.specs.SafeLaw.{EveryRunIsSafe};
 ghost use Rattle.mesh_laws.specs.SetupLaw.{EveryCallIsDecidedSoon, EveryLspIsAnsweredSoon};
+ghost use Rattle.mesh_laws.specs.InOrderLaw.{EveryHitCallIsRestoredInOrder};
 ghost use Rattle.mesh_laws.specs.SoonLaw.{EveryHitCallIsRestoredSoon};
 ghost use Rattle.mesh_laws.specs.SurveyLaw.{NoSurveyedContend};
 
@@ -102,7 +103,11 @@ ghost use Rattle.mesh_laws.specs.SurveyLaw.{NoSurveyedContend};
 /// in a calm state in which no message was under way and each desk was empty, and nothing is posted
 /// since: each call that was guarded as it failed, and is hit by it, is restored after as many
 /// sweeps as there are hops from its ingress to the nearest cut, twice as many as its backup has
-/// hops, and one (`soon`). Whatever is posted: once there were as many sweeps since an LSP was
+/// hops, and one (`soon`). In a sweep in order the nodes have their parts one after the other, by
+/// their numbers: all is taken and handled that waits at a node as its part begins. After as many of
+/// these as its backup has hops, and one, and one more for each of the hops to the nearest cut on
+/// which a Notify goes up to a node of a lesser number, the call is restored (`in_order`). Whatever
+/// is posted: once there were as many sweeps since an LSP was
 /// begun as its route has hops, there and back, its leg at the ingress isn't Asked (`answered`),
 /// and no call is asking for it as its working LSP, nor pairing for it as its backup (`decided`).
 ///
@@ -147,6 +152,7 @@ pub fn every_run()
     ensures admitted { EveryActivationIsAdmitted }
     ensures restored { EveryHitCallIsRestored }
     ensures soon { EveryHitCallIsRestoredSoon }
+    ensures in_order { EveryHitCallIsRestoredInOrder }
     ensures answered { EveryLspIsAnsweredSoon }
     ensures decided { EveryCallIsDecidedSoon }
     ensures rests { EveryRunRests }

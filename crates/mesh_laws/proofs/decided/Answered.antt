@@ -25,13 +25,13 @@ use Rattle.lsp_laws.proofs.nodes.NodeRuns.{facts-hold}
 use Rattle.mesh_laws.proofs.alone.AloneRuns.{after-append, append-one, run-first}
 use Rattle.mesh_laws.proofs.reports.GentleWords.{is_waiting}
 use Rattle.mesh_laws.specs.SetupLaw.{EveryLspIsAnsweredSoon, IsAskedFor}
-use Rattle.mesh_laws.specs.Sweeps.{AreSweeps}
+use Rattle.mesh_laws.specs.Sweeps.{AreSweeps, IsSweep}
 use Rattle.mesh_laws.proofs.decided.Asked.{kind_at}
 use Rattle.mesh_laws.proofs.decided.AskedDown.{asked-nears}
-use Rattle.mesh_laws.proofs.decided.AskedGoal.{asked_goal, asked-soon}
+use Rattle.mesh_laws.proofs.decided.AskedGoal.{StillAsked, asked_goal, asked-soon}
 use Rattle.mesh_laws.proofs.soon.Words.{both}
 use Rattle.mesh_laws.proofs.decided.AskedWas.{asked-was}
-use Rattle.mesh_laws.proofs.soon.Soon.{AllGood, reached, nearer}
+use Rattle.mesh_laws.proofs.soon.Soon.{AllGood, nearer, reached, swept-once, to_the_next}
 use Rattle.mesh_laws.proofs.soon.AtFailure.{route-stays}
 
 -- Words
@@ -84,7 +84,7 @@ module _ (t : Network) (l : Lsp) (route : List Step) (end : NodeId) where
 
   -- where its leg is Asked at the end, it is Asked all along
   record Along (done ahead : List MeshEvent) : Type 0 where
-    pub good : AllGood t (asked_goal t l (plan route end)) (after t start done) ahead
+    pub good : AllGood t (StillAsked t l (plan route end)) (after t start done) ahead
     pub waits : is_waiting (leg_at (after t start done) l l.ingress) ≡ true
 
   along : (done ahead : List MeshEvent) → IsRun t start (done ++ ahead) → route_of t start done l ≡ Some route →
@@ -118,7 +118,7 @@ module _ (t : Network) (l : Lsp) (route : List Step) (end : NodeId) where
             later = subst (λ x. Chain t there.purpose l (plan route end) (leg_at x l) (mail_between x l)) next
                 there.planned.chain;
           },
-          subst (λ x. AllGood t (asked_goal t l (plan route end)) x ahead) next rest.good,
+          subst (λ x. AllGood t (StillAsked t l (plan route end)) x ahead) next rest.good,
         );
         waits = before-it;
       }
@@ -144,9 +144,11 @@ answered t before since run l route sent sweeps asked =
         (waits-kind (leg_at (after t start before) l l.ingress) all.waits) in
         let nears = asked-nears t l (plan route end) pl.route in
         let soon = asked-soon t l (plan route end) (after t start before) q pl.chain kind in
-        reached t (asked_goal t l (plan route end)) nears (2 * length route) (after t start before) since sweeps all.good
-        (nearer t (asked_goal t l (plan route end)) nears (length route + length route) (2 * length route)
-        (after t start before) (omega arith) soon)
+        reached t to_the_next (asked_goal t l (plan route end)) nears IsSweep
+        (swept-once t (asked_goal t l (plan route end)) nears) (2 * length route) (after t start before) since sweeps
+        all.good
+        (nearer (asked_goal t l (plan route end)) (λ d. 1) (λ d. 1) (length route + length route) (2 * length route)
+        (after t start before) (λ v. omega arith) soon)
 
 -- Every LSP is answered within as many sweeps as its route has hops, there and back.
 pub every_lsp_soon : EveryLspIsAnsweredSoon

@@ -21,7 +21,7 @@ use Rattle.lsp_laws.proofs.hops.Views.{leg-there}
 use Rattle.mesh_laws.specs.Sweeps.{takes_one}
 use Rattle.mesh_laws.proofs.decided.AskedRow.{AskedRow, ComesBack, Farther, Granted, OnItsWay, first-kind, not-empty}
 use Rattle.mesh_laws.proofs.decided.Asked.{At, down_on, find-at, is-inside, kind_at, row-at, up_on}
-use Rattle.mesh_laws.proofs.soon.Soon.{Nears, Soon}
+use Rattle.mesh_laws.proofs.soon.Soon.{Nears, Soon, to_the_next}
 use Rattle.mesh_laws.proofs.soon.Swept.{StandsIn}
 use Rattle.mesh_laws.proofs.decided.AskedGoal.{OnDown, OnUp, StillAsked, asked_goal, down-witness, up-stays, up-witness}
 use Rattle.mesh_laws.proofs.decided.AskedNears.{beyond, no-kinds, up-nears}
@@ -155,7 +155,7 @@ module _ (t : Network) (l : Lsp) (p : Plan) (route : IsRoute t l.ingress p) (s :
                 (row-at t good.purpose l p s good.chain i below (at.asked i (omega (arith, most))))
 
 -- Either way it is nearer by one.
-pub asked-nears : (t : Network) (l : Lsp) (p : Plan) → IsRoute t l.ingress p → Nears t (asked_goal t l p)
+pub asked-nears : (t : Network) (l : Lsp) (p : Plan) → IsRoute t l.ingress p → Nears t to_the_next (asked_goal t l p)
 asked-nears t l p route = record { says = says; tells = λ s e j n i good tells one waits. absurd tells; stays = λ s e good done. done }
   where
     says : (s : Mesh) (e : MeshEvent) (j u d : ℕ) (m : Msg) → StillAsked t l p s e →

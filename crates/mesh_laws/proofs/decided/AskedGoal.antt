@@ -64,7 +64,7 @@ module _ (t : Network) (l : Lsp) (p : Plan) where
   up-witness s i below x is k most =
       let f : Found l x (s.mail (node_at p (suc i)).0 (node_at p i).0) =
       find-one l x (s.mail (node_at p (suc i)).0 (node_at p i).0) is in
-      ByMail i (node_at p (suc i)).0 (node_at p i).0 f.msg f.before most
+      ByMail i (node_at p (suc i)).0 (node_at p i).0 f.msg f.before (omega (arith, most))
       (inr (record { below = below; own = f.own; from = refl; to = refl })) f.stands
 
   -- a Path on its way down from this place
@@ -73,7 +73,7 @@ module _ (t : Network) (l : Lsp) (p : Plan) where
   down-witness s i below is j k left most =
       let f : Found l PlainPath (s.mail (node_at p i).0 (node_at p (suc i)).0) =
       find-one l PlainPath (s.mail (node_at p i).0 (node_at p (suc i)).0) is in
-      ByMail j (node_at p i).0 (node_at p (suc i)).0 f.msg f.before most
+      ByMail j (node_at p i).0 (node_at p (suc i)).0 f.msg f.before (omega (arith, most))
       (inl (record { place = i; below = below; own = f.own; from = refl; to = refl; left = left })) f.stands
 
   -- While the leg at the ingress is Asked, the answer comes within as many sweeps as there are hops, there and back.
@@ -112,5 +112,5 @@ module _ (t : Network) (l : Lsp) (p : Plan) where
               ((step t s (Take b a)).mail (node_at p (suc j)).0 (node_at p j).0) f.msg f.before →
               Soon goal k (step t s (Take b a))
           turn (Goes one none) = absurd (apart (taken-at (node_at p (suc j)).0 (node_at p j).0 b a one))
-          turn (MovesUp c cs is one up) = ByMail j (node_at p (suc j)).0 (node_at p j).0 f.msg cs most says up
-          turn (Keeps none up) = ByMail j (node_at p (suc j)).0 (node_at p j).0 f.msg f.before most says up
+          turn (MovesUp c cs is one up) = ByMail j (node_at p (suc j)).0 (node_at p j).0 f.msg cs (omega (arith, most)) says up
+          turn (Keeps none up) = ByMail j (node_at p (suc j)).0 (node_at p j).0 f.msg f.before (omega (arith, most)) says up

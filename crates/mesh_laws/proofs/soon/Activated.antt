@@ -42,7 +42,8 @@ use Rattle.lsp_laws.proofs.hops.Taken.{up_hop}
 use Rattle.mesh_laws.specs.AloneLaw.{is_refusal, sent_in}
 use Rattle.mesh_laws.specs.Sweeps.{takes_one}
 use Rattle.mesh_laws.proofs.soon.OneHop.{Activates, Answers, activation-ends, activation-goes-on, answer-passes, comes-held, is-awaited}
-use Rattle.mesh_laws.proofs.soon.Soon.{ByMail, Goal, IsDone, Soon}
+use Rattle.mesh_laws.proofs.soon.Delays.{down-grows, down_to, there_and_back, up_from}
+use Rattle.mesh_laws.proofs.soon.Soon.{ByMail, Goal, IsDone, Within}
 use Rattle.mesh_laws.proofs.soon.Swept.{StandsIn}
 use Rattle.mesh_laws.proofs.soon.Activating.{HasTurned, SaysActivation, StandsBy, turning_goal}
 use Rattle.mesh_laws.proofs.soon.Words.{take-is}
@@ -74,20 +75,21 @@ armed-one _ f _ is beyond ByArmed = same_phase f Armed is
 armed-one r f _ is beyond ByAsked = absurd (asked-one f beyond is)
 armed-one r f kind is beyond (ByTorn torn) = absurd (torn-one r f beyond (rw (← is) at torn))
 
-module _ (t : Network) (q : Purpose) (p : Plan) (b : Lsp) (n : NodeId) (k : CallNo) (route : IsRoute t b.ingress p)
-    (first : node_at p 0 ≡ n) (s : Mesh) where
+module _ (t : Network) (delay : ℕ → ℕ → ℕ) (q : Purpose) (p : Plan) (b : Lsp) (n : NodeId) (k : CallNo)
+    (route : IsRoute t b.ingress p) (first : node_at p 0 ≡ n) (s : Mesh) where
   abbrev Good : MeshEvent → Type 0
   Good e = StandsBy t q p b n k s e
 
   abbrev goal : Goal
-  goal = turning_goal t q p b n k
+  goal = turning_goal t delay q p b n k
 
   -- a Path that activates is taken
-  down : (e : MeshEvent) (j i : ℕ) (m : Msg) → Good e → i < hops p → Activates b m → j + suc i ≡ hops p + hops p →
-      e ≡ Take (node_at p (suc i)) (node_at p i) → StandsIn (s.mail (node_at p i).0 (node_at p (suc i)).0) m [] →
-      Soon goal j (step t s e)
+  down : (e : MeshEvent) (j i : ℕ) (m : Msg) → Good e → i < hops p → Activates b m →
+      j + down_to delay p (suc i) ≡ there_and_back delay p → e ≡ Take (node_at p (suc i)) (node_at p i) →
+      StandsIn (s.mail (node_at p i).0 (node_at p (suc i)).0) m [] →
+      Within goal (delay (node_at p (suc i)).0) j (step t s e)
   down e j i m good below tells left is waits =
-      subst (λ x. Soon goal j (step t s x)) (sym is)
+      subst (λ x. Within goal (delay (node_at p (suc i)).0) j (step t s x)) (sym is)
       (by_end (below_or_not (suc i) (hops p)))
     where
       rest : List Msg
@@ -105,26 +107,31 @@ module _ (t : Network) (q : Purpose) (p : Plan) (b : Lsp) (n : NodeId) (k : Call
           tells.work tells.primary rest was
 
       by_end : (suc i < hops p) ⊎ (hops p ≤ suc i) →
-          Soon goal j (step t s (Take (node_at p (suc i)) (node_at p i)))
+          Within goal (delay (node_at p (suc i)).0) j (step t s (Take (node_at p (suc i)) (node_at p i)))
       by_end (inl small) =
           let on = activation-goes-on t q s b p i route good.chain below tells.egress tells.link tells.route tells.set
           tells.back tells.work tells.primary rest was held.0 held.1 held.2 none small in
           let before = on.2.0 in
-          ByMail (j - 1) (node_at p (suc i)).0 (node_at p (suc (suc i))).0 on.0 before (omega (arith, left, below))
+          let long = down-grows delay p (suc (suc i)) (hops p) small in
+          ByMail (j - delay (node_at p (suc i)).0 (node_at p (suc (suc i))).0) (node_at p (suc i)).0
+          (node_at p (suc (suc i))).0 on.0 before (omega (arith, left, long))
           (inl (record {
             place = suc i;
             below = small;
             tells = on.1;
             from = refl;
             to = refl;
-            left = omega (arith, left, below, small);
+            left = omega (arith, left, long);
           }))
           on.2.1
       by_end (inr end) =
           let on = activation-ends t q s b p i route good.chain below tells.egress tells.link tells.route tells.set
           tells.back tells.work tells.primary rest was held.0 held.1 held.2 none end in
-          ByMail i (node_at p (suc i)).0 (node_at p i).0 on.0 on.2.0 (omega (arith, left, below, end))
-          (inr (record { below = below; tells = on.1; from = refl; to = refl })) on.2.1
+          let last : suc i ≡ hops p = omega (arith, below, end) in
+          let downs : down_to delay p (suc i) ≡ down_to delay p (hops p) = ap (down_to delay p) last in
+          let ups : up_from delay p (suc i) ≡ up_from delay p (hops p) = ap (up_from delay p) last in
+          ByMail (up_from delay p i) (node_at p (suc i)).0 (node_at p i).0 on.0 on.2.0 (omega (arith, left, downs, ups))
+          (inr (record { place = i; below = below; tells = on.1; from = refl; to = refl; left = refl })) on.2.1
 
   -- A Resv is taken
 
@@ -151,16 +158,22 @@ module _ (t : Network) (q : Purpose) (p : Plan) (b : Lsp) (n : NodeId) (k : Call
         armed-one (role_of q) leg.0.phase (phase_kind leg.0.phase) refl leg.2 (rw (leg.1) at takes)
 
     -- away from the ingress
-    passes : (j : ℕ) → suc j ≡ i → Soon goal i (step t s (Take (node_at p i) (node_at p (suc i))))
+    passes : (j : ℕ) → suc j ≡ i →
+        Within goal (delay (node_at p i).0) (up_from delay p i) (step t s (Take (node_at p i) (node_at p (suc i))))
     passes j is =
         let on = answer-passes t q s b p i route good.chain below tells.egress tells.link tells.label rest was leg.0
         leg.1 armed j is in
-        ByMail j (node_at p i).0 (node_at p j).0 on.0 on.2.0 (omega (arith, is))
+        let ups : up_from delay p (suc j) ≡ up_from delay p i = ap (up_from delay p) is in
+        let hop : delay (node_at p (suc j)).0 (node_at p j).0 ≡ delay (node_at p i).0 (node_at p j).0 =
+        ap (λ (x : ℕ). delay (node_at p x).0 (node_at p j).0) is in
+        ByMail (up_from delay p j) (node_at p i).0 (node_at p j).0 on.0 on.2.0 (omega (arith, ups, hop))
         (inr (record {
+          place = j;
           below = omega (arith, is, below);
           tells = on.1;
           from = ap (λ (x : ℕ). (node_at p x).0) (sym is);
           to = refl;
+          left = refl;
         }))
         on.2.1
 
@@ -231,22 +244,27 @@ module _ (t : Network) (q : Purpose) (p : Plan) (b : Lsp) (n : NodeId) (k : Call
 
   up : (e : MeshEvent) (good : StandsBy t q p b n k s e) (i : ℕ) (m : Msg) → i < hops p → Answers b m →
       e ≡ Take (node_at p i) (node_at p (suc i)) → StandsIn (s.mail (node_at p (suc i)).0 (node_at p i).0) m [] →
-      Soon goal i (step t s e)
+      Within goal (delay (node_at p i).0) (up_from delay p i) (step t s e)
   up e good zero m below tells is waits =
       let l = leg e good 0 below m tells waits in
       IsDone (subst (λ x. HasTurned n k (step t s x)) (sym is)
       (turns e good below m tells waits l.0 l.1 (armed e good 0 below m tells waits)))
   up e good (suc j) m below tells is waits =
-      subst (λ x. Soon goal (suc j) (step t s x)) (sym is) (passes e good (suc j) below m tells waits j refl)
+      subst (λ x. Within goal (delay (node_at p (suc j)).0) (up_from delay p (suc j)) (step t s x)) (sym is)
+      (passes e good (suc j) below m tells waits j refl)
 
   -- A message that tells of the activation brings it nearer as it is taken.
-  pub activation-nears : (e : MeshEvent) (j u d : ℕ) (m : Msg) → StandsBy t q p b n k s e → SaysActivation p b j u d m →
-      takes_one u d e ≡ 1 → StandsIn (s.mail u d) m [] → Soon (turning_goal t q p b n k) j (step t s e)
+  pub activation-nears : (e : MeshEvent) (j u d : ℕ) (m : Msg) → StandsBy t q p b n k s e →
+      SaysActivation delay p b j u d m → takes_one u d e ≡ 1 → StandsIn (s.mail u d) m [] →
+      Within (turning_goal t delay q p b n k) (delay d) j (step t s e)
   activation-nears e j u d m good (inl is) one waits =
       let taken : takes_one (node_at p is.place).0 (node_at p (suc is.place)).0 e ≡ 1 = rw (← is.from, ← is.to) one in
-      down e j is.place m good is.below is.tells is.left
-      (take-is (node_at p is.place) (node_at p (suc is.place)) e taken) (rw (is.from, is.to) at waits)
+      subst (λ x. Within goal (delay x) j (step t s e)) (sym is.to)
+      (down e j is.place m good is.below is.tells is.left
+      (take-is (node_at p is.place) (node_at p (suc is.place)) e taken) (rw (is.from, is.to) at waits))
   activation-nears e j u d m good (inr is) one waits =
-      let taken : takes_one (node_at p (suc j)).0 (node_at p j).0 e ≡ 1 = rw (← is.from, ← is.to) one in
-      up e good j m is.below is.tells
-      (take-is (node_at p (suc j)) (node_at p j) e taken) (rw (is.from, is.to) at waits)
+      let taken : takes_one (node_at p (suc is.place)).0 (node_at p is.place).0 e ≡ 1 = rw (← is.from, ← is.to) one in
+      subst (λ x. Within goal (delay x) j (step t s e)) (sym is.to)
+      (subst (λ x. Within goal (delay (node_at p is.place).0) x (step t s e)) (sym is.left)
+      (up e good is.place m is.below is.tells
+      (take-is (node_at p (suc is.place)) (node_at p is.place) e taken) (rw (is.from, is.to) at waits)))

@@ -20,6 +20,7 @@ use Rattle.lsp_laws.proofs.hops.Chain.{Chain}
 use Rattle.lsp_laws.proofs.hops.Plans.{Plan, hops, node_at}
 use Rattle.lsp_laws.proofs.hops.Purposes.{Purpose}
 use Rattle.mesh_laws.specs.AloneLaw.{is_refusal, sent_in}
+use Rattle.mesh_laws.proofs.soon.Delays.{down_to, there_and_back, up_from}
 use Rattle.mesh_laws.proofs.soon.OneHop.{Activates, Answers}
 use Rattle.mesh_laws.proofs.soon.Soon.{Goal}
 
@@ -33,25 +34,27 @@ pub record HasTurned (n : NodeId) (k : CallNo) (s : Mesh) : Type 0 where
 
 -- How far it is
 
--- the Path that activates the backup comes from place i: j hops down are left once it is taken, and all of them up
-pub record ComesDown (p : Plan) (b : Lsp) (j u d : ℕ) (m : Msg) : Type 0 where
+-- the Path that activates the backup comes from this place: it waits for j sweeps once it is taken, down and up again
+pub record ComesDown (delay : ℕ → ℕ → ℕ) (p : Plan) (b : Lsp) (j u d : ℕ) (m : Msg) : Type 0 where
   pub place : ℕ
   pub below : place < hops p
   pub tells : Activates b m
   pub from : u ≡ (node_at p place).0
   pub to : d ≡ (node_at p (suc place)).0
-  pub left : j + suc place ≡ hops p + hops p
+  pub left : j + down_to delay p (suc place) ≡ there_and_back delay p
 
--- a Resv comes to place i: so many hops are left
-pub record ComesUp (p : Plan) (b : Lsp) (j u d : ℕ) (m : Msg) : Type 0 where
-  pub below : j < hops p
+-- a Resv comes to this place: it waits for j sweeps from there on
+pub record ComesUp (delay : ℕ → ℕ → ℕ) (p : Plan) (b : Lsp) (j u d : ℕ) (m : Msg) : Type 0 where
+  pub place : ℕ
+  pub below : place < hops p
   pub tells : Answers b m
-  pub from : u ≡ (node_at p (suc j)).0
-  pub to : d ≡ (node_at p j).0
+  pub from : u ≡ (node_at p (suc place)).0
+  pub to : d ≡ (node_at p place).0
+  pub left : j ≡ up_from delay p place
 
 -- either of the two
-abbrev pub SaysActivation : Plan → Lsp → ℕ → ℕ → ℕ → Msg → Type 0
-SaysActivation p b j u d m = ComesDown p b j u d m ⊎ ComesUp p b j u d m
+abbrev pub SaysActivation : (ℕ → ℕ → ℕ) → Plan → Lsp → ℕ → ℕ → ℕ → Msg → Type 0
+SaysActivation delay p b j u d m = ComesDown delay p b j u d m ⊎ ComesUp delay p b j u d m
 
 -- What is known of the state and the event: the backup b of the call k at its ingress n has the plan p.
 pub record StandsBy (t : Network) (q : Purpose) (p : Plan) (b : Lsp) (n : NodeId) (k : CallNo) (s : Mesh)
@@ -69,10 +72,10 @@ pub record StandsBy (t : Network) (q : Purpose) (p : Plan) (b : Lsp) (n : NodeId
   pub unhit : call.back_reports ≡ []
 
 -- that the call has turned
-abbrev pub turning_goal : Network → Purpose → Plan → Lsp → NodeId → CallNo → Goal
-turning_goal t q p b n k = record {
+abbrev pub turning_goal : Network → (ℕ → ℕ → ℕ) → Purpose → Plan → Lsp → NodeId → CallNo → Goal
+turning_goal t delay q p b n k = record {
   Good = StandsBy t q p b n k;
   Done = HasTurned n k;
-  Says = SaysActivation p b;
+  Says = SaysActivation delay p b;
   Tells = λ j m i. ⊥;
 }

@@ -25,7 +25,7 @@ use Rattle.mesh_laws.proofs.alone.AloneRuns.{after-append, append-one, run-first
 use Rattle.mesh_laws.proofs.soon.CallGoesOn.{GoesOn, IsTold, call-goes_on}
 use Rattle.mesh_laws.proofs.soon.NoneUp.{IsAlarm, NoneUp, none-up}
 use Rattle.ason_base.specs.Lsps.{has_fibre}
-use Rattle.mesh_laws.proofs.soon.Noticed.{failure_goal, fibre_of}
+use Rattle.mesh_laws.proofs.soon.Noticed.{GoodHere, fibre_of}
 use Rattle.mesh_laws.proofs.soon.Roles.{Fixed, Roles, Scene}
 use Rattle.mesh_laws.proofs.soon.Scenes.{scene}
 use Rattle.mesh_laws.proofs.soon.Soon.{AllGood}
@@ -183,7 +183,7 @@ module _ (t : Network) (valid : IsTopology t) (g : Group) (r : Roles) (fixed : F
   pub all-good : (done ahead : List MeshEvent) → IsRun t start (done ++ ahead) → AllByRecursion PostsNothing ahead →
       NoneRefused t (after t start done) ahead →
       ((first later : List MeshEvent) → first ++ later ≡ ahead → Tells (done ++ first)) → Known done →
-      AllGood t (failure_goal t r) (after t start done) ahead
+      AllGood t (GoodHere t r) (after t start done) ahead
   all-good done [] run only none tells known = tt
   all-good done (e ∷ ahead) run only none tells known =
       let s : Mesh = after t start done in
@@ -204,7 +204,7 @@ module _ (t : Network) (valid : IsTopology t) (g : Group) (r : Roles) (fixed : F
               (fibre_of r) ≡ true) (sym is)
               (alarm-known t s (node_at r.work_plan (suc r.place)) r.link rest own was);
         },
-        subst (λ x. AllGood t (failure_goal t r) x ahead) next
+        subst (λ x. AllGood t (GoodHere t r) x ahead) next
             (all-good (done ++ e ∷ []) ahead more only.1 (subst (λ x. NoneRefused t x ahead) (sym next) none.2)
             (λ first later parts. subst Tells (sym (append_assoc done (e ∷ []) first))
             (tells (e ∷ first) later (ap (λ xs. e ∷ xs) parts))) known'),

@@ -21,7 +21,8 @@ use Rattle.lsp_laws.proofs.hops.Plans.{Plan, hops, node_at}
 use Rattle.lsp_laws.proofs.hops.Purposes.{Carries, Guards, Purpose, role_of}
 use Rattle.mesh_laws.proofs.soon.Activating.{turning_goal}
 use Rattle.mesh_laws.proofs.soon.OneHop.{Activates, Answers}
-use Rattle.mesh_laws.proofs.soon.Soon.{ByMail, Soon}
+use Rattle.mesh_laws.proofs.soon.Delays.{AreDelays, back-straight, down-grows, down-straight, down_to, there_and_back, up_from}
+use Rattle.mesh_laws.proofs.soon.Soon.{ByMail, Within}
 use Rattle.mesh_laws.proofs.soon.Swept.{StandsIn}
 
 -- Kinds
@@ -130,10 +131,11 @@ answers-of l (Notify k e at link code) is kind = absurd (cc kind)
 
 -- Along the route
 
-module _ (t : Network) (q : Purpose) (p : Plan) (b : Lsp) (n : NodeId) (k : CallNo) (s : Mesh) (chain : Chain t q b p (leg_at s b) (mail_between s b))
+module _ (t : Network) (delay : ℕ → ℕ → ℕ) (delays : AreDelays delay) (q : Purpose) (p : Plan) (b : Lsp) (n : NodeId)
+    (k : CallNo) (s : Mesh) (chain : Chain t q b p (leg_at s b) (mail_between s b))
     (none : (u d : NodeId) → HasKind Contention (map msg_kind (mail_between s b u d)) → ⊥) where
   abbrev Near : Type 0
-  Near = Soon (turning_goal t q p b n k) (hops p + hops p) s
+  Near = Within (turning_goal t delay q p b n k) (delay (node_at p 0).0) (there_and_back delay p) s
 
   armed-leg : (i : ℕ) → leg_kind (leg_at s b (node_at p i)) ≡ ArmedLeg → (o : Option Leg) →
       leg_at s b (node_at p i) ≡ o → (g : Leg) × (leg_at s b (node_at p i) ≡ Some g) × (g.phase ≡ Armed)
@@ -143,26 +145,32 @@ module _ (t : Network) (q : Purpose) (p : Plan) (b : Lsp) (n : NodeId) (k : Call
   on-way : (i : ℕ) → i < hops p →
       Found b ActivePath (s.mail (node_at p i).0 (node_at p (suc i)).0) → Near
   on-way i below f =
-      ByMail ((hops p + hops p) - suc i) (node_at p i).0 (node_at p (suc i)).0 f.msg f.before (omega (arith, below))
+      let far = down-grows delay p (suc i) (hops p) below in
+      let straight = down-straight delay p delays i in
+      ByMail (there_and_back delay p - down_to delay p (suc i)) (node_at p i).0 (node_at p (suc i)).0 f.msg f.before
+      (omega (arith, far, straight))
       (inl (record {
         place = i;
         below = below;
         tells = activates-of b f.msg (own-lsp b f.msg f.own) f.kind;
         from = refl;
         to = refl;
-        left = omega (arith, below);
+        left = omega (arith, far);
       }))
       f.stands
 
   answered : (i : ℕ) → i < hops p →
       Found b Label (s.mail (node_at p (suc i)).0 (node_at p i).0) → Near
   answered i below f =
-      ByMail i (node_at p (suc i)).0 (node_at p i).0 f.msg f.before (omega (arith, below))
+      ByMail (up_from delay p i) (node_at p (suc i)).0 (node_at p i).0 f.msg f.before
+      (back-straight delay p delays i (hops p) below)
       (inr (record {
+        place = i;
         below = below;
         tells = answers-of b f.msg (own-lsp b f.msg f.own) f.kind;
         from = refl;
         to = refl;
+        left = refl;
       }))
       f.stands
 
@@ -196,6 +204,6 @@ module _ (t : Network) (q : Purpose) (p : Plan) (b : Lsp) (n : NodeId) (k : Call
   from-place (suc left) i whole armed =
       at-armed i (omega (arith, whole)) armed (λ below is. from-place left (suc i) (omega (arith, whole)) is)
 
-  -- While the leg at the ingress is Armed, the call has turned within as many sweeps as there are hops, there and back.
+  -- While the leg at the ingress is Armed, the call has turned within as many sweeps as messages wait, there and back.
   pub armed-soon : leg_kind (leg_at s b (node_at p 0)) ≡ ArmedLeg → Near
   armed-soon armed = from-place (hops p) 0 (omega arith) armed

@@ -1,5 +1,5 @@
 -- As the group fails: alarms alone are on the desks, and which cut is the nearest.
-use Rattle.std.proofs.Common.{◌≡◌, ℕ, suc, Bool, true, false, cond, nat_eq, List, [], ◌∷◌, ◌++◌, refl, sym, ap, subst}
+use Rattle.std.proofs.Common.{◌≡◌, ℕ, zero, suc, ◌+◌, arith, Bool, true, false, cond, nat_eq, List, [], ◌∷◌, ◌++◌, refl, sym, ap, subst}
 use Rattle.std.specs.Prelude.{◌||◌, Option, Some, None, flat_map, slice_get}
 use Rattle.std.specs.List.{AllByRecursion}
 use Rattle.ason_base.specs.Lsps.{same_bool}
@@ -7,6 +7,7 @@ use Rattle.ason_base.specs.Network.{Network, find_link}
 use Rattle.ason_base.specs.declared.commands.Command.TheVariants.{Fail}
 use Rattle.ason_base.specs.declared.commands.Group.{Group}
 use Rattle.ason_base.specs.declared.ids.Fibre.{Fibre}
+use Rattle.ason_base.specs.declared.ids.NodeId.{NodeId}
 use Rattle.ason_base.specs.declared.network.LinkSpec.{LinkSpec}
 use Rattle.ason_base.specs.declared.steps.Step.{Step}
 use Rattle.mesh_rules.specs.declared.events.MeshEvent.TheVariants.{Post}
@@ -17,7 +18,12 @@ use Rattle.mesh_rules.specs.Quiet.{IsQuiet}
 use Rattle.mesh_nodes.proofs.Cases.{if_cases}
 use Rattle.mesh_laws.specs.RestorationLaw.{is_link_cut, is_route_cut}
 use Rattle.mesh_laws.proofs.alone.Fine.{all-append}
+use Rattle.lsp_laws.proofs.hops.Plans.{node_at, plan}
+use Rattle.mesh_rules.specs.Reports.{first_node}
+use Rattle.mesh_laws.specs.InOrderLaw.{late_to_cut}
 use Rattle.mesh_laws.specs.SoonLaw.{hops_to_cut}
+use Rattle.mesh_laws.specs.Sweeps.{late}
+use Rattle.mesh_laws.proofs.soon.Delays.{up_from}
 use Rattle.mesh_laws.proofs.soon.CallsSayDown.{IsDown}
 use Rattle.mesh_laws.proofs.soon.NoneUp.{IsAlarm, NoneUp}
 
@@ -62,6 +68,17 @@ none-up-at-first t s g none quiet = record {
 
 -- The nearest cut
 
+first-node : (route : List Step) (e : NodeId) → node_at (plan route e) 0 ≡ first_node route e
+first-node [] e = refl
+first-node (hop ∷ route) e = refl
+
+-- the first hop comes last on the way up
+up-first : (hop : Step) (route : List Step) (e : NodeId) (i : ℕ) →
+    up_from late (plan (hop ∷ route) e) (suc (suc i)) ≡
+    late (node_at (plan route e) 0).0 hop.node.0 + up_from late (plan route e) (suc i)
+up-first hop route e zero = omega arith
+up-first hop route e (suc i) = let h = up-first hop route e i in omega (arith, h)
+
 -- the place of the first link of the route that is cut, and the link
 pub record NearestCut (t : Network) (failed : List Group) (route : List Step) : Type 0 where
   pub place : ℕ
@@ -71,6 +88,7 @@ pub record NearestCut (t : Network) (failed : List Group) (route : List Step) : 
   pub found : find_link t hop.link ≡ Some link
   pub cut : is_cut failed link ≡ true
   pub far : suc place ≡ hops_to_cut t failed route
+  pub late_hops : (e : NodeId) → up_from late (plan route e) (suc place) ≡ late_to_cut t failed e route
 
 link-cut : (failed : List Group) (o : Option LinkSpec) → is_link_cut failed o ≡ true →
     (l : LinkSpec) × (o ≡ Some l) × (is_cut failed l ≡ true)
@@ -89,7 +107,16 @@ nearest-cut t failed (hop ∷ route) e =
         (is_route_cut t failed (Some route) ≡ true → NearestCut t failed route) → NearestCut t failed (hop ∷ route)
     go true is e again =
         let one = link-cut failed (find_link t hop.link) is in
-        record { place = 0; hop = hop; link = one.0; there = refl; found = one.1; cut = one.2; far = rw is refl }
+        record {
+          place = 0;
+          hop = hop;
+          link = one.0;
+          there = refl;
+          found = one.1;
+          cut = one.2;
+          far = rw is refl;
+          late_hops = λ e. rw (is, first-node route e) refl;
+        }
     go false is e again =
         let more = again e in
         record {
@@ -100,6 +127,9 @@ nearest-cut t failed (hop ∷ route) e =
           found = more.found;
           cut = more.cut;
           far = rw is (ap suc more.far);
+          late_hops = λ e.
+              let one = up-first hop route e more.place in let two = more.late_hops e in
+              rw (is, ← first-node route e, ← two) one;
         }
 
 -- a route that is cut is there

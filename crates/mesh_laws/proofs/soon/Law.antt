@@ -1,5 +1,5 @@
--- A guarded call that is hit is restored within so many sweeps.
-use Rattle.std.proofs.Common.{append-nil, ◌≡◌, ◌≤◌, ℕ, ◌+◌, Bool, true, false, List, [], ◌∷◌, ◌++◌, length, refl, sym, ◌∙◌, ap, subst, arith}
+-- A guarded call that is hit is restored within so many sweeps, of either kind.
+use Rattle.std.proofs.Common.{append-nil, ◌≡◌, ◌≤◌, ℕ, Bool, true, false, List, [], ◌∷◌, ◌++◌, refl, sym, ◌∙◌, ap, subst, arith}
 use Rattle.std.specs.Prelude.{Option, Some}
 use Rattle.std.specs.List.{AllByRecursion}
 use Rattle.std.proofs.lemmas.List.Elements.{recursion_from_All}
@@ -25,11 +25,14 @@ use Rattle.mesh_laws.specs.RestorationLaw.{carrier, is_guarded, is_hit, is_route
 use Rattle.mesh_laws.proofs.alone.AloneRuns.{after-append, append-one}
 use Rattle.mesh_laws.proofs.alone.Risks.{not_beside}
 use Rattle.mesh_laws.proofs.restoration.Cuts.{cut-concerns}
-use Rattle.mesh_laws.specs.SoonLaw.{EveryHitCallIsRestoredSoon, IsRestoredAt, IsStruck, cut_in, hops_in, hops_to_cut, route_for}
-use Rattle.mesh_laws.specs.Sweeps.{AreSweeps}
+use Rattle.mesh_laws.specs.InOrderLaw.{EveryHitCallIsRestoredInOrder, late_in, sweeps_in_order}
+use Rattle.mesh_laws.specs.SoonLaw.{EveryHitCallIsRestoredSoon, IsRestoredAt, IsStruck, cut_in, hops_in, route_for, sweeps_for}
+use Rattle.mesh_laws.specs.Sweeps.{AreSweeps, AreSweepsInOrder}
 use Rattle.mesh_laws.proofs.soon.Along.{backed-standing, unreleased}
 use Rattle.mesh_laws.proofs.soon.AtFailure.{concern-to, first-alarms, only-takes, route-stays}
-use Rattle.mesh_laws.proofs.soon.TurnedInTime.{all-run, apart, back-route, base-run, found-then, hit-group, its, turned-in-time, work-route}
+use Rattle.mesh_laws.proofs.soon.Activating.{HasTurned}
+use Rattle.mesh_laws.proofs.soon.HitCall.{all-run, apart, back-route, base-run, found-then, hit-group, its, work-route}
+use Rattle.mesh_laws.proofs.soon.TurnedInTime.{turned-in-order, turned-in-time}
 use Rattle.mesh_laws.proofs.soon.NoneUp.{NoneUp, none-up}
 use Rattle.mesh_laws.specs.SoonLaw.{PostsNothing}
 
@@ -93,13 +96,10 @@ module _ (t : Network) (valid : IsTopology t) (events : List MeshEvent) (run : I
           (cut-concerns t (after t start end).failed g back
           (concern-to t valid events run g struck struck.since [] (append-nil struck.since)).failed e))
 
-  -- Within so many sweeps the call is restored.
-  restored-in-time : (k : ℕ) →
-      AreSweeps t k (after t start (struck.before ++ Post (Fail g) ∷ [])) struck.since →
-      (1 + hops_to_cut t (after t start (struck.before ++ Post (Fail g) ∷ [])).failed work) + (length back + length back) ≤ k
-      → IsRestoredAt t events n m
-  restored-in-time k sweeps enough =
-      let has = turned-in-time t valid events run g struck n m c found guarded hit k sweeps enough in
+  -- Once it has turned, the call is restored.
+  turned-restored : HasTurned (record { 0 = n }) m (after t (after t start (struck.before ++ Post (Fail g) ∷ []))
+      struck.since) → IsRestoredAt t events n m
+  turned-restored has =
       let at_end : after t start end ≡ after t (after t start base) struck.since =
       after-append t start base struck.since in
       let d : CallRec = has.call in
@@ -127,21 +127,46 @@ module _ (t : Network) (valid : IsTopology t) (events : List MeshEvent) (run : I
         };
       })
 
--- The law
+  -- where its routes go
+  at-work : route_for t (struck.before ++ Post (Fail g) ∷ []) c.work ≡ Some work
+  at-work =
+      subst (λ (o : Option Lsp). route_for t base o ≡ Some work)
+      (sym (its t valid events run g struck n m c found guarded hit).is_work)
+      (work-route t valid events run g struck n m c found guarded hit).1
+
+  at-back : route_for t (struck.before ++ Post (Fail g) ∷ []) c.back ≡ Some back
+  at-back =
+      subst (λ (o : Option Lsp). route_for t base o ≡ Some back)
+      (sym (its t valid events run g struck n m c found guarded hit).is_back)
+      (back-route t valid events run g struck n m c found guarded hit).1
+
+  -- Within so many sweeps the call is restored.
+  restored-in-time : (k : ℕ) → AreSweeps t k (after t start (struck.before ++ Post (Fail g) ∷ [])) struck.since →
+      sweeps_for t (struck.before ++ Post (Fail g) ∷ []) c ≤ k → IsRestoredAt t events n m
+  restored-in-time k sweeps enough =
+      let one = ap (cut_in t (after t start base).failed) at-work in
+      let two = ap hops_in at-back in
+      turned-restored
+      (turned-in-time t valid events run g struck n m c found guarded hit k sweeps (omega (arith, enough, one, two)))
+
+  -- And within so many in order.
+  restored-in-order : (k : ℕ) →
+      AreSweepsInOrder t k (after t start (struck.before ++ Post (Fail g) ∷ [])) struck.since →
+      sweeps_in_order t (struck.before ++ Post (Fail g) ∷ []) c ≤ k → IsRestoredAt t events n m
+  restored-in-order k sweeps enough =
+      let one = ap (late_in t (after t start base).failed c.egress) at-work in
+      let two = ap hops_in at-back in
+      turned-restored
+      (turned-in-order t valid events run g struck n m c found guarded hit k sweeps (omega (arith, enough, one, two)))
+
+-- The laws
 
 -- Each guarded call that is hit is restored within so many sweeps.
 pub every_hit_call_soon : EveryHitCallIsRestoredSoon
 every_hit_call_soon t events valid run g struck k sweeps n m c found guarded hit enough =
-    let base : List MeshEvent = struck.before ++ Post (Fail g) ∷ [] in
-    let call = its t valid events run g struck n m c found guarded hit in
-    let one = work-route t valid events run g struck n m c found guarded hit in
-    let two = back-route t valid events run g struck n m c found guarded hit in
-    let at_work : route_for t base c.work ≡ Some one.0 =
-    subst (λ (o : Option Lsp). route_for t base o ≡ Some one.0) (sym call.is_work) one.1 in
-    let at_back : route_for t base c.back ≡ Some two.0 =
-    subst (λ (o : Option Lsp). route_for t base o ≡ Some two.0) (sym call.is_back) two.1 in
-    let a : cut_in t (after t start base).failed (route_for t base c.work) ≡
-    hops_to_cut t (after t start base).failed one.0 =
-    ap (cut_in t (after t start base).failed) at_work in
-    let b : hops_in (route_for t base c.back) ≡ length two.0 = ap hops_in at_back in
-    restored-in-time t valid events run g struck n m c found guarded hit k sweeps (omega (arith, enough, a, b))
+    restored-in-time t valid events run g struck n m c found guarded hit k sweeps enough
+
+-- And within so many sweeps in order.
+pub every_hit_call_in_order : EveryHitCallIsRestoredInOrder
+every_hit_call_in_order t events valid run g struck k sweeps n m c found guarded hit enough =
+    restored-in-order t valid events run g struck n m c found guarded hit k sweeps enough

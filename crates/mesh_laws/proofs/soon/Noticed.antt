@@ -28,13 +28,14 @@ use Rattle.lsp_laws.proofs.hops.Plans.{hops, link_at, node_at}
 use Rattle.lsp_laws.proofs.hops.Purposes.{Purpose}
 use Rattle.mesh_laws.specs.AloneLaw.{is_refusal, sent_in}
 use Rattle.mesh_laws.proofs.reports.ReportLaws.{place-is}
-use Rattle.mesh_laws.specs.Sweeps.{AreSweeps, handles_one, takes_one}
+use Rattle.mesh_laws.specs.Sweeps.{AreSoMany, handles_one, takes_one}
 use Rattle.mesh_laws.proofs.soon.Activated.{activation-nears}
 use Rattle.mesh_laws.proofs.soon.Armed.{armed-soon}
 use Rattle.mesh_laws.proofs.soon.OneHop.{notice-passes}
-use Rattle.mesh_laws.proofs.soon.Soon.{ByDesk, ByMail, AllGood, Goal, IsDone, Nears, Soon, reached}
+use Rattle.mesh_laws.proofs.soon.Soon.{ByDesk, ByMail, AllGood, Goal, IsDone, Nears, Once, Within, nearer, reached}
 use Rattle.mesh_laws.proofs.soon.Swept.{StandsIn}
 use Rattle.mesh_laws.proofs.soon.CallGoesOn.{GoesOn}
+use Rattle.mesh_laws.proofs.soon.Delays.{AreDelays, there_and_back, up-straight, up_from}
 use Rattle.mesh_laws.proofs.soon.Activating.{HasTurned, SaysActivation, turning_goal}
 use Rattle.mesh_laws.proofs.soon.Notices.{FoundReport, HasTrue, Reports, find-report, on-some, told-true}
 use Rattle.mesh_laws.proofs.soon.ReportComes.{report-comes}
@@ -44,26 +45,26 @@ use Rattle.mesh_laws.proofs.soon.Words.{desk-is, take-is}
 -- How far it is
 
 -- a Notify of the fibre after the place comes to place j of the working route
-pub record ComesToIngress (r : Roles) (j u d : ℕ) (m : Msg) : Type 0 where
+pub record ComesToIngress (delay : ℕ → ℕ → ℕ) (r : Roles) (j u d : ℕ) (m : Msg) : Type 0 where
   pub at : ℕ
   pub below : at ≤ r.place
   pub reports : Reports r.work (node_at r.work_plan (suc r.place)) (link_at r.work_plan r.place) m
   pub from : u ≡ (node_at r.work_plan (suc at)).0
   pub to : d ≡ (node_at r.work_plan at).0
-  pub left : j ≡ at + (hops r.back_plan + hops r.back_plan)
+  pub left : j ≡ up_from delay r.work_plan at + there_and_back delay r.back_plan
 
-abbrev pub SaysFailure : Roles → ℕ → ℕ → ℕ → Msg → Type 0
-SaysFailure r j u d m = ComesToIngress r j u d m ⊎ SaysActivation r.back_plan r.back j u d m
+abbrev pub SaysFailure : (ℕ → ℕ → ℕ) → Roles → ℕ → ℕ → ℕ → Msg → Type 0
+SaysFailure delay r j u d m = ComesToIngress delay r j u d m ⊎ SaysActivation delay r.back_plan r.back j u d m
 
 -- the fibre that fails
 abbrev pub fibre_of : Roles → Fibre
 fibre_of r = fibre_in r.link (node_at r.work_plan (suc r.place))
 
 -- its alarm is on the desk of its node
-pub record IsTheAlarm (r : Roles) (j n : ℕ) (i : DeskItem) : Type 0 where
+pub record IsTheAlarm (delay : ℕ → ℕ → ℕ) (r : Roles) (j n : ℕ) (i : DeskItem) : Type 0 where
   pub is : i ≡ Alarm (fibre_of r)
   pub at : n ≡ (node_at r.work_plan (suc r.place)).0
-  pub left : j ≡ suc r.place + (hops r.back_plan + hops r.back_plan)
+  pub left : j ≡ up_from delay r.work_plan (suc r.place) + there_and_back delay r.back_plan
 
 -- what holds of a state and of the event that comes there
 pub record GoodHere (t : Network) (r : Roles) (s : Mesh) (e : MeshEvent) : Type 0 where
@@ -79,46 +80,53 @@ pub record GoodHere (t : Network) (r : Roles) (s : Mesh) (e : MeshEvent) : Type 
       has_fibre ((step t s e).nodes (node_at r.work_plan (suc r.place)).0).down (fibre_of r) ≡ true
 
 -- that the call has turned
-abbrev pub failure_goal : Network → Roles → Goal
-failure_goal t r = record {
+abbrev pub failure_goal : Network → (ℕ → ℕ → ℕ) → Roles → Goal
+failure_goal t delay r = record {
   Good = GoodHere t r;
   Done = HasTurned r.ingress r.call;
-  Says = SaysFailure r;
-  Tells = IsTheAlarm r;
+  Says = SaysFailure delay r;
+  Tells = IsTheAlarm delay r;
 }
 
-module _ (t : Network) (r : Roles) (fixed : Fixed t r) where
+module _ (t : Network) (delay : ℕ → ℕ → ℕ) (delays : AreDelays delay) (r : Roles) (fixed : Fixed t r) where
   abbrev goal : Goal
-  goal = failure_goal t r
+  goal = failure_goal t delay r
 
+  -- how long messages wait on the backup, there and back
   abbrev long : ℕ
-  long = hops r.back_plan + hops r.back_plan
+  long = there_and_back delay r.back_plan
+
+  -- and on the working route, up from a place
+  abbrev up : ℕ → ℕ
+  up i = up_from delay r.work_plan i
 
   abbrev turning : Purpose → Goal
-  turning q = turning_goal t q r.back_plan r.back r.ingress r.call
+  turning q = turning_goal t delay q r.back_plan r.back r.ingress r.call
 
   -- what is near in the activation is near
-  from-activation : (q : Purpose) (k : ℕ) (s : Mesh) → Soon (turning q) k s → Soon goal k s
-  from-activation q k s (IsDone done) = IsDone done
-  from-activation q k s (ByMail j u d m before less says stands) = ByMail j u d m before less (inr says) stands
-  from-activation q k s (ByDesk j n i before less tells stands) = absurd tells
+  from-activation : (q : Purpose) (waits : ℕ → ℕ) (k : ℕ) (s : Mesh) → Within (turning q) waits k s →
+      Within goal waits k s
+  from-activation q waits k s (IsDone done) = IsDone done
+  from-activation q waits k s (ByMail j u d m before less says stands) = ByMail j u d m before less (inr says) stands
+  from-activation q waits k s (ByDesk j n i before less tells stands) = absurd tells
 
-  farther : (j k : ℕ) (s : Mesh) → j ≤ k → Soon goal j s → Soon goal k s
-  farther j k s most (IsDone done) = IsDone done
-  farther j k s most (ByMail i u d m before less says stands) =
-      ByMail i u d m before (omega (arith, most, less)) says stands
-  farther j k s most (ByDesk i n item before less tells stands) =
-      ByDesk i n item before (omega (arith, most, less)) tells stands
+  -- the ingress is the first node of either route
+  ingress-is : node_at r.back_plan 0 ≡ node_at r.work_plan 0
+  ingress-is = fixed.back_first ∙ sym fixed.work_first
 
   -- A call that knows of the failure turns, or has turned.
-  settled : (s : Mesh) (scene : Scene t r s) → has_any scene.call.work_reports ≡ true → Soon goal long s
+  settled : (s : Mesh) (scene : Scene t r s) → has_any scene.call.work_reports ≡ true →
+      Within goal (delay (node_at r.work_plan 0).0) long s
   settled s scene hit = go scene.is
     where
-      go : CallIs scene.call (leg_kind (leg_at s r.back (node_at r.back_plan 0)) ≡ ArmedLeg) → Soon goal long s
+      go : CallIs scene.call (leg_kind (leg_at s r.back (node_at r.back_plan 0)) ≡ ArmedLeg) →
+          Within goal (delay (node_at r.work_plan 0).0) long s
       go (Waits is none) = absurd (cc (hit, none))
       go (IsTurning is armed) =
-          from-activation scene.back_for long s
-          (armed-soon t scene.back_for r.back_plan r.back r.ingress r.call s scene.back_chain scene.uncontended armed)
+          subst (λ (x : NodeId). Within goal (delay x.0) long s) ingress-is
+          (from-activation scene.back_for (delay (node_at r.back_plan 0).0) long s
+          (armed-soon t delay delays scene.back_for r.back_plan r.back r.ingress r.call s scene.back_chain
+          scene.uncontended armed))
       go (IsTurned is) = IsDone (record { call = scene.call; found = scene.found; state = is })
 
   any-of : (fibres : List Fibre) (f : Fibre) → has_fibre fibres f ≡ true → has_any fibres ≡ true
@@ -131,10 +139,15 @@ module _ (t : Network) (r : Roles) (fixed : Fixed t r) where
   -- where the node knows of it the Notify is on its way, or it has come
   known-soon : (s : Mesh) (scene : Scene t r s) →
       has_fibre (s.nodes (node_at r.work_plan (suc r.place)).0).down (fibre_of r) ≡ true →
-      Soon goal (suc r.place + long) s
+      Within goal (delay (node_at r.work_plan (suc r.place)).0) (up (suc r.place) + long) s
   known-soon s scene known =
       elim (told-true _ _ (scene.tells ∙ known)) [
-        | inl reported ↦ farther long (suc r.place + long) s (omega arith) (settled s scene (was-reported reported))
+        | inl reported ↦
+            nearer goal (delay (node_at r.work_plan 0).0) (delay (node_at r.work_plan (suc r.place)).0) long
+            (up (suc r.place) + long) s
+            (λ v. let one = delays (node_at r.work_plan (suc r.place)).0 (node_at r.work_plan 0).0 v in
+            let two = up-straight delay r.work_plan delays 0 (suc r.place) (omega arith) in omega (arith, one, two))
+            (settled s scene (was-reported reported))
         | inr has ↦ on-way (on-some line (suc r.place) has)
       ]
     where
@@ -151,7 +164,8 @@ module _ (t : Network) (r : Roles) (fixed : Fixed t r) where
           any-of scene.call.work_reports (fibre_of r)
           (subst (λ fs. has_fibre fs (fibre_of r) ≡ true) (work-reports s scene) there)
 
-      on-way : (j : ℕ) × (j < suc r.place) × HasTrue (line j) → Soon goal (suc r.place + long) s
+      on-way : (j : ℕ) × (j < suc r.place) × HasTrue (line j) →
+          Within goal (delay (node_at r.work_plan (suc r.place)).0) (up (suc r.place) + long) s
       on-way (j, small, has) =
           let near = place-is r.work_plan.route r.work_plan.egress j in
           let far = place-is r.work_plan.route r.work_plan.egress (suc j) in
@@ -159,8 +173,9 @@ module _ (t : Network) (r : Roles) (fixed : Fixed t r) where
           (s.mail (node_at r.work_plan (suc j)).0 (node_at r.work_plan j).0) =
           find-report r.work (node_at r.work_plan (suc r.place)) r.link.id
           (s.mail (node_at r.work_plan (suc j)).0 (node_at r.work_plan j).0) (rw (near, far) at has) in
-          ByMail (j + long) (node_at r.work_plan (suc j)).0 (node_at r.work_plan j).0 f.msg f.before
-          (omega (arith, small))
+          let straight = up-straight delay r.work_plan delays j (suc r.place) small in
+          ByMail (up j + long) (node_at r.work_plan (suc j)).0 (node_at r.work_plan j).0 f.msg f.before
+          (omega (arith, straight))
           (inl (record {
             at = j;
             below = omega (arith, small);
@@ -178,9 +193,10 @@ module _ (t : Network) (r : Roles) (fixed : Fixed t r) where
       Reports r.work (node_at r.work_plan (suc r.place)) (link_at r.work_plan r.place) m →
       e ≡ Take (node_at r.work_plan i) (node_at r.work_plan (suc i)) →
       StandsIn (s.mail (node_at r.work_plan (suc i)).0 (node_at r.work_plan i).0) m [] →
-      Soon goal (i + long) (step t s e)
+      Within goal (delay (node_at r.work_plan i).0) (up i + long) (step t s e)
   notice s e good zero m below reports is waits =
-      farther long (0 + long) (step t s e) (omega arith)
+      let all : long ≡ up 0 + long = omega arith in
+      subst (λ k. Within goal (delay (node_at r.work_plan 0).0) k (step t s e)) all
       (settled (step t s e) good.next
       (report-comes t r fixed s good.here m reports waits good.next.call
       (subst (λ x. find_call r.call ((step t s x).nodes r.ingress.0).calls ≡ Some good.next.call) is good.next.found)
@@ -194,8 +210,8 @@ module _ (t : Network) (r : Roles) (fixed : Fixed t r) where
       let was = waits.all ∙ ap (λ x. x ∷ waits.later) reports.is in
       let on = notice-passes t scene.work_for s r.work r.work_plan i leg.0 fits small leg.1 leg.2 reports.egress
       (node_at r.work_plan (suc r.place)) (link_at r.work_plan r.place) reports.code true reports.down waits.later was in
-      subst (λ x. Soon goal (suc i + long) (step t s x)) (sym is)
-      (ByMail (i + long) (node_at r.work_plan (suc i)).0 (node_at r.work_plan i).0
+      subst (λ x. Within goal (delay (node_at r.work_plan (suc i)).0) (up (suc i) + long) (step t s x)) (sym is)
+      (ByMail (up i + long) (node_at r.work_plan (suc i)).0 (node_at r.work_plan i).0
       (Notify r.work reports.egress (node_at r.work_plan (suc r.place)) (link_at r.work_plan r.place) reports.code)
       on.0 (omega arith)
       (inl (record {
@@ -208,18 +224,19 @@ module _ (t : Network) (r : Roles) (fixed : Fixed t r) where
       }))
       on.1)
 
-  says : (s : Mesh) (e : MeshEvent) (j u d : ℕ) (m : Msg) → GoodHere t r s e → SaysFailure r j u d m →
-      takes_one u d e ≡ 1 → StandsIn (s.mail u d) m [] → Soon goal j (step t s e)
+  says : (s : Mesh) (e : MeshEvent) (j u d : ℕ) (m : Msg) → GoodHere t r s e → SaysFailure delay r j u d m →
+      takes_one u d e ≡ 1 → StandsIn (s.mail u d) m [] → Within goal (delay d) j (step t s e)
   says s e j u d m good (inl is) one waits =
       let taken : takes_one (node_at r.work_plan (suc is.at)).0 (node_at r.work_plan is.at).0 e ≡ 1 =
       rw (← is.from, ← is.to) one in
-      subst (λ k. Soon goal k (step t s e)) (sym is.left)
+      subst (λ x. Within goal (delay x) j (step t s e)) (sym is.to)
+      (subst (λ k. Within goal (delay (node_at r.work_plan is.at).0) k (step t s e)) (sym is.left)
       (notice s e good is.at m is.below is.reports
       (take-is (node_at r.work_plan (suc is.at)) (node_at r.work_plan is.at) e taken)
-      (rw (is.from, is.to) at waits))
+      (rw (is.from, is.to) at waits)))
   says s e j u d m good (inr is) one waits =
-      from-activation good.here.back_for j (step t s e)
-      (activation-nears t good.here.back_for r.back_plan r.back r.ingress r.call fixed.back_route fixed.back_first s e j u d m
+      from-activation good.here.back_for (delay d) j (step t s e)
+      (activation-nears t delay good.here.back_for r.back_plan r.back r.ingress r.call fixed.back_route fixed.back_first s e j u d m
       (record {
         chain = good.here.back_chain;
         reserved = good.here.reserved;
@@ -232,16 +249,17 @@ module _ (t : Network) (r : Roles) (fixed : Fixed t r) where
       })
       is one waits)
 
-  tells : (s : Mesh) (e : MeshEvent) (j n : ℕ) (i : DeskItem) → GoodHere t r s e → IsTheAlarm r j n i →
-      handles_one n e ≡ 1 → StandsIn (s.desks n) i [] → Soon goal j (step t s e)
+  tells : (s : Mesh) (e : MeshEvent) (j n : ℕ) (i : DeskItem) → GoodHere t r s e → IsTheAlarm delay r j n i →
+      handles_one n e ≡ 1 → StandsIn (s.desks n) i [] → Within goal (delay n) j (step t s e)
   tells s e j n i good alarm one waits =
       let at : NodeId = node_at r.work_plan (suc r.place) in
       let handled : handles_one (node_at r.work_plan (suc r.place)).0 e ≡ 1 = rw (← alarm.at) one in
       let stands : StandsIn (s.desks (node_at r.work_plan (suc r.place)).0) i [] = rw (alarm.at) at waits in
-      subst (λ k. Soon goal k (step t s e)) (sym alarm.left)
+      subst (λ x. Within goal (delay x) j (step t s e)) (sym alarm.at)
+      (subst (λ k. Within goal (delay (node_at r.work_plan (suc r.place)).0) k (step t s e)) (sym alarm.left)
       (known-soon (step t s e) good.next
       (good.alarmed stands.later (desk-is (node_at r.work_plan (suc r.place)) e handled)
-      (stands.all ∙ ap (λ x. x ∷ stands.later) alarm.is)))
+      (stands.all ∙ ap (λ x. x ∷ stands.later) alarm.is))))
 
   stays : (s : Mesh) (e : MeshEvent) → GoodHere t r s e → HasTurned r.ingress r.call s →
       HasTurned r.ingress r.call (step t s e)
@@ -252,15 +270,17 @@ module _ (t : Network) (r : Roles) (fixed : Fixed t r) where
   }
 
   -- Over each event the restoration gets nearer.
-  failure-nears : Nears t (failure_goal t r)
+  pub failure-nears : Nears t delay (failure_goal t delay r)
   failure-nears = record { says = says; tells = tells; stays = stays }
 
-  -- So within one sweep more than it is hops to the failure, and the backup there and back, the call has turned.
-  pub turned-soon : (k : ℕ) (s : Mesh) (es : List MeshEvent) → AreSweeps t k s es → AllGood t (failure_goal t r) s es →
+  -- So within one sweep more than messages wait, up from the failure, and on the backup there and back, it has turned.
+  pub turned-soon : (Sweep : Mesh → List MeshEvent → Type 0) → Once t (failure_goal t delay r) Sweep → (k : ℕ)
+      (s : Mesh) (es : List MeshEvent) → AreSoMany Sweep t k s es → AllGood t (GoodHere t r) s es →
       (before : List DeskItem) →
       StandsIn (s.desks (node_at r.work_plan (suc r.place)).0) (Alarm (fibre_of r)) before →
-      1 + suc r.place + (hops r.back_plan + hops r.back_plan) ≤ k → HasTurned r.ingress r.call (after t s es)
-  turned-soon k s es sweeps good before stands enough =
-      reached t (failure_goal t r) failure-nears k s es sweeps good
-      (ByDesk (suc r.place + long) (node_at r.work_plan (suc r.place)).0 (Alarm (fibre_of r)) before
+      1 + up_from delay r.work_plan (suc r.place) + there_and_back delay r.back_plan ≤ k →
+      HasTurned r.ingress r.call (after t s es)
+  turned-soon Sweep once k s es sweeps good before stands enough =
+      reached t delay (failure_goal t delay r) failure-nears Sweep once k s es sweeps good
+      (ByDesk (up (suc r.place) + long) (node_at r.work_plan (suc r.place)).0 (Alarm (fibre_of r)) before
       (omega (arith, enough)) (record { is = refl; at = refl; left = refl }) stands)

@@ -1,5 +1,5 @@
 -- What stands in a list stays there until it is taken, and in a sweep it is taken; so it is with what is on a desk.
-use Rattle.std.proofs.Common.{append_assoc, ◌≡◌, ◌<◌, ℕ, suc, Bool, true, false, cond, nat_eq, List, [], ◌∷◌, ◌++◌, drop, length, refl, sym, ap, subst, arith, append-nil}
+use Rattle.std.proofs.Common.{append_assoc, ◌≡◌, ◌≤◌, ◌<◌, ℕ, suc, Bool, true, false, cond, nat_eq, List, [], ◌∷◌, ◌++◌, drop, length, refl, sym, ap, subst, arith, append-nil}
 use Rattle.std.specs.Prelude.{◌&&◌}
 use Rattle.ason_base.specs.Network.{Network, find_link}
 use Rattle.ason_base.specs.declared.commands.Command.{Command}
@@ -14,7 +14,7 @@ use Rattle.mesh_rules.specs.Learnt.{on_link}
 use Rattle.mesh_rules.specs.LocalNodes.{local_node}
 use Rattle.mesh_rules.specs.Waits.{on_tick}
 use Rattle.mesh_rules.specs.Machine.{Mesh, commit, sent_to, without_first, without_item}
-use Rattle.mesh_laws.specs.Sweeps.{handled_at, handles_one, taken, takes_one, IsSweep}
+use Rattle.mesh_laws.specs.Sweeps.{handled_at, handles_one, taken, takes_one}
 
 -- Lists
 
@@ -216,12 +216,11 @@ behind-less : {X : Type 0} (x : X) (before later : List X) → length before < l
 behind-less x [] later = omega arith
 behind-less x (c ∷ before) later = let h = behind-less x before later in omega (arith, h)
 
--- In a sweep each message that was under way as it began is taken.
+-- Where as many are taken as stood there, each of them is.
 pub swept-mail : (t : Network) (s : Mesh) (es : List MeshEvent) (u d : ℕ) (m : Msg) (before : List Msg) →
-    StandsIn (s.mail u d) m before → IsSweep s es → GetsTaken t s es u d m
-swept-mail t s es u d m before stands sweep =
+    StandsIn (s.mail u d) m before → length (s.mail u d) ≤ taken u d es → GetsTaken t s es u d m
+swept-mail t s es u d m before stands all =
     let less : length before < length (s.mail u d) = rw stands.all (behind-less m before stands.later) in
-    let all = sweep.mail u d in
     is-taken t s es u d m before stands (omega (arith, less, all))
 
 -- the event that handles the item
@@ -265,10 +264,9 @@ is-handled t s (e ∷ es) n i before stands few =
         let size : length before ≡ suc (length cs) = rw is refl in later (again cs up (omega (arith, few, one, size)))
     go (Keeps none up) again = later (again before up (omega (arith, few, none)))
 
--- In a sweep each item that was on a desk as it began is handled.
+-- So it is with the items of a desk.
 pub swept-desk : (t : Network) (s : Mesh) (es : List MeshEvent) (n : ℕ) (i : DeskItem) (before : List DeskItem) →
-    StandsIn (s.desks n) i before → IsSweep s es → GetsHandled t s es n i
-swept-desk t s es n i before stands sweep =
+    StandsIn (s.desks n) i before → length (s.desks n) ≤ handled_at n es → GetsHandled t s es n i
+swept-desk t s es n i before stands all =
     let less : length before < length (s.desks n) = rw stands.all (behind-less i before stands.later) in
-    let all = sweep.desks n in
     is-handled t s es n i before stands (omega (arith, less, all))

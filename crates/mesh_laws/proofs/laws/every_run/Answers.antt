@@ -22,7 +22,7 @@ use Rattle.mesh_laws.proofs.rest.Rests.{every_rest_quiet, every_run_ends, every_
 use Rattle.mesh_laws.proofs.restoration.Law.{every_hit_call}
 use Rattle.mesh_laws.proofs.safe.Law.{every_run_safe}
 use Rattle.mesh_laws.proofs.sent.Law.{every_list, every_sent}
-use Rattle.mesh_laws.proofs.soon.Law.{every_hit_call_soon}
+use Rattle.mesh_laws.proofs.soon.Law.{every_hit_call_in_order, every_hit_call_soon}
 use Rattle.mesh_laws.proofs.laws.every_run.Goals as goal
 
 pub returns-clause-labels : goal.returns-clause-labels
@@ -111,6 +111,9 @@ returns-clause-restored c = every_hit_call
 
 pub returns-clause-soon : goal.returns-clause-soon
 returns-clause-soon c = every_hit_call_soon
+
+pub returns-clause-in_order : goal.returns-clause-in_order
+returns-clause-in_order c = every_hit_call_in_order
 
 pub returns-clause-answered : goal.returns-clause-answered
 returns-clause-answered c = every_lsp_soon
