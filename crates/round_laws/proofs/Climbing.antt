@@ -72,7 +72,8 @@ contents-append cs (k ∷ ks) js =
 
 -- A channel that has more at its end
 
-numbered_more : (cs more : List Content) (k : ℕ) (x : Content) → numbered_at cs k ≡ Some x →
+-- a frame has its number later too
+pub numbered_more : (cs more : List Content) (k : ℕ) (x : Content) → numbered_at cs k ≡ Some x →
     numbered_at (cs ++ more) k ≡ Some x
 numbered_more cs more zero x is = absurd (cc (is))
 numbered_more cs more (suc k) x is = get-append_left cs more k x is

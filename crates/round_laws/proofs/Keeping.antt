@@ -15,7 +15,7 @@ use Rattle.round_rules.specs.Doings.{Doing, deeds_in}
 use Rattle.round_rules.specs.Records.{IsRecord, Record, deeds_at}
 use Rattle.round_rules.specs.Rings.{count_of, got_from, is_in, standing}
 use Rattle.round_rules.specs.Rounds.{DropsAt, IsRoundAt, MayDrop, NumbersRise}
-use Rattle.round_laws.specs.Rings.{IsWhole, RingHasAll, channel_of, climb, contents_of, handed_up_at, sent_to}
+use Rattle.round_laws.specs.Rings.{IsWhole, RingHasAll, RingsHaveAll, channel_of, climb, contents_of, handed_up_at, sent_to}
 use Rattle.round_laws.specs.WholeRounds.{RoomDropsNone, IsWholeRound, RoundsBeginInOrder, WholeRoundsHandUpAll, WholeRoundsKeepRings}
 use Rattle.round_laws.proofs.Climbing.{AreIn, all_more, climb-append, contents-append, grown, news_are, thinned}
 use Rattle.round_laws.proofs.GoingOn.{deeds-append}
@@ -215,9 +215,11 @@ rings_after t before after u d added p enough up hands =
     four : (a b c d e f : ℕ) → a ≤ b → b ≤ c → c ≤ d → d ≤ e → e ≤ f → a ≤ f
     four a b c d e f p q r s v = omega (arith, p, q, r, s, v)
 
--- And what is sent in it stands in the rings, or is handed up.
-pub whole-rounds_keep : WholeRoundsKeepRings
-whole-rounds_keep t lines before after are is have order u d on =
+-- And what is sent in it stands in the ring, or is handed up.
+pub ring-kept : (t : Network) (lines : List Disturb) (before after : Record) → IsRecord t after →
+    IsWholeRound t lines before after → RingsHaveAll t before → (u d : NodeId) → is_channel t u d ≡ true →
+    NumbersRise 0 (got_from u (after.doings d.0) ++ standing t after u d) → IsWhole t after u d
+ring-kept t lines before after are is have u d on order =
     let from = is.round.nodes u (sender-is t u d on) in
     let to = is.round.nodes d (receiver-is t u d on) in
     let sent = sends-on t u d before after from.added from.all in
@@ -233,7 +235,7 @@ whole-rounds_keep t lines before after are is have order u d on =
     } in
     let counts = count_after t before after u d to.added p in
     record {
-      has = rings_after t before after u d to.added p sent.enough (order u d on)
+      has = rings_after t before after u d to.added p sent.enough order
           (hands_up t lines before after are is u d on to);
       got = λ k in_it. elim (in_either (got_from u (before.doings d.0)) (got_from u to.added) k
           (sym (ap (λ ks. is_in ks k) got) ∙ in_it)) [
@@ -243,6 +245,10 @@ whole-rounds_keep t lines before after are is have order u d on =
       dropped = λ k in_it. let low = (have u d on).dropped k (sym (ap (λ ks. is_in ks k) (is.kept u.0 d.0)) ∙ in_it) in
           omega (arith, low, counts);
     }
+
+pub whole-rounds_keep : WholeRoundsKeepRings
+whole-rounds_keep t lines before after are is have order u d on =
+    ring-kept t lines before after are is have u d on (order u d on)
 
 -- Drops
 

@@ -38,12 +38,12 @@ use Rattle.round_rules.specs.Doings.{deeds_in}
 
 -- Records since
 
-record IsLaterOn (t : Network) (since r : Record) (u d : NodeId) : Type 0 where
+pub record IsLaterOn (t : Network) (since r : Record) (u d : NodeId) : Type 0 where
   more : List Content
   whole : channel_of t r u d ≡ channel_of t since u d ++ more
   up : handed_up_at t since d u ≤ handed_up_at t r d u
 
-abbrev IsLater : Network → Record → Record → Type 0
+abbrev pub IsLater : Network → Record → Record → Type 0
 IsLater t since r = (u d : NodeId) → is_channel t u d ≡ true → IsLaterOn t since r u d
 
 on_later : (t : Network) (since old new : Record) (u d : NodeId) (from to : List Doing) →
@@ -62,17 +62,20 @@ on_later t since old new u d from to sent taken is =
     below : (a b c e : ℕ) → a ≤ b → b ≤ c → e ≡ c → a ≤ e
     below a b c e f g h = omega (arith, f, g, h)
 
-later_self : (t : Network) (r : Record) → IsLater t r r
+-- a record is later than itself
+pub later_self : (t : Network) (r : Record) → IsLater t r r
 later_self t r u d on = record { more = []; whole = sym (append-nil (channel_of t r u d)); up = omega arith }
 
-later_round : (t : Network) (lines : List Disturb) (since old new : Record) → IsRound t lines old new →
+-- and what a round makes of a later one is later
+pub later_round : (t : Network) (lines : List Disturb) (since old new : Record) → IsRound t lines old new →
     IsLater t since old → IsLater t since new
 later_round t lines since old new is later u d on =
     let from = is.nodes u (sender-is t u d on) in
     let to = is.nodes d (receiver-is t u d on) in
     on_later t since old new u d from.added to.added from.all to.all (later u d on)
 
-later_post : (t : Network) (c : Command) (since old new : Record) → IsPostOf t c old new → IsLater t since old →
+-- and so is what a post makes
+pub later_post : (t : Network) (c : Command) (since old new : Record) → IsPostOf t c old new → IsLater t since old →
     IsLater t since new
 later_post t c since old new is later u d on =
     on_later t since old new u d (Did (Posted is.stamp c) ∷ []) (Did (Posted is.stamp c) ∷ []) (is.doings u.0)
@@ -85,7 +88,8 @@ nth P [] k x all is = absurd (cc (is))
 nth P (y ∷ xs) zero x all is = let same : y ≡ x = cc (is) in subst P same all.0
 nth P (y ∷ xs) (suc k) x all is = nth P xs k x all.1 is
 
-front : (cs more : List Content) (k : ℕ) → k ≤ length cs → numbered_at (cs ++ more) k ≡ numbered_at cs k
+-- what was sent stands where it stood
+pub front : (cs more : List Content) (k : ℕ) → k ≤ length cs → numbered_at (cs ++ more) k ≡ numbered_at cs k
 front cs more zero le = refl
 front [] more (suc k) le = absurd (omega (arith, le))
 front (c ∷ cs) more (suc zero) le = refl
@@ -131,7 +135,8 @@ old_frame w r u d other none k (Message p) is h le =
 
 -- Whole rounds
 
-is_whole : (t : Network) (lines : List Disturb) (es : List Event) (since old new : Record) →
+-- a round that is whole since a quiet record is whole
+pub is_whole : (t : Network) (lines : List Disturb) (es : List Event) (since old new : Record) →
     LeadsTo t es (world_of t since) → AllAcknowledged t since → IsLater t since old → IsLater t since new →
     IsWholeSince t lines since old new → IsWholeRound t lines old new
 is_whole t lines es since old new leads none later_old later_new is = record {

@@ -19,13 +19,14 @@ use Rattle.world_rules.proofs.Delivered.{kept-delivered}
 use Rattle.world_rules.proofs.Reached.{AreReached, are-reached-run, are-reached-start}
 use Rattle.world_merge.specs.Deeds.{Deed, Took, alone, alone_from, done, stamp_of}
 use Rattle.world_merge.specs.Histories.{at}
-use Rattle.world_merge.specs.Logs.{RisesAbove, is_posted}
+use Rattle.world_merge.specs.Logs.{RisesAbove}
 use Rattle.world_merge.specs.Merges.{events_of, part}
 use Rattle.world_merge.specs.Picking.{merged_of}
 use Rattle.world_merge.proofs.Splitting.{alone-more}
 use Rattle.round_rules.specs.Doings.{Did, Doing, deeds_in}
 use Rattle.round_rules.specs.Held.{HeldFrame}
-use Rattle.round_rules.specs.Records.{Record, deeds_at, world_of}
+use Rattle.round_rules.specs.Records.{IsRecord, Record, deeds_at, world_of}
+use Rattle.round_rules.specs.Rounds.{IsRound}
 use Rattle.round_rules.specs.Takings.{Taking, all_doings, doings_of}
 use Rattle.round_rules.specs.Turns.{AreDelivered, AreHandled, IsTick, IsTurnOf, items_after}
 use Rattle.round_laws.specs.GoingOn.{GoesOn}
@@ -39,23 +40,21 @@ use Rattle.round_laws.proofs.Sorting.{IsMerged, NonePosted, lists, merges}
 
 -- What was added
 
-abbrev added : Record → Record → ℕ → List Doing
+-- what each node did since
+abbrev pub added : Record → Record → ℕ → List Doing
 added old new n = drop (length (old.doings n)) (new.doings n)
 
 drop_front : (xs ys : List Doing) → drop (length xs) (xs ++ ys) ≡ ys
 drop_front [] ys = refl
 drop_front (x ∷ xs) ys = drop_front xs ys
 
-added_is : (old new : Record) (n : ℕ) (ds : List Doing) → new.doings n ≡ old.doings n ++ ds → added old new n ≡ ds
+pub added_is : (old new : Record) (n : ℕ) (ds : List Doing) → new.doings n ≡ old.doings n ++ ds → added old new n ≡ ds
 added_is old new n ds all = ap (drop (length (old.doings n))) all ∙ drop_front (old.doings n) ds
 
 nothing_added : (old new : Record) (n : ℕ) → new.doings n ≡ old.doings n → added old new n ≡ []
 nothing_added old new n same = added_is old new n [] (same ∙ sym (append-nil (old.doings n)))
 
 -- Deeds of a turn
-
-abbrev IsOfTurn : Deed → Type 0
-IsOfTurn d = is_posted d ≡ false
 
 none_append : (ds es : List Deed) → NonePosted ds → NonePosted es → NonePosted (ds ++ es)
 none_append [] es p q = q
@@ -137,7 +136,7 @@ both_count : (ds es : List Doing) → handled_in (deeds_in (ds ++ es)) ≡ handl
 both_count ds es = ap handled_in (deeds-append ds es) ∙ handled_in_append (deeds_in ds) (deeds_in es)
 
 -- as many items are handled as stood on the desk
-turn_handles : (t : Network) (lines : List Disturb) (n : NodeId) (tick : Bool) (before ds : List Doing) →
+pub turn_handles : (t : Network) (lines : List Disturb) (n : NodeId) (tick : Bool) (before ds : List Doing) →
     IsTurnOf t lines n tick before ds → length ((alone t n (deeds_in before)).desks n.0) ≤ handled_in (deeds_in ds)
 turn_handles t lines n tick before ds is =
     let all : handled_in (deeds_in ds) ≡
@@ -182,7 +181,7 @@ drop_length (suc n) [] le = absurd (omega (arith, le))
 drop_length (suc n) (m ∷ ms) le = let r = drop_length n ms (omega (arith, le)) in omega (arith, r)
 
 -- as many are under way as were sent and not handed up
-way_length : (x y : HopEnd) → Flow x y → length (under_way x y) + y.hop.handed_up ≡ x.hop.sent
+pub way_length : (x y : HopEnd) → Flow x y → length (under_way x y) + y.hop.handed_up ≡ x.hop.sent
 way_length x y f =
     let up : length y.up ≡ y.hop.handed_up =
     ap (λ (ms : List Msg). length ms) f.prefix ∙ take_length y.hop.handed_up x.given f.within in
@@ -198,6 +197,39 @@ flows w r u d other =
 
 -- The round
 
+-- What a round added, at each number: it has no posts, its stamps rise, and what is no node added nothing.
+module _ (t : Network) (lines : List Disturb) (old new : Record) (round : IsRound t lines old new) where
+  pub all-added : (n : ℕ) → new.doings n ≡ old.doings n ++ added old new n
+  all-added n = go (is_node_id t.nodes (at n)) refl
+    where
+      go : (b : Bool) → is_node_id t.nodes (at n) ≡ b → new.doings n ≡ old.doings n ++ added old new n
+      go true e =
+          let r = round.nodes (at n) e in
+          r.all ∙ ap (λ ds. old.doings n ++ ds) (sym (added_is old new n r.added r.all))
+      go false e =
+          let same = round.others (at n) e in
+          same ∙ sym (append-nil (old.doings n))
+          ∙ ap (λ ds. old.doings n ++ ds) (sym (nothing_added old new n same))
+
+  pub none-posted : (n : ℕ) → NonePosted (deeds_in (added old new n))
+  none-posted n = go (is_node_id t.nodes (at n)) refl
+    where
+      go : (b : Bool) → is_node_id t.nodes (at n) ≡ b → NonePosted (deeds_in (added old new n))
+      go true e =
+          let r = round.nodes (at n) e in
+          subst (λ ds. NonePosted (deeds_in ds)) (sym (added_is old new n r.added r.all))
+          (turn_none t lines (at n) true (old.doings n) r.added r.turn)
+      go false e =
+          subst (λ ds. NonePosted (deeds_in ds)) (sym (nothing_added old new n (round.others (at n) e))) tt
+
+  pub added-rises : IsRecord t new → (n : ℕ) → (s : ℕ) × RisesAbove s (deeds_in (added old new n))
+  added-rises is_new n =
+      rises_right 0 (deeds_at old n) (deeds_in (added old new n))
+      (subst (RisesAbove 0) (ap deeds_in (all-added n) ∙ deeds-append (old.doings n) (added old new n)) (is_new.rises n))
+
+  pub none-added : (n : ℕ) → is_node_id t.nodes (at n) ≡ false → deeds_in (added old new n) ≡ []
+  none-added n e = ap deeds_in (nothing_added old new n (round.others (at n) e))
+
 -- A whole round is a sweep of the mesh.
 pub whole-rounds_are_sweeps : WholeRoundsAreSweeps
 whole-rounds_are_sweeps t lines old new es is is_old is_new leads whole have home = record {
@@ -206,46 +238,23 @@ whole-rounds_are_sweeps t lines old new es is is_old is_new leads whole have hom
   sweep = record { mail = λ u d. mail u d (is_channel t (at u) (at d)) refl; desks = λ n. desks n (is_node_id t.nodes (at n)) refl };
   only = run_posts t w m (of_parts (λ (e : Entry). IsNoPost e.event) m (λ n.
       subst (AllByRecursion (λ (e : Entry). IsNoPost e.event)) (sym (merged.parts n))
-      (line_posts (at n) (deeds n) (none n (is_node_id t.nodes (at n)) refl))));
+      (line_posts (at n) (deeds n) (none-posted t lines old new whole.round n))));
 }
   where
     deeds : ℕ → List Deed
     deeds n = deeds_in (added old new n)
 
-    is_added : (n : ℕ) (b : Bool) → is_node_id t.nodes (at n) ≡ b → new.doings n ≡ old.doings n ++ added old new n
-    is_added n true e =
-        let r = whole.round.nodes (at n) e in
-        r.all ∙ ap (λ ds. old.doings n ++ ds) (sym (added_is old new n r.added r.all))
-    is_added n false e =
-        let same = whole.round.others (at n) e in
-        same ∙ sym (append-nil (old.doings n)) ∙ ap (λ ds. old.doings n ++ ds) (sym (nothing_added old new n same))
-
-    none : (n : ℕ) (b : Bool) → is_node_id t.nodes (at n) ≡ b → NonePosted (deeds n)
-    none n true e =
-        let r = whole.round.nodes (at n) e in
-        subst (λ ds. NonePosted (deeds_in ds)) (sym (added_is old new n r.added r.all))
-        (turn_none t lines (at n) true (old.doings n) r.added r.turn)
-    none n false e =
-        subst (λ ds. NonePosted (deeds_in ds)) (sym (nothing_added old new n (whole.round.others (at n) e))) tt
-
-    up : (n : ℕ) → (s : ℕ) × RisesAbove s (deeds n)
-    up n =
-        rises_right 0 (deeds_at old n) (deeds n)
-        (subst (RisesAbove 0) (ap deeds_in (is_added n (is_node_id t.nodes (at n)) refl)
-        ∙ deeds-append (old.doings n) (added old new n)) (is_new.rises n))
-
-    empty : (n : ℕ) → is_node_id t.nodes (at n) ≡ false → deeds n ≡ []
-    empty n e = ap deeds_in (nothing_added old new n (whole.round.others (at n) e))
-
     m : List Entry
     m = merged_of (lists deeds t.nodes)
 
     merged : IsMerged deeds m
-    merged = merges t is deeds (λ n. none n (is_node_id t.nodes (at n)) refl) up empty
+    merged =
+        merges t is deeds (none-posted t lines old new whole.round) (added-rises t lines old new whole.round is_new)
+        (none-added t lines old new whole.round)
 
     on : GoesOn t old new m
     on =
-        merges-go_on t old new (added old new) m is_old is_new (λ n. is_added n (is_node_id t.nodes (at n)) refl)
+        merges-go_on t old new (added old new) m is_old is_new (all-added t lines old new whole.round)
         (record { ascends = merged.ascends; parts = merged.parts })
 
     w : World

@@ -1,5 +1,5 @@
 -- What a node takes in a turn: it is delivered at once, so its hop hands up what it does of it.
-use Rattle.std.proofs.Common.{◌⊎◌, inl, inr, ◌≡◌, ◌≤◌, ℕ, zero, suc, Bool, true, false, cond, nat_eq, List, [], ◌∷◌, ◌++◌, map, refl, sym, ap, ◌∙◌, subst, append-nil, arith}
+use Rattle.std.proofs.Common.{◌⊎◌, inl, inr, ◌≡◌, ◌≤◌, ℕ, Bool, true, false, cond, nat_eq, List, [], ◌∷◌, ◌++◌, map, refl, sym, ap, ◌∙◌, subst, append-nil, arith}
 use Rattle.std.specs.Prelude.{Option, Some, None}
 use Rattle.std.specs.Option.{option_to_list}
 use Rattle.ason_base.specs.declared.ids.NodeId.{NodeId}
@@ -8,7 +8,6 @@ use Rattle.ason_base.specs.declared.commands.DisturbKind.{DisturbKind}
 use Rattle.ason_base.specs.declared.commands.DisturbKind.TheVariants.{Lose, Repeat, Hold}
 use Rattle.ason_base.specs.Network.{Network}
 use Rattle.channel_frames.specs.declared.frames.Content.{Content}
-use Rattle.hop_reliable.proofs.Members.{get-append_left}
 use Rattle.world_rules.specs.Worlds.{World, numbered_at, start}
 use Rattle.world_rules.proofs.Sent.{turned}
 use Rattle.world_merge.specs.Deeds.{Deed, Took, alone, alone_from, sent_by, upto}
@@ -24,7 +23,7 @@ use Rattle.round_rules.specs.Takings.{AreDeliveries, AreTakings, IsTaking, Takin
 use Rattle.round_rules.specs.Turns.{AreDelivered, AreHandled, IsTick, IsTurnOf}
 use Rattle.round_laws.specs.Rings.{channel_of, climb, climb_one, contents_of}
 use Rattle.round_laws.specs.WholeRounds.{IsDelivered}
-use Rattle.round_laws.proofs.Climbing.{climb-append, climbs_all, contents-append, one_more}
+use Rattle.round_laws.proofs.Climbing.{climb-append, climbs_all, contents-append, numbered_more, one_more}
 use Rattle.round_laws.proofs.GoingOn.{deeds-append}
 use Rattle.round_laws.proofs.Hearing.{heard-append, heard_from}
 
@@ -73,11 +72,6 @@ pub genuine_right : (t : Network) (hists : Histories) (n : ℕ) (ds es : List De
     AreGenuine t hists n es
 genuine_right t hists n [] es all = all
 genuine_right t hists n (d ∷ ds) es all = genuine_right t hists n ds es all.1
-
-numbered_more : (cs more : List Content) (k : ℕ) (x : Content) → numbered_at cs k ≡ Some x →
-    numbered_at (cs ++ more) k ≡ Some x
-numbered_more cs more zero x is = absurd (cc (is))
-numbered_more cs more (suc k) x is = get-append_left cs more k x is
 
 -- a frame that was taken stands on its channel
 bears : (t : Network) (hists : Histories) (n s : ℕ) (u : NodeId) (k : ℕ) (x : Content) →
