@@ -1,5 +1,7 @@
-"""Calls that turn to their backups and go back, on a triangle and on a ring of 14 nodes."""
+"""Calls that turn to their backups and go back, on a triangle and on rings, and in how many rounds."""
 
+import itertools
+import random
 import unittest
 
 import ason
@@ -101,6 +103,39 @@ class RingTest(unittest.TestCase):
             if call.state == "guarded":
                 wanted = "turned" if {3, 4} & set(links_of(before, call.name)) else "guarded"
                 self.assertEqual((call.name, hit.call(call.name).state), (call.name, wanted))
+
+
+HOPS, BACK = 3, 5
+"""The hops of a call around a ring, and those of its backup, which goes the other way round."""
+
+
+def around(numbers: list[int], cut: int, rounds: int) -> str:
+    """A ring of nodes with these numbers, a call over its first links, and the cut of one of them, so many rounds ago."""
+    nodes = sorted((Node(f"p{place}", number) for place, number in enumerate(numbers)), key=lambda node: node.id)
+    links = [Link(place + 1, (f"p{place}", f"p{(place + 1) % len(numbers)}"), 2) for place in range(len(numbers))]
+    script = [f"setup c1 p0 p{HOPS}", "settle 100", f"fail link {cut}", f"wait {rounds}", "show"]
+    return Plan(nodes, links, script).text()
+
+
+class RoundsTest(unittest.TestCase):
+    """In how many rounds a call turns, with one worker."""
+
+    def state(self, plan: str) -> str:
+        run = ason.run(plan)
+        self.assertEqual((run.status, run.unsettled), (ason.DONE, []))
+        return run.tables[0].call("c1").state
+
+    def test_a_call_turns_in_just_as_many_rounds_as_the_order_of_its_nodes_says(self) -> None:
+        draws = random.Random(7)
+        for _ in range(20):
+            numbers = draws.sample(range(1, 60), HOPS + BACK)
+            for cut in range(1, HOPS + 1):
+                # One round for the alarm, one for each hop up which the Notify goes to an earlier node, and the backup's.
+                late = sum(near < far for near, far in itertools.pairwise(numbers[: cut + 1]))
+                rounds = 1 + late + BACK
+                with self.subTest(numbers=numbers, cut=cut):
+                    self.assertEqual(self.state(around(numbers, cut, rounds)), "turned")
+                    self.assertEqual(self.state(around(numbers, cut, rounds - 1)), "turning")
 
 
 class PlanTest(unittest.TestCase):
