@@ -44,6 +44,6 @@ rests = refl
 handled_each : map handled parts ≡ 7 ∷ 7 ∷ 6 ∷ []
 handled_each = refl
 
--- a post each, and two at last, on three links
-added_each : map (added network) parts ≡ 6299529 ∷ 6299529 ∷ 12599058 ∷ []
+-- a setup; a failure, on three links; a repair and an order to go back
+added_each : map (added network) parts ≡ 4352 ∷ 6291462 ∷ 6291526 ∷ []
 added_each = refl

@@ -1,13 +1,15 @@
 -- Every run comes to rest: of the events that take a message or handle an item of a desk there are at most so many for
--- each post and each tick.
+-- each order, each failure or repair, and each tick.
 use Rattle.std.specs.Prelude.{◌≡◌, ◌≤◌, ℕ, ◌+◌, ◌*◌, false, List, [], ◌∷◌, length}
 use Rattle.ason_base.specs.Network.{Network, IsTopology}
+use Rattle.ason_base.specs.declared.commands.Command.{Command}
+use Rattle.ason_base.specs.declared.commands.Command.TheVariants.{Fail, Repair}
 use Rattle.mesh_rules.specs.declared.events.MeshEvent.{MeshEvent}
 use Rattle.mesh_rules.specs.declared.events.MeshEvent.TheVariants.{Take, Desk, Tick, Learn, Post}
 use Rattle.mesh_rules.specs.Machine.{Mesh, start}
 use Rattle.mesh_rules.specs.Events.{IsRun, after, is_enabled}
 use Rattle.mesh_rules.specs.Quiet.{IsQuiet}
-use Rattle.mesh_laws.specs.Weights.{alarm_weight}
+use Rattle.mesh_laws.specs.Weights.{alarm_weight, order_weight}
 
 -- a message is taken or an item handled
 abbrev pub handles : MeshEvent → ℕ
@@ -17,14 +19,19 @@ handles (Tick n) = 0
 handles (Learn n k) = 0
 handles (Post c) = 0
 
--- what an event may add: a tick a Path for each leg that a node keeps, and a post an order, or an alarm or a clear of
--- each fibre
+-- what a post adds: a failure an alarm of each fibre, a repair a clear of each, and any other one an order
+abbrev pub post_weight : Network → Command → ℕ
+post_weight t (Fail g) = 2 * length t.links * alarm_weight
+post_weight t (Repair g) = 2 * length t.links * alarm_weight
+post_weight t c = order_weight c
+
+-- what an event may add: a tick a Path for each leg that a node keeps
 abbrev pub adds : Network → MeshEvent → ℕ
 adds t (Take d u) = 0
 adds t (Desk n) = 0
 adds t (Tick n) = 4096 * 63
 adds t (Learn n k) = 0
-adds t (Post c) = 8067 + 2 * length t.links * alarm_weight
+adds t (Post c) = post_weight t c
 
 abbrev pub handled : List MeshEvent → ℕ
 handled [] = 0

@@ -104,7 +104,8 @@ pub record LawsHold (t : Network) (events : List MeshEvent) : Type 0 where
   pub listed : IsTopology t → ContendsAreListed t events
   -- and it is calm where nothing is under way, no group has failed and by its rows each backup is Asked or Held
   pub shown : IsTopology t → CalmIsShown t events
-  -- and of the events that take a message or handle an item there are at most so many for each post and each tick
+  -- and of the events that take a message or handle an item there are at most so many for each order, each failure or
+  -- repair, and each tick
   pub rests : IsTopology t → handled events ≤ added t events
   -- so after these only so many can follow while nothing more is posted and no node ticks
   pub ends : IsTopology t → RunEnds t events

@@ -112,9 +112,10 @@ ghost use Rattle.mesh_laws.specs.SurveyLaw.{NoSurveyedContend};
 /// and no call is asking for it as its working LSP, nor pairing for it as its backup (`decided`).
 ///
 /// Rest, over a topology. Of the events of a run that take a message or handle an item of a desk
-/// there are at most so many for each post and each tick (`rests`). So after a run only so many can
-/// follow while nothing more is posted and no node ticks (`ends`), and where no such event is
-/// enabled no message is under way and each desk is empty (`quiet`).
+/// there are at most so many for each order, for each failure or repair, and for each tick
+/// (`rests`). So after a run only so many can follow while nothing more is posted and no node ticks
+/// (`ends`), and where no such event is enabled no message is under way and each desk is empty
+/// (`quiet`).
 ///
 /// What all clauses but `searchable`, `calm` and `quiet` say of one state, and `no_contend` and the
 /// laws of service with them, the last one says in one word (`together`). It says two things more of what the state's

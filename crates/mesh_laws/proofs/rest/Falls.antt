@@ -102,20 +102,14 @@ module _ (t : Network) (s : Mesh) (o : Routes) (rest : RestFacts t s o) (w : ℕ
       (tick-grows t n o rest.short t.wait legs s calls rest.carried.follows fits (here.apart n.0) (few n))
 
   post-within : (c : Command) → WorkIsWithin o (posted t s c) (w + adds t (event.Post c))
-  post-within (Setup k from to protected both via backup) ps apart =
-      let h = item-more o s from.0 (Order (Setup k from to protected both via backup)) w within ps apart in omega arith
-  post-within (Release k from) ps apart =
-      let h = item-more o s from.0 (Order (Release k from)) w within ps apart in omega arith
-  post-within (Protect k from) ps apart =
-      let h = item-more o s from.0 (Order (Protect k from)) w within ps apart in omega arith
-  post-within (Retry k from) ps apart =
-      let h = item-more o s from.0 (Order (Retry k from)) w within ps apart in omega arith
-  post-within (Revert k from) ps apart =
-      let h = item-more o s from.0 (Order (Revert k from)) w within ps apart in omega arith
-  post-within (Fail g) ps apart =
-      let h = failed-more o t s (with_group g s.failed) w within ps apart in omega arith
-  post-within (Repair g) ps apart =
-      let h = failed-more o t s (without_group g s.failed) w within ps apart in omega arith
+  post-within (Setup k from to protected both via backup) =
+      item-more o s from.0 (Order (Setup k from to protected both via backup)) w within
+  post-within (Release k from) = item-more o s from.0 (Order (Release k from)) w within
+  post-within (Protect k from) = item-more o s from.0 (Order (Protect k from)) w within
+  post-within (Retry k from) = item-more o s from.0 (Order (Retry k from)) w within
+  post-within (Revert k from) = item-more o s from.0 (Order (Revert k from)) w within
+  post-within (Fail g) = failed-more o t s (with_group g s.failed) w within
+  post-within (Repair g) = failed-more o t s (without_group g s.failed) w within
 
   pub falls : (e : MeshEvent) → is_enabled t s e ≡ true → Falls t s o e w
   falls (event.Take d u) enabled =
