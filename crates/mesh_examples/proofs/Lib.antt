@@ -11,6 +11,7 @@ mod BusyAtOnce
 mod ComesToRest
 pub mod Contended
 mod Deactivating
+mod Ends
 mod Found
 mod GuardedCall
 mod LetGoAfterContention
@@ -48,6 +49,7 @@ mod TornReactivating
 mod TurnedAndBack
 mod TurnedCall
 mod TurnsAtOnce
+mod TwoAlone
 mod UnknownPrimary
 mod WaitEnds
 mod WaitOver

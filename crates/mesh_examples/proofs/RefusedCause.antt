@@ -3,19 +3,18 @@ use Rattle.std.proofs.Common.{◌≡◌, true, false, List, [], ◌∷◌, ◌++
 use Rattle.std.specs.Prelude.{None}
 use Rattle.ason_base.specs.Codes.{set_code}
 use Rattle.ason_base.specs.Labels as labels
-use Rattle.ason_base.specs.Network.{Network}
 use Rattle.ason_base.specs.declared.messages.Msg.{Msg}
 use Rattle.ason_base.specs.declared.messages.Msg.TheVariants.{Path, PathErr}
 use Rattle.ason_base.specs.declared.messages.PathRole.TheVariants.{Back}
 use Rattle.ason_base.specs.declared.network.LinkSpec.{LinkSpec}
 use Rattle.mesh_rules.specs.declared.events.MeshEvent.{MeshEvent}
 use Rattle.mesh_rules.specs.declared.events.MeshEvent.TheVariants.{Take}
-use Rattle.mesh_rules.specs.Events.{IsRun, after, is_enabled, step}
-use Rattle.mesh_rules.specs.Machine.{Mesh, start}
-use Rattle.mesh_nodes.proofs.Cases.{both_left, both_right}
+use Rattle.mesh_rules.specs.Events.{after, step}
+use Rattle.mesh_rules.specs.Machine.{start}
 use Rattle.lsp_laws.specs.HopLaw.{leg_at}
 use Rattle.mesh_laws.specs.CauseLaw.{HasCause, IsLinkAt}
 use Rattle.mesh_laws.proofs.causes.Refused.{every_refusal_has_cause}
+use Rattle.mesh_examples.proofs.Ends.{runs}
 use Rattle.mesh_examples.proofs.RefusedShare.{first_try}
 use Rattle.mesh_examples.proofs.Scene.{all_enabled, desk, link, lsp, node, over, protects, takes}
 use Rattle.mesh_examples.proofs.TakenLabel.{network}
@@ -24,12 +23,6 @@ use Rattle.mesh_examples.proofs.TakenLabel.{network}
 -- backup.
 abbrev events : List MeshEvent
 events = first_try ++ protects 1 1 ∷ desk 1 ∷ takes 5 1 ∷ []
-
--- a run, by the test of its events
-pub runs : (t : Network) (s : Mesh) (es : List MeshEvent) → all_enabled t s es ≡ true → IsRun t s es
-runs t s [] all = tt
-runs t s (e ∷ es) all =
-    (both_left (is_enabled t s e) _ all, runs t (step t s e) es (both_right (is_enabled t s e) _ all))
 
 enabled : all_enabled network start events ≡ true
 unfolding labels.numbers_from

@@ -1,6 +1,6 @@
 -- A run in which of two guarded calls whose backups share a label the one is hit: it is carried by its backup, and the
 -- other one stays as it is.
-use Rattle.std.proofs.Common.{◌≡◌, true, false, List, [], ◌∷◌, ◌++◌, length, map, refl}
+use Rattle.std.proofs.Common.{◌≡◌, true, List, [], ◌∷◌, ◌++◌, map, refl}
 use Rattle.std.specs.Prelude.{Some, None}
 use Rattle.ason_base.specs.Labels as labels
 use Rattle.ason_base.specs.declared.calls.CallState.TheVariants.{Guarded, Turned}
@@ -10,10 +10,9 @@ use Rattle.ason_base.specs.declared.commands.Group.TheVariants.{Link}
 use Rattle.mesh_rules.specs.declared.events.MeshEvent.{MeshEvent}
 use Rattle.mesh_rules.specs.Events.{after}
 use Rattle.mesh_rules.specs.Machine.{start}
-use Rattle.mesh_laws.specs.AloneLaw.{Alone}
-use Rattle.mesh_laws.specs.RestorationLaw.{is_guarded, is_hit}
-use Rattle.mesh_laws.proofs.alone.Law.{run_starts_calm}
-use Rattle.mesh_examples.proofs.Scene.{among, called, desk, down_at, fails_link, leg, link, lsp, Reaches, reported, Seen, takes_each, with_new}
+use Rattle.mesh_laws.specs.RestorationLaw.{is_guarded}
+use Rattle.mesh_examples.proofs.Ends.{Restores, restores}
+use Rattle.mesh_examples.proofs.Scene.{among, called, desk, down_at, fails_link, leg, link, Reaches, reported, Seen, takes_each, with_new}
 use Rattle.mesh_examples.proofs.SharedLabel.{network}
 use Rattle.mesh_examples.proofs.SharedLabel as shared
 
@@ -44,29 +43,12 @@ reaches : Reaches network events as_reached
 unfolding labels.numbers_from
 reaches = record { enabled = refl; reached = refl }
 
-alone : Alone network events (Link (link 1))
-alone = record { before = []; since = events; parts = refl; calm = run_starts_calm; only = assumption (tt, refl) }
-
--- each desk is empty
-rests : map (λ n. length ((after network start events).desks n.id.0)) network.nodes ≡ 0 ∷ 0 ∷ 0 ∷ 0 ∷ 0 ∷ 0 ∷ []
+restored : Restores network events (Link (link 1)) 1
 unfolding labels.numbers_from
-rests = refl
+restored = restores network events (Link (link 1)) 1 (assumption (tt, refl)) refl
 
--- both calls are guarded, and the one is hit
-guarded : map (is_guarded ((after network start events).nodes 1)) ((after network start events).nodes 1).calls
-    ≡ true ∷ []
-unfolding labels.numbers_from
-guarded = refl
-
+-- the other call is guarded too
 other_guarded : map (is_guarded ((after network start events).nodes 3)) ((after network start events).nodes 3).calls
     ≡ true ∷ []
 unfolding labels.numbers_from
 other_guarded = refl
-
-hit : is_hit network events (Some (lsp 1 1 1)) ≡ true
-unfolding labels.numbers_from
-hit = refl
-
-up : is_hit network events (Some (lsp 1 1 2)) ≡ false
-unfolding labels.numbers_from
-up = refl

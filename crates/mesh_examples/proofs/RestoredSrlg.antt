@@ -1,7 +1,6 @@
 -- A run in which an SRLG fails: both links that it has are cut, of which the working LSP's is one, and the call is carried
 -- by its backup.
-use Rattle.std.proofs.Common.{◌≡◌, true, false, List, [], ◌∷◌, ◌++◌, length, map, refl}
-use Rattle.std.specs.Prelude.{Some}
+use Rattle.std.proofs.Common.{true, false, List, [], ◌∷◌, ◌++◌, refl}
 use Rattle.ason_base.specs.Labels as labels
 use Rattle.ason_base.specs.Network.{Network}
 use Rattle.ason_base.specs.declared.calls.CallState.TheVariants.{Turned}
@@ -9,13 +8,9 @@ use Rattle.ason_base.specs.declared.calls.Cause.TheVariants.{Unset}
 use Rattle.ason_base.specs.declared.calls.Phase.TheVariants.{Live}
 use Rattle.ason_base.specs.declared.commands.Group.TheVariants.{Srlg}
 use Rattle.mesh_rules.specs.declared.events.MeshEvent.{MeshEvent}
-use Rattle.mesh_rules.specs.Events.{after}
-use Rattle.mesh_rules.specs.Machine.{start}
-use Rattle.mesh_laws.specs.AloneLaw.{Alone}
-use Rattle.mesh_laws.specs.RestorationLaw.{is_guarded, is_hit}
-use Rattle.mesh_laws.proofs.alone.Law.{run_starts_calm}
+use Rattle.mesh_examples.proofs.Ends.{Restores, restores}
 use Rattle.mesh_examples.proofs.GuardedCall as guarded_call
-use Rattle.mesh_examples.proofs.Scene.{alone as alone_at, by_node_3, desk, down_at, fails_srlg, joins, learns, lsp, Reaches, reported, Seen, spec, still, takes_each}
+use Rattle.mesh_examples.proofs.Scene.{alone as alone_at, by_node_3, desk, down_at, fails_srlg, joins, learns, Reaches, reported, Seen, spec, still, takes_each}
 
 -- a triangle with a fourth link, beside link 1 and in one duct with it
 abbrev network : Network
@@ -49,23 +44,6 @@ reaches : Reaches network events as_reached
 unfolding labels.numbers_from
 reaches = record { enabled = refl; reached = refl }
 
-alone : Alone network events (Srlg 7)
-alone = record { before = []; since = events; parts = refl; calm = run_starts_calm; only = assumption (tt, refl) }
-
--- each desk is empty
-rests : map (λ n. length ((after network start events).desks n.id.0)) network.nodes ≡ 0 ∷ 0 ∷ 0 ∷ []
+restored : Restores network events (Srlg 7) 1
 unfolding labels.numbers_from
-rests = refl
-
-guarded : map (is_guarded ((after network start events).nodes 1)) ((after network start events).nodes 1).calls
-    ≡ true ∷ []
-unfolding labels.numbers_from
-guarded = refl
-
-hit : is_hit network events (Some (lsp 1 1 1)) ≡ true
-unfolding labels.numbers_from
-hit = refl
-
-up : is_hit network events (Some (lsp 1 1 2)) ≡ false
-unfolding labels.numbers_from
-up = refl
+restored = restores network events (Srlg 7) 1 (assumption (tt, refl)) refl

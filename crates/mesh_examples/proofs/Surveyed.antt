@@ -43,7 +43,7 @@ hit g guarded bare = record { group = g; guarded = guarded; bare = bare }
 
 -- Two calls, from node 1 over link 1 and from node 2 over link 2 to node 4, with backups by node 3. The working links
 -- have these SRLGs, and the second backup has this label.
-abbrev network : List ℕ → Network
+abbrev pub network : List ℕ → Network
 network srlgs = record {
   wait = 0;
   nodes = spec 1 false ∷ spec 2 false ∷ spec 3 false ∷ spec 4 false ∷ [];
