@@ -21,6 +21,7 @@ use Rattle.mesh_laws.proofs.moves.Others.{every_order_of_one}
 use Rattle.mesh_laws.proofs.moves.Sources.{every_code, every_turned_call}
 use Rattle.mesh_laws.proofs.moves.Waits.{every_tick}
 use Rattle.mesh_laws.proofs.rested.Light.{each_sent_is_taken}
+use Rattle.mesh_laws.proofs.rested.Repaired.{every_repaired_rest}
 use Rattle.mesh_laws.proofs.rested.Rested.{nothing_left_at_rest}
 use Rattle.mesh_laws.proofs.rested.Told.{every_report_true}
 use Rattle.mesh_laws.proofs.safe.Light.{every_label_of_link, every_light}
@@ -33,6 +34,7 @@ network_serves t events run = record {
   rested = nothing_left_at_rest t events run;
   taken = each_sent_is_taken t events run;
   told = λ valid. every_report_true t events valid run;
+  repaired = λ valid. every_repaired_rest t events valid run;
   acts = λ valid. every_order_acts t events valid run;
   others = every_order_of_one t events run;
   spared = every_order_leaves t events run;

@@ -1,4 +1,5 @@
 pub mod Alike
 pub mod Light
+pub mod Repaired
 pub mod Rested
 pub mod Told

@@ -25,6 +25,7 @@ use Rattle.mesh_rules.specs.Machine.{Mesh, start}
 use Rattle.mesh_rules.specs.Quiet.{IsQuiet}
 use Rattle.lsp_laws.specs.HopLaw.{IsOnRoute, leg_at}
 use Rattle.lsp_laws.specs.ReportLaw.{place_at}
+use Rattle.mesh_laws.specs.AloneLaw.{Calm}
 
 -- Legs and calls
 
@@ -136,3 +137,17 @@ abbrev pub EveryReportIsTrueAtRest : Type 0
 EveryReportIsTrueAtRest =
     (t : Network) (events : List MeshEvent) → IsTopology t → IsRun t start events → IsQuiet (after t start events) →
     AllReportsAreTrue t events
+
+-- Repairs
+
+-- where no group is failed any more: no call is stuck, and where none is turned nothing of a failure is left, so that all
+-- that is promised from a calm state on is promised again
+pub record IsRepaired (s : Mesh) : Type 0 where
+  pub free : (n : ℕ) → All (λ c. c.state ≢ Stuck) (s.nodes n).calls
+  pub calm : ((n : ℕ) → All (λ c. c.state ≢ Turned) (s.nodes n).calls) → Calm s
+
+-- over every topology and every run
+abbrev pub EveryRepairedRestIsCalm : Type 0
+EveryRepairedRestIsCalm =
+    (t : Network) (events : List MeshEvent) → IsTopology t → IsRun t start events → IsQuiet (after t start events) →
+    (after t start events).failed ≡ [] → IsRepaired (after t start events)

@@ -1,5 +1,5 @@
 -- The network serves: what operators may take for granted after each run, in one word.
-use Rattle.std.specs.Prelude.{List}
+use Rattle.std.specs.Prelude.{◌≡◌, List, []}
 use Rattle.ason_base.specs.Network.{IsTopology, Network}
 use Rattle.mesh_rules.specs.declared.events.MeshEvent.{MeshEvent}
 use Rattle.mesh_rules.specs.Events.{after}
@@ -12,7 +12,7 @@ use Rattle.mesh_laws.specs.KnowsLaw.{LearntIsKnown}
 use Rattle.mesh_laws.specs.LightLaw.{LabelsAreOfLinks, LightIsOfOneLsp}
 use Rattle.mesh_laws.specs.MovesLaw.{BlockedCallsStay, CallsMoveOn}
 use Rattle.mesh_laws.specs.OthersLaw.{OrdersAreOfOneCall, OrdersLeaveOtherLegs}
-use Rattle.mesh_laws.specs.RestedLaw.{AllReportsAreTrue, NothingIsLeft, SentIsTaken}
+use Rattle.mesh_laws.specs.RestedLaw.{AllReportsAreTrue, IsRepaired, NothingIsLeft, SentIsTaken}
 use Rattle.mesh_laws.specs.SourceLaw.{CodesHaveSources, TurnedCallsWait}
 use Rattle.mesh_laws.specs.WaitLaw.{TicksCount, WaitsAreBelow}
 
@@ -33,6 +33,9 @@ pub record Serves (t : Network) (events : List MeshEvent) : Type 0 where
   pub taken : IsQuiet (after t start events) → SentIsTaken t (after t start events)
   -- and each call reports just those fibres of its routes that are physically down
   pub told : IsTopology t → IsQuiet (after t start events) → AllReportsAreTrue t events
+  -- where no group is failed any more no call is stuck, and where none is turned nothing of a failure is left
+  pub repaired : IsTopology t → IsQuiet (after t start events) → (after t start events).failed ≡ [] →
+      IsRepaired (after t start events)
   -- Orders
 
   -- an order does what it says, or changes nothing where it may not; a call that is refused says why

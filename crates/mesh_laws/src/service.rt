@@ -7,7 +7,7 @@ ghost use Rattle.mesh_laws.specs.KnowsLaw.{EveryLearntIsKnown};
 ghost use Rattle.mesh_laws.specs.LightLaw.{EveryLabelIsOfItsLink, EveryLightIsOfOneLsp};
 ghost use Rattle.mesh_laws.specs.MovesLaw.{EveryBlockedCallStays, EveryCallMovesOn};
 ghost use Rattle.mesh_laws.specs.OthersLaw.{EveryOrderIsOfOneCall, EveryOrderLeavesOtherLegs};
-ghost use Rattle.mesh_laws.specs.RestedLaw.{EachSentIsTakenAtRest, EveryReportIsTrueAtRest, NothingIsLeftAtRest};
+ghost use Rattle.mesh_laws.specs.RestedLaw.{EachSentIsTakenAtRest, EveryRepairedRestIsCalm, EveryReportIsTrueAtRest, NothingIsLeftAtRest};
 ghost use Rattle.mesh_laws.specs.SourceLaw.{EveryCodeHasSource, EveryTurnedCallWaits};
 ghost use Rattle.mesh_laws.specs.WaitLaw.{EveryTickCounts, EveryWaitIsBelow};
 
@@ -25,11 +25,14 @@ pub fn every_light()
 /// of the call's state, at each node of its route alike and at no other; with no call there is no
 /// leg (`rested`). Each label that a leg sends over a fibre the LSP's leg at the other end takes,
 /// and the other way round, there and back (`taken`). Over a topology a call has just those fibres
-/// of its LSPs' routes reported that are physically down (`told`).
+/// of its LSPs' routes reported that are physically down (`told`). And where no group is failed any
+/// more no call is stuck, and if none is turned the state is calm, so that what is promised from a
+/// calm state on is promised again (`repaired`).
 pub fn every_rest()
     ensures rested { NothingIsLeftAtRest }
     ensures taken { EachSentIsTakenAtRest }
     ensures told { EveryReportIsTrueAtRest }
+    ensures repaired { EveryRepairedRestIsCalm }
 {}
 
 /// Of every run: an Asked leg and a torn one have no label in, and a torn one no back label out

@@ -1,4 +1,5 @@
--- Where nothing is under way, no group has failed and by the rows each backup is Asked or Held, the state is calm.
+-- Where nothing is under way and no group has failed, the state is calm if no activation has passed a backup's leg; and
+-- so it is if by the rows each backup is Asked or Held.
 use Rattle.std.proofs.Common.{◌≡◌, ℕ, Bool, true, false, nat_eq, List, [], ◌∷◌, refl, sym, ap, ◌∙◌, subst, arith, Contains}
 use Rattle.std.specs.Prelude.{◌||◌, Option, Some, None, IfSome}
 use Rattle.std.specs.List.{AllByRecursion}
@@ -27,6 +28,7 @@ use Rattle.mesh_rules.specs.Legs.{find_leg, is_asked, is_held, leg_of}
 use Rattle.mesh_rules.specs.LocalNodes.{fibre_in, local_node, own_link}
 use Rattle.mesh_rules.specs.Alarms.{enters}
 use Rattle.mesh_rules.specs.Machine.{Mesh, start}
+use Rattle.mesh_rules.specs.Quiet.{IsQuiet}
 use Rattle.mesh_rules.specs.Rows.{leg_row}
 use Rattle.mesh_rules.specs.Turns.{has_any}
 use Rattle.mesh_nodes.proofs.Cases.{false-unless, not-true}
@@ -87,15 +89,14 @@ no-back Stuck (Some Live) works backs e told = absurd (cc e)
 no-back state w works backs e told = absurd (cc e)
 
 module _ (t : Network) (events : List MeshEvent) (valid : IsTopology t) (run : IsRun t start events)
-    (calls : List CallRow) (legs : List LegRow) (shows : ShowsAll t (after t start events) calls legs)
-    (shown : IsShownCalm (after t start events) legs) where
+    (quiet : IsQuiet (after t start events)) (failed : (after t start events).failed ≡ []) where
   abbrev s : Mesh
   s = after t start events
 
   abbrev o : Routes
   o = route_of t start events
 
-  open ended t events run shown.quiet use {facts, hops, up}
+  open ended t events run quiet use {up}
 
   -- Known fibres
 
@@ -117,8 +118,8 @@ module _ (t : Network) (events : List MeshEvent) (valid : IsTopology t) (run : I
           λ i. record { link = record { 0 = same i }; forward = way i }) in
           let told = every_desk_tells t events valid run n l both.0 both.1 in
           let known : has_fibre (s.nodes n.0).down (fibre_in l n) ≡ is_cut s.failed l =
-          rw (shown.quiet.desks n.0) at told in
-          ap (has_fibre (s.nodes n.0).down) fibre ∙ known ∙ ap (λ gs. is_cut gs l) shown.failed
+          rw (quiet.desks n.0) at told in
+          ap (has_fibre (s.nodes n.0).down) fibre ∙ known ∙ ap (λ gs. is_cut gs l) failed
 
   none-known : (n : NodeId) (fibres : List Fibre) → (s.nodes n.0).down ≡ fibres →
       AllByRecursion (ComesIn (local_node t n)) fibres → fibres ≡ []
@@ -146,7 +147,7 @@ module _ (t : Network) (events : List MeshEvent) (valid : IsTopology t) (run : I
         (up-not_closing g.phase g_up) in
         let at_ingress : call_with l (s.nodes l.ingress.0).calls ≡ Some c =
         subst (λ m. call_with l (s.nodes m).calls ≡ Some c) (sym named.ingress) called in
-        let told = unreported t events valid run shown.quiet shown.failed l g here f all.0 in
+        let told = unreported t events valid run quiet failed l g here f all.0 in
         let none : has_fibre (reports_of l c) f ≡ false = rw at_ingress at told in
         let has : has_fibre (f ∷ fibres) f ≡ true = rw (same_fibre-refl f) refl in
         absurd (let none' : has_fibre (f ∷ fibres) f ≡ false = rw is at none in cc (has, none'))
@@ -188,7 +189,7 @@ module _ (t : Network) (events : List MeshEvent) (valid : IsTopology t) (run : I
 
   -- The state
 
-  calls-calm : (n : ℕ) → AllByRecursion CallIsCalm (s.nodes n).calls
+  pub calls-calm : (n : ℕ) → AllByRecursion CallIsCalm ((after t start events).nodes n).calls
   calls-calm n =
       recursion_from_All CallIsCalm (s.nodes n).calls
       (λ i d small.
@@ -199,25 +200,34 @@ module _ (t : Network) (events : List MeshEvent) (valid : IsTopology t) (run : I
         back-silent n _ there fit of.back,
       ))
 
-  legs-calm : (n : ℕ) → AllByRecursion LegIsCalm (s.nodes n).legs
-  legs-calm n =
-      all-found LegIsCalm (s.nodes n).legs (facts.node n).legs_rise
-      (λ l g here. row-calm (record { 0 = n }) g
-      (all-here (λ r. is_reserved_row r ≡ true) legs (leg_row (record { 0 = n }) g)
-      (leg-row-there t valid s o hops facts calls legs shows l (record { 0 = n }) g here) shown.backups))
-
-  calm : Calm s
-  calm = record {
-    failed = shown.failed;
-    desks = λ n. rw (shown.quiet.desks n) tt;
+  -- a state in which no activation has passed a backup's leg
+  pub calm-idle : ((n : ℕ) → AllByRecursion LegIsCalm ((after t start events).nodes n).legs) →
+      Calm (after t start events)
+  calm-idle idle = record {
+    failed = failed;
+    desks = λ n. rw (quiet.desks n) tt;
     down = λ n. none-known (record { 0 = n }) (s.nodes n).down refl
         (recursion_from_All (ComesIn (local_node t (record { 0 = n }))) (s.nodes n).down
         (every_known t events run (record { 0 = n })));
     reports = calls-calm;
-    legs = legs-calm;
-    mail = λ u d. rw (shown.quiet.mail u d) tt;
+    legs = idle;
+    mail = λ u d. rw (quiet.mail u d) tt;
   }
+
+-- By the rows
+
+legs-calm : (t : Network) (events : List MeshEvent) → IsTopology t → IsRun t start events → (calls : List CallRow)
+    (legs : List LegRow) → ShowsAll t (after t start events) calls legs → IsShownCalm (after t start events) legs →
+    (n : ℕ) → AllByRecursion LegIsCalm ((after t start events).nodes n).legs
+legs-calm t events valid run calls legs shows shown n =
+    let end = ended t events run shown.quiet in
+    all-found LegIsCalm ((after t start events).nodes n).legs (end.facts.node n).legs_rise
+    (λ l g here. row-calm (record { 0 = n }) g
+    (all-here (λ r. is_reserved_row r ≡ true) legs (leg_row (record { 0 = n }) g)
+    (leg-row-there t valid (after t start events) (route_of t start events) end.hops end.facts calls legs shows l
+    (record { 0 = n }) g here) shown.backups))
 
 -- a state that shows that it is calm is calm
 pub calm_shown : (t : Network) (events : List MeshEvent) → IsTopology t → IsRun t start events → CalmIsShown t events
-calm_shown t events valid run calls legs shows shown = calm t events valid run calls legs shows shown
+calm_shown t events valid run calls legs shows shown =
+    calm-idle t events valid run shown.quiet shown.failed (legs-calm t events valid run calls legs shows shown)
