@@ -20,3 +20,4 @@ pub mod backed
 pub mod causes
 pub mod moves
 pub mod rested
+pub mod retried

@@ -24,6 +24,7 @@ use Rattle.mesh_laws.proofs.rested.Light.{each_sent_is_taken}
 use Rattle.mesh_laws.proofs.rested.Repaired.{every_repaired_rest}
 use Rattle.mesh_laws.proofs.rested.Rested.{nothing_left_at_rest}
 use Rattle.mesh_laws.proofs.rested.Told.{every_report_true}
+use Rattle.mesh_laws.proofs.retried.Law.{every_retry}
 use Rattle.mesh_laws.proofs.safe.Light.{every_label_of_link, every_light}
 
 -- for the field of all laws in one word
@@ -38,6 +39,7 @@ network_serves t events run = record {
   acts = λ valid. every_order_acts t events valid run;
   others = every_order_of_one t events run;
   spared = every_order_leaves t events run;
+  retried = every_retry t events run;
   backed = every_backup_as_given t events run;
   torn = every_torn_leg t events run;
   caused = every_refusal_has_cause t events run;

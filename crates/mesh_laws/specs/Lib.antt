@@ -27,3 +27,4 @@ pub mod RestedLaw
 pub mod ServiceLaw
 pub mod SourceLaw
 pub mod WaitLaw
+pub mod RetryLaw

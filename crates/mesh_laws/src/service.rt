@@ -8,6 +8,7 @@ ghost use Rattle.mesh_laws.specs.LightLaw.{EveryLabelIsOfItsLink, EveryLightIsOf
 ghost use Rattle.mesh_laws.specs.MovesLaw.{EveryBlockedCallStays, EveryCallMovesOn};
 ghost use Rattle.mesh_laws.specs.OthersLaw.{EveryOrderIsOfOneCall, EveryOrderLeavesOtherLegs};
 ghost use Rattle.mesh_laws.specs.RestedLaw.{EachSentIsTakenAtRest, EveryRepairedRestIsCalm, EveryReportIsTrueAtRest, NothingIsLeftAtRest};
+ghost use Rattle.mesh_laws.specs.RetryLaw.{EveryRetryIsDecided};
 ghost use Rattle.mesh_laws.specs.SourceLaw.{EveryCodeHasSource, EveryTurnedCallWaits};
 ghost use Rattle.mesh_laws.specs.WaitLaw.{EveryTickCounts, EveryWaitIsBelow};
 
@@ -42,7 +43,11 @@ pub fn every_rest()
 /// go on is kept off (`lacks`). There each order that a node handles does what it says: a call that is
 /// blocked at once, or gets no backup, has a cause that stands at its ingress (`acts`); so has a
 /// protected call that gets none as its working LSP is connected (`lone`). An order changes no call
-/// but its own (`others`), and no leg of an LSP that no such call names (`spared`).
+/// but its own (`others`), and no leg of an LSP that no such call names (`spared`). Take a quiet
+/// state in which a node is ordered to try a stuck call again, its working LSP being reported and
+/// its backup not. If nothing else is posted until it is quiet again, and no node ticks while a call
+/// waits, then the call has turned if and only if at no node the leg of another activated backup
+/// used a label of its backup's leg; else it is stuck, as busy (`retried`).
 pub fn every_order()
     ensures torn { EveryTornLegGivesUp }
     ensures backed { EveryBackupGoesAsGiven }
@@ -53,6 +58,7 @@ pub fn every_order()
     ensures acts { EveryOrderActs }
     ensures others { EveryOrderIsOfOneCall }
     ensures spared { EveryOrderLeavesOtherLegs }
+    ensures retried { EveryRetryIsDecided }
 {}
 
 /// Of every run: what a node learns of a neighbour it knows, behind what it knew (`learnt`). A tick

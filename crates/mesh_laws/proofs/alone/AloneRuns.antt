@@ -155,6 +155,11 @@ pub run-first : (t : Network) (s : Mesh) (a b : List MeshEvent) → IsRun t s (a
 run-first t s [] b run = tt
 run-first t s (e ∷ a) b run = (run.0, run-first t (step t s e) a b run.1)
 
+-- and so is what follows
+pub run-later : (t : Network) (s : Mesh) (a b : List MeshEvent) → IsRun t s (a ++ b) → IsRun t (after t s a) b
+run-later t s [] b run = run
+run-later t s (e ∷ a) b run = run-later t (step t s e) a b run.1
+
 -- an event more at the end of the first part
 pub append-one : (a : List MeshEvent) (e : MeshEvent) (b : List MeshEvent) → (a ++ e ∷ []) ++ b ≡ a ++ e ∷ b
 append-one [] e b = refl

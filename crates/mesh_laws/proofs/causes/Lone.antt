@@ -17,7 +17,7 @@ use Rattle.mesh_rules.specs.declared.events.MeshEvent.TheVariants.{Take}
 use Rattle.mesh_rules.specs.ActivationAnswers.{resv_again}
 use Rattle.mesh_rules.specs.CallSteps.{backup_reserved, call_answered, work_connected}
 use Rattle.mesh_rules.specs.Turns.{call_put}
-use Rattle.mesh_rules.specs.Calls.{bare, call_with, find_call, is_asking}
+use Rattle.mesh_rules.specs.Calls.{bare, call_with, find_call, is_asking, names}
 use Rattle.mesh_rules.specs.Changes.{Answer, changed, nothing}
 use Rattle.mesh_rules.specs.Events.{IsRun, after, route_of, step}
 use Rattle.mesh_rules.specs.Legs.{connected, find_leg, is_work, leg_of, neighbour_over}
@@ -52,15 +52,15 @@ no-before None g e = refl
 no-before (Some n) g e = absurd (cc e)
 
 -- the call of an LSP that it names
-the-call : (n : ℕ) (s : NodeState) (l : Lsp) (m : CallNo) (c : CallRec) → NodeFacts n s → find_call m s.calls ≡ Some c →
-    c.work ≡ Some l → call_with l s.calls ≡ Some c
-the-call n s l m c facts found work = go (call_with l s.calls) refl
+pub the-call : (n : ℕ) (s : NodeState) (l : Lsp) (m : CallNo) (c : CallRec) → NodeFacts n s →
+    find_call m s.calls ≡ Some c → names l c ≡ true → call_with l s.calls ≡ Some c
+the-call n s l m c facts found named = go (call_with l s.calls) refl
   where
     go : (o : Option CallRec) → call_with l s.calls ≡ o → o ≡ Some c
-    go None is = absurd (not_called l s.calls m c is found (names-work c l work))
+    go None is = absurd (not_called l s.calls m c is found named)
     go (Some d) is =
         let there = called-found l s.calls d facts.calls_rise is in
-        let one : d.call ≡ m = facts.one_call l d.call m d c there found (called-names l s.calls d is) (names-work c l work) in
+        let one : d.call ≡ m = facts.one_call l d.call m d c there found (called-names l s.calls d is) named in
         sym there ∙ ap (λ k. find_call k s.calls) one ∙ found
 
 module _ (t : Network) (events : List MeshEvent) (valid : IsTopology t) (run : IsRun t start events) (n : NodeId)
@@ -101,7 +101,7 @@ module _ (t : Network) (events : List MeshEvent) (valid : IsTopology t) (run : I
       let own : g.lsp ≡ l = found-lsp l z.legs g here in
       let called : call_with g.lsp z.calls ≡ Some c =
       subst (λ k. call_with k z.calls ≡ Some c) (sym own)
-      (the-call n.0 z l m c ((facts-hold t events run).node n.0) found work) in
+      (the-call n.0 z l m c ((facts-hold t events run).node n.0) found (names-work c l work)) in
       let working : is_work g.role ≡ true = ap is_work of_work in
       let asks : is_asking c.state ≡ true = ap is_asking asking in
       ap (call_answered (local_node t n) z (connected g None x)) called

@@ -30,7 +30,7 @@ use Rattle.mesh_rules.specs.Pairs.{leaves_bare}
 use Rattle.mesh_rules.specs.Turns.{call_put}
 use Rattle.mesh_rules.specs.PathErrs.{PathFailure, err_passed, path_err_with, refused_here, removed}
 use Rattle.mesh_rules.specs.State.{NodeState}
-use Rattle.mesh_nodes.proofs.CallList.{called-found, called-names, found-number, not_called}
+use Rattle.mesh_nodes.proofs.CallList.{found-number}
 use Rattle.mesh_nodes.proofs.LegList.{found-lsp, same_lsp-refl}
 use Rattle.lsp_laws.specs.CallLaw.{IsNamed, phase_of}
 use Rattle.lsp_laws.specs.HopLaw.{leg_at}
@@ -41,28 +41,15 @@ use Rattle.lsp_laws.proofs.hops.OnHops.{Down, OnHop, Up, on_hop}
 use Rattle.lsp_laws.proofs.hops.Planned.{EachFollows, Routes}
 use Rattle.lsp_laws.proofs.hops.Plans.{node_at, same}
 use Rattle.lsp_laws.proofs.nodes.CallParts.{named-lsp, names-back, names-work}
-use Rattle.lsp_laws.proofs.nodes.Facts.{NodeFacts}
 use Rattle.lsp_laws.proofs.nodes.NodeRuns.{facts-hold}
 use Rattle.lsp_laws.proofs.nodes.States.{PairingRow, Row, row}
 use Rattle.mesh_laws.specs.CauseLaw.{EveryRefusalIsTold, IsToldOf}
 use Rattle.mesh_laws.proofs.acts.Puts.{Puts, put-found}
-use Rattle.mesh_laws.proofs.causes.Lone.{asking-row, no-before}
+use Rattle.mesh_laws.proofs.causes.Lone.{asking-row, no-before, the-call}
 
 pairing-row : (f : CallState) (w b : Option Phase) → Row f w b → f ≡ Pairing → b ≡ Some Asked
 pairing-row _ _ _ PairingRow e = refl
 pairing-row _ _ _ _ e = absurd (cc e)
-
--- the call of an LSP that it names
-the-call : (n : ℕ) (s : NodeState) (l : Lsp) (m : CallNo) (c : CallRec) → NodeFacts n s → find_call m s.calls ≡ Some c →
-    names l c ≡ true → call_with l s.calls ≡ Some c
-the-call n s l m c facts found named = go (call_with l s.calls) refl
-  where
-    go : (o : Option CallRec) → call_with l s.calls ≡ o → o ≡ Some c
-    go None is = absurd (not_called l s.calls m c is found named)
-    go (Some d) is =
-        let there = called-found l s.calls d facts.calls_rise is in
-        let one : d.call ≡ m = facts.one_call l d.call m d c there found (called-names l s.calls d is) named in
-        sym there ∙ ap (λ k. find_call k s.calls) one ∙ found
 
 module _ (s : NodeState) (m : CallNo) (c : CallRec) (e : PathFailure)
     (gone : e.removed ≡ true) (g : Leg) (phase : g.phase ≡ Asked) (first : previous g ≡ None)

@@ -43,7 +43,7 @@ some-wait wait e = let f = not-true (nat_eq wait 0) e in grind arith
 wait-some : (wait : ℕ) → 1 ≤ wait → nat_eq wait 0 ≡ false
 wait-some wait e = grind arith
 
-test-waits : (wait : ℕ) (c : CallRec) → Test wait c ≡ true → Waits wait c
+pub test-waits : (wait : ℕ) (c : CallRec) → Test wait c ≡ true → Waits wait c
 test-waits wait c e =
     let rest = both_right (not (nat_eq wait 0)) _ e in (
       some-wait wait (both_left _ _ e),

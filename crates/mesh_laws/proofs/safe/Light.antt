@@ -38,14 +38,14 @@ opposite-is e f opposite =
 turned : (o : Option Fibre) (e f : Fibre) → o ≡ Some e → AreOpposite e f → reverse_of o ≡ Some f
 turned o e f is opposite = ap reverse_of is ∙ ap Some (opposite-is e f opposite)
 
-arrives-takes : (f : Fibre) (x : ℕ) (g : Leg) → Arrives f x g → takes f x g ≡ true
+pub arrives-takes : (f : Fibre) (x : ℕ) (g : Leg) → Arrives f x g → takes f x g ≡ true
 arrives-takes f x g (Onward fibre label) =
     or-first (is_at g.in_fibre g.in_label f x) _ (is-at g.in_fibre g.in_label f x fibre label)
 arrives-takes f x g (Returning {e = e} fibre opposite label) =
     or-second (is_at g.in_fibre g.in_label f x) _
     (is-at (reverse_of g.out_fibre) g.back_in f x (turned g.out_fibre e f fibre opposite) label)
 
-leaves-sends : (f : Fibre) (x : ℕ) (g : Leg) → Leaves f x g → sends f x g ≡ true
+pub leaves-sends : (f : Fibre) (x : ℕ) (g : Leg) → Leaves f x g → sends f x g ≡ true
 leaves-sends f x g (GoesOn fibre label) =
     or-first (is_at g.out_fibre g.out_label f x) _ (is-at g.out_fibre g.out_label f x fibre label)
 leaves-sends f x g (GoesBack {e = e} fibre opposite label) =

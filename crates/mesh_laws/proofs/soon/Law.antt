@@ -22,7 +22,7 @@ use Rattle.lsp_laws.specs.StandLaw.{IsUnreleased, StandsOn, has_backup}
 use Rattle.lsp_laws.proofs.hops.Joined.{every_call_joined}
 use Rattle.lsp_laws.proofs.nodes.CallsStand.{every_call_stands_until_released}
 use Rattle.mesh_laws.specs.RestorationLaw.{carrier, is_guarded, is_hit, is_route_cut}
-use Rattle.mesh_laws.proofs.alone.AloneRuns.{after-append, append-one}
+use Rattle.mesh_laws.proofs.alone.AloneRuns.{after-append, append-one, run-later}
 use Rattle.mesh_laws.proofs.alone.Risks.{not_beside}
 use Rattle.mesh_laws.proofs.restoration.Cuts.{cut-concerns}
 use Rattle.mesh_laws.specs.InOrderLaw.{EveryHitCallIsRestoredInOrder, late_in, sweeps_in_order}
@@ -35,10 +35,6 @@ use Rattle.mesh_laws.proofs.soon.HitCall.{all-run, apart, back-route, base-run, 
 use Rattle.mesh_laws.proofs.soon.TurnedInTime.{turned-in-order, turned-in-time}
 use Rattle.mesh_laws.proofs.soon.NoneUp.{NoneUp, none-up}
 use Rattle.mesh_laws.specs.SoonLaw.{PostsNothing}
-
-run-later : (t : Network) (s : Mesh) (a b : List MeshEvent) → IsRun t s (a ++ b) → IsRun t (after t s a) b
-run-later t s [] b run = run
-run-later t s (e ∷ a) b run = run-later t (step t s e) a b run.1
 
 none-released : (t : Network) (s : Mesh) (n : ℕ) (k : CallNo) (es : List MeshEvent) → NoneUp s →
     AllByRecursion PostsNothing es → IsUnreleased t s n k es

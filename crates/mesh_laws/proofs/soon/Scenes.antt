@@ -1,8 +1,7 @@
 -- What the laws of a state tell of a call that has its backup.
-use Rattle.std.proofs.Common.{◌≡◌, ◌≤◌, ℕ, suc, Bool, true, false, cond, find, nat_eq, List, [], ◌∷◌, ◌++◌, refl, sym, ◌∙◌, ap, subst, arith, Contains}
+use Rattle.std.proofs.Common.{◌≡◌, ◌≤◌, ℕ, suc, true, false, nat_eq, List, [], ◌∷◌, ◌++◌, refl, sym, ◌∙◌, ap, subst, arith, Contains}
 use Rattle.std.specs.Prelude.{Some, map, slice_get}
 use Rattle.std.specs.List.{AllByRecursion}
-use Rattle.ason_base.proofs.Ordered.{contains-head, contains-tail}
 use Rattle.ason_base.specs.Network.{IsTopology, Network, find_link}
 use Rattle.ason_base.specs.declared.calls.CallState.{CallState}
 use Rattle.ason_base.specs.declared.calls.CallState.TheVariants.{Asking, Bare, Blocked, Guarded, Pairing, Stuck, Turned, Turning}
@@ -43,15 +42,7 @@ use Rattle.mesh_laws.proofs.soon.Armed.{Found, HasKind, find-kind}
 use Rattle.mesh_laws.proofs.soon.Roles.{CallIs, Fixed, IsTurned, IsTurning, Roles, Scene, Waits}
 use Rattle.mesh_laws.proofs.soon.CallPhases.{PhasesAre, armed-turning, backed-phases, beyond-upright, fits-of, guarded-unhit, turning-armed}
 use Rattle.mesh_laws.proofs.soon.Routed.{IsThere, is-there}
-
-found-in : (p : CallRec → Bool) (calls : List CallRec) (c : CallRec) → find p calls ≡ Some c → Contains calls c
-found-in p [] c e = absurd (cc e)
-found-in p (d ∷ calls) c e = go (p d) e (λ later. found-in p calls c later)
-  where
-    go : (b : Bool) → cond b (Some d) (find p calls) ≡ Some c → (find p calls ≡ Some c → Contains calls c) →
-        Contains (d ∷ calls) c
-    go true e later = let is : d ≡ c = cc e in subst (Contains (d ∷ calls)) is (contains-head d calls)
-    go false e later = contains-tail d c calls (later e)
+use Rattle.mesh_laws.proofs.surveyed.Rows.{find-contains}
 
 all-at : {X : Type 0} (P : X → Type 0) (before : List X) (x : X) (later : List X) →
     AllByRecursion P (before ++ x ∷ later) → P x
@@ -157,7 +148,7 @@ module _ (t : Network) (valid : IsTopology t) (events : List MeshEvent) (run : I
         no-contention t g f.msg f.kind (all-at (MsgConcerns t g) f.before f.msg f.stands.later all)
 
     in-calls : Contains (s.nodes n).calls c
-    in-calls = found-in (λ (d : CallRec). nat_eq d.call.0 r.call.0) (s.nodes n).calls c found
+    in-calls = find-contains (λ (d : CallRec). nat_eq d.call.0 r.call.0) (s.nodes n).calls c found
 
     state-is : CallIs c (leg_kind (leg_at s r.back (node_at r.back_plan 0)) ≡ ArmedLeg)
     state-is = go c.state refl

@@ -34,7 +34,7 @@ use Rattle.mesh_laws.proofs.alone.Facts.{Routes}
 use Rattle.mesh_laws.proofs.restoration.Calls.{backup-there}
 use Rattle.mesh_laws.proofs.surveyed.Stands.{placed}
 
-find-contains : {X : Type 0} (p : X → Bool) (xs : List X) (x : X) → find p xs ≡ Some x → Contains xs x
+pub find-contains : {X : Type 0} (p : X → Bool) (xs : List X) (x : X) → find p xs ≡ Some x → Contains xs x
 find-contains p [] x e = absurd (cc e)
 find-contains p (y ∷ xs) x e = go (p y) e (find-contains p xs x)
   where

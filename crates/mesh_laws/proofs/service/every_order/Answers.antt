@@ -6,6 +6,7 @@ use Rattle.mesh_laws.proofs.causes.Refused.{every_refusal_has_cause}
 use Rattle.mesh_laws.proofs.acts.Torn.{every_torn_leg}
 use Rattle.mesh_laws.proofs.moves.OtherLegs.{every_order_leaves}
 use Rattle.mesh_laws.proofs.moves.Others.{every_order_of_one}
+use Rattle.mesh_laws.proofs.retried.Law.{every_retry}
 use Rattle.mesh_laws.proofs.service.every_order.Goals as goal
 
 pub returns : goal.returns
@@ -19,4 +20,5 @@ returns c = record {
   acts = every_order_acts;
   others = every_order_of_one;
   spared = every_order_leaves;
+  retried = every_retry;
 }

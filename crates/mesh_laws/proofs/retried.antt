@@ -1,0 +1,5 @@
+pub mod Going
+pub mod Law
+pub mod Only
+pub mod Rules
+pub mod Waiting

@@ -1,0 +1,268 @@
+-- Before the order to try again is handled nothing has moved; when it is, the backup is activated, or is busy.
+use Rattle.std.proofs.Common.{◌≡◌, ℕ, Bool, true, false, cond, nat_eq, not, List, [], ◌∷◌, ◌++◌, append-nil, drop, refl, sym, ap, ◌∙◌, subst, arith, inl, inr}
+use Rattle.std.specs.Prelude.{◌⊎◌, ◌&&◌, Option, Some, None}
+use Rattle.std.specs.List.{AllByRecursion}
+use Rattle.ason_base.specs.Codes.{busy_code}
+use Rattle.ason_base.specs.Network.{Network, find_link}
+use Rattle.ason_base.specs.declared.calls.Cause.TheVariants.{Code}
+use Rattle.ason_base.specs.declared.calls.Phase.TheVariants.{Armed, Held}
+use Rattle.ason_base.specs.declared.calls.Role.TheVariants as role
+use Rattle.ason_base.specs.declared.commands.Command.TheVariants.{Retry}
+use Rattle.ason_base.specs.declared.commands.DeskItem.TheVariants.{Order}
+use Rattle.ason_base.specs.declared.ids.CallNo.{CallNo}
+use Rattle.ason_base.specs.declared.ids.LinkId.{LinkId}
+use Rattle.ason_base.specs.declared.ids.Lsp.{Lsp}
+use Rattle.ason_base.specs.declared.ids.NodeId.{NodeId}
+use Rattle.ason_base.specs.declared.messages.Msg.TheVariants.{Path}
+use Rattle.ason_base.specs.declared.messages.PathRole.{PathRole}
+use Rattle.ason_base.specs.declared.messages.PathRole.TheVariants.{Work, Back}
+use Rattle.ason_base.specs.declared.steps.Step.{Step}
+use Rattle.ason_base.specs.declared.tables.CallRec.{CallRec}
+use Rattle.ason_base.specs.declared.tables.Leg.{Leg}
+use Rattle.mesh_rules.specs.declared.events.MeshEvent.{MeshEvent}
+use Rattle.mesh_rules.specs.declared.events.MeshEvent.TheVariants.{Take, Desk, Tick, Learn, Post}
+use Rattle.mesh_rules.specs.declared.neighbours.Neighbour.{Neighbour}
+use Rattle.mesh_rules.specs.Calls.{calls_changed, find_call, is_stuck, stuck, turning}
+use Rattle.mesh_rules.specs.Changes.{Answer, changed, nothing}
+use Rattle.mesh_rules.specs.declared.changes.CallChange.TheVariants as call
+use Rattle.mesh_rules.specs.declared.changes.LegChange.{LegChange}
+use Rattle.ason_base.specs.declared.tables.Out.{Out}
+use Rattle.ason_base.specs.declared.calls.CallState.TheVariants.{Stuck, Turned, Turning}
+use Rattle.std.proofs.lemmas.List.Elements.{recursion_from_All}
+use Rattle.mesh_nodes.proofs.CallList.{all-with_call}
+use Rattle.mesh_rules.specs.Events.{has_first, is_enabled, on_first_item, step}
+use Rattle.mesh_rules.specs.Learnt.{on_link}
+use Rattle.mesh_rules.specs.Legs.{find_leg, following, is_beyond_asked, is_contended, is_held, leg_of, legs_changed}
+use Rattle.mesh_rules.specs.LocalNodes.{LocalNode, local_node}
+use Rattle.mesh_rules.specs.Machine.{Mesh, commit, sent_to, without_item}
+use Rattle.mesh_rules.specs.Orders.{on_item}
+use Rattle.mesh_rules.specs.Paths.{role_of}
+use Rattle.mesh_rules.specs.Retries.{retries, retry_with}
+use Rattle.mesh_rules.specs.State.{NodeState}
+use Rattle.mesh_rules.specs.Turns.{activating, activating_path, arms, call_put, has_any, turn, turn_to}
+use Rattle.mesh_rules.specs.Waits.{on_tick}
+use Rattle.mesh_nodes.proofs.Cases.{if_cases}
+use Rattle.mesh_nodes.proofs.LegList.{found-lsp}
+use Rattle.lsp_laws.specs.HopLaw.{leg_at}
+use Rattle.lsp_laws.proofs.hops.Plans.{same}
+use Rattle.mesh_laws.specs.RetryLaw.{IsBusySomewhere, IsLeftAlone, NoneWaits}
+use Rattle.mesh_laws.proofs.acts.Busy.{leg-busy}
+use Rattle.mesh_laws.proofs.acts.Tests.{both}
+use Rattle.mesh_laws.proofs.retried.Going.{CallGoes, Going, IsStill, IsTimeless, put-there, still-link, still-tick}
+use Rattle.mesh_laws.proofs.retried.Only.{IsOfTurn, Moved, Moves, NoneThere, OnlyMoved, Puts, Stays, Turns, moves-on}
+
+-- nothing has moved since s, and the order is on the desk of n alone
+pub record Waiting (s : Mesh) (n : NodeId) (k : CallNo) (now : Mesh) : Type 0 where
+  pub legs : (m : ℕ) → (now.nodes m).legs ≡ (s.nodes m).legs
+  pub calls : (m : ℕ) → (now.nodes m).calls ≡ (s.nodes m).calls
+  pub mail : (u d : ℕ) → now.mail u d ≡ []
+  pub item : now.desks n.0 ≡ Order (Retry k n) ∷ []
+  pub others : (m : ℕ) → nat_eq m n.0 ≡ false → now.desks m ≡ []
+
+-- what is known of the call that tries again: its backup is Held at each node
+pub record MayTurn (s : Mesh) (n : NodeId) (b : Lsp) (c : CallRec) : Type 0 where
+  pub found : find_call c.call (s.nodes n.0).calls ≡ Some c
+  pub back : c.back ≡ Some b
+  pub tries : is_stuck c.state ≡ true
+  pub works : has_any c.work_reports ≡ true
+  pub backs : has_any c.back_reports ≡ false
+  pub ingress : b.ingress ≡ n
+  pub leg : Leg
+  pub there : leg_at s b n ≡ Some leg
+  pub held : leg.phase ≡ Held
+  pub of_back : role_of leg.path_role ≡ role.Back
+  pub up : (m : NodeId) (g : Leg) → leg_at s b m ≡ Some g → is_beyond_asked g.phase ≡ true
+
+same-mail : {X : Type 0} (c : Bool) (xs : List X) → xs ≡ [] → cond c (xs ++ []) xs ≡ []
+same-mail true xs none = append-nil xs ∙ none
+same-mail false xs none = none
+
+not-moved : (o : Option Leg) → ((g : Leg) → o ≡ Some g → is_beyond_asked g.phase ≡ true) → Moved o o
+not-moved None up = NoneThere
+not-moved (Some g) up = Moves g g.phase (up g refl)
+
+-- The order
+
+-- no call begins to wait
+pub record StartsNoWait (a : Answer) : Type 0 where
+  pub timeless : (wait : ℕ) (calls : List CallRec) → AllByRecursion (IsTimeless wait) calls →
+      AllByRecursion (IsTimeless wait) (calls_changed a.calls calls)
+
+untimed : (d : CallRec) (outs : List LegChange) (sent : List Out) → (d.state ≡ Turned → ⊥) →
+    StartsNoWait (record nothing { legs = outs; calls = call.Put d ∷ []; sent = sent })
+untimed d outs sent apart = record {
+  timeless = λ wait calls all. all-with_call (IsTimeless wait) d calls (λ waits. apart waits.1) all;
+}
+
+stuck-apart : Stuck ≡ Turned → ⊥
+stuck-apart e = cc e
+
+turning-apart : Turning ≡ Turned → ⊥
+turning-apart e = cc e
+
+module _ (P : Type 0) (b : Lsp) (x : NodeState) (c : CallRec) (g : Leg) (here : find_leg b x.legs ≡ Some g)
+    (held : g.phase ≡ Held) (of_back : role_of g.path_role ≡ role.Back) (busy : is_contended x.legs g ≡ true → P)
+    (back : c.back ≡ Some b) (works : has_any c.work_reports ≡ true) where
+  -- what the order makes of the node
+  abbrev pub Begins : Answer → Type 0
+  Begins a = Turns P b x.legs a × CallGoes P b c.call (calls_changed a.calls x.calls) × StartsNoWait a
+
+  active-sent : (j : Lsp) (e : NodeId) (l : LinkId) (route : List Step) (set : List ℕ) (up : Option ℕ) (r : PathRole) →
+      role_of r ≡ role.Back → j ≡ b → IsOfTurn P b (Path j e l route set up (activating r))
+  active-sent j e l route set up (Work guard) is own = absurd (cc is)
+  active-sent j e l route set up (Back active work primary) is own = own
+
+  path-sent : (h : Option Neighbour) → AllByRecursion (λ o. IsOfTurn P b o.msg) (activating_path g h)
+  path-sent None = tt
+  path-sent (Some h) = (active-sent g.lsp g.egress h.fibre.link g.route g.sent g.back_in g.path_role of_back (found-lsp b x.legs g here), tt)
+
+  begins-turn : Begins (turn_to x.legs c g)
+  begins-turn =
+      if_cases Begins (is_contended x.legs g) (call_put (stuck c (Code busy_code))) (arms c g)
+      (λ full. (
+        record { leg = Stays; sent = tt },
+        record {
+          call = stuck c (Code busy_code);
+          found = put-there c.call (stuck c (Code busy_code)) x.calls refl;
+          back = back;
+          works = works;
+          state = inr (inr (refl, refl, busy full));
+        },
+        untimed (stuck c (Code busy_code)) [] [] stuck-apart,
+      ))
+      (λ free. (
+        record { leg = Puts g Armed here refl; sent = path-sent (following g) },
+        record {
+          call = turning c;
+          found = put-there c.call (turning c) x.calls refl;
+          back = back;
+          works = works;
+          state = inl refl;
+        },
+        untimed (turning c) _ _ turning-apart,
+      ))
+
+  begins-held : Begins (turn x.legs c (Some g))
+  begins-held =
+      if_cases Begins (is_held g.phase) (turn_to x.legs c g) (call_put c) (λ e. begins-turn)
+      (λ e. absurd (let is = ap is_held held in cc (is, e)))
+
+  begins-retry : is_stuck c.state ≡ true → has_any c.back_reports ≡ false → Begins (retries x c)
+  begins-retry tries backs =
+      if_cases Begins (is_stuck c.state && (has_any c.work_reports && not (has_any c.back_reports))) _ _
+      (λ e. subst (λ o. Begins (turn x.legs c o)) (sym (ap (λ o. leg_of o x.legs) back ∙ here)) begins-held)
+      (λ e. absurd (let may = both (is_stuck c.state) _ tries (both (has_any c.work_reports) _ works (ap not backs)) in
+      cc (may, e)))
+
+  -- Where the node finds the call, its order activates the backup, or the call is stuck as the backup is busy.
+  pub begins : (p : LocalNode) (from : NodeId) → from ≡ p.id → is_stuck c.state ≡ true →
+      has_any c.back_reports ≡ false → find_call c.call x.calls ≡ Some c → Begins (on_item p x (Order (Retry c.call from)))
+  begins p from at tries backs found =
+      subst (λ o. Begins (retry_with p x from o)) (sym found)
+      (if_cases Begins (nat_eq from.0 p.id.0) _ _ (λ e. begins-retry tries backs)
+      (λ e. absurd (let is : nat_eq from.0 p.id.0 ≡ true = ap (λ (m : NodeId). nat_eq m.0 p.id.0) at ∙ same p.id.0 in
+      cc (is, e))))
+
+-- One step
+
+module _ (t : Network) (s : Mesh) (n : NodeId) (b : Lsp) (c : CallRec) (may : MayTurn s n b c) (now : Mesh)
+    (waiting : Waiting s n c.call now) where
+  abbrev Busy : Type 0
+  Busy = IsBusySomewhere s b
+
+  not-yet : OnlyMoved s b now
+  not-yet = record {
+    others = λ l m apart. ap (find_leg l) (waiting.legs m.0);
+    own = λ m. subst (Moved (leg_at s b m)) (ap (find_leg b) (sym (waiting.legs m.0)))
+        (not-moved (leg_at s b m) (may.up m));
+    mail = λ u d. subst (AllByRecursion (IsOfTurn Busy b)) (sym (waiting.mail u d)) tt;
+  }
+
+  abbrev z : NodeState
+  z = now.nodes n.0
+
+  started : Turns Busy b z.legs (on_item (local_node t n) z (Order (Retry c.call n)))
+      × CallGoes Busy b c.call (calls_changed (on_item (local_node t n) z (Order (Retry c.call n))).calls z.calls)
+      × StartsNoWait (on_item (local_node t n) z (Order (Retry c.call n)))
+  started =
+      begins Busy b z c may.leg (ap (find_leg b) (waiting.legs n.0) ∙ may.there) may.held may.of_back
+      (λ full. record {
+        node = n;
+        leg = may.leg;
+        there = may.there;
+        busy = leg-busy (s.nodes n.0).legs may.leg (subst (λ legs. is_contended legs may.leg ≡ true) (waiting.legs n.0) full);
+      })
+      may.back may.works (local_node t n) n refl may.tries may.backs
+      (ap (find_call c.call) (waiting.calls n.0) ∙ may.found)
+
+  timeless : NoneWaits t s → (m : ℕ) → AllByRecursion (IsTimeless t.wait) (now.nodes m).calls
+  timeless none m =
+      subst (AllByRecursion (IsTimeless t.wait)) (sym (waiting.calls m))
+      (recursion_from_All (IsTimeless t.wait) (s.nodes m).calls (none m))
+
+  -- the order is handled
+  handled : (a : Answer) → Turns Busy b z.legs a → CallGoes Busy b c.call (calls_changed a.calls z.calls) →
+      StartsNoWait a → Going t s n c.call b (commit (without_item now n.0) n.0 a)
+  handled a turns call starts = record {
+    moved = moves-on s b (without_item now n.0) n a
+        (record { others = not-yet.others; own = not-yet.own; mail = not-yet.mail }) turns;
+    call = at-node (nat_eq n.0 n.0) (same n.0);
+    waits = λ none m. still m none (nat_eq m n.0);
+    desks = λ m. empty m (nat_eq m n.0) refl;
+  }
+    where
+      at-node : (d : Bool) → d ≡ true → CallGoes Busy b c.call (cond d (changed z a) z).calls
+      at-node true e = call
+      at-node false e = absurd (cc e)
+
+      still : (m : ℕ) → NoneWaits t s → (d : Bool) →
+          AllByRecursion (IsTimeless t.wait) (cond d (changed (now.nodes m) a) (now.nodes m)).calls
+      still m none true = starts.timeless t.wait (now.nodes m).calls (timeless none m)
+      still m none false = timeless none m
+
+      empty : (m : ℕ) (d : Bool) → nat_eq m n.0 ≡ d → cond d (drop 1 (now.desks m)) (now.desks m) ≡ []
+      empty m true e =
+          let is : n.0 ≡ m = grind arith in
+          subst (λ j. drop 1 (now.desks j) ≡ []) is (ap (drop 1) waiting.item)
+      empty m false e = waiting.others m e
+
+  -- an answer that changes nothing
+  waits-still : (m : NodeId) (a : Answer) → IsStill a → Waiting s n c.call (commit now m.0 a)
+  waits-still m a still = record {
+    legs = λ i. stays (nat_eq i m.0) (λ (y : NodeState). y.legs) (changed (now.nodes i) a) (now.nodes i)
+        (ap (λ cs. legs_changed cs (now.nodes i).legs) still.legs) ∙ waiting.legs i;
+    calls = λ i. stays (nat_eq i m.0) (λ (y : NodeState). y.calls) (changed (now.nodes i) a) (now.nodes i)
+        (ap (λ cs. calls_changed cs (now.nodes i).calls) still.calls) ∙ waiting.calls i;
+    mail = λ u d. ap (λ outs. cond (nat_eq u m.0) (now.mail u d ++ sent_to d outs) (now.mail u d)) still.sent
+        ∙ same-mail (nat_eq u m.0) (now.mail u d) (waiting.mail u d);
+    item = waiting.item;
+    others = waiting.others;
+  }
+    where
+      stays : {X : Type 0} (d : Bool) (f : NodeState → X) (y z : NodeState) → f y ≡ f z → f (cond d y z) ≡ f z
+      stays true f y z is = is
+      stays false f y z is = refl
+
+  -- Over each event nothing moves, or the order is handled.
+  pub waits-on : (e : MeshEvent) → IsLeftAlone t s e → is_enabled t now e ≡ true →
+      Waiting s n c.call (step t now e) ⊎ Going t s n c.call b (step t now e)
+  waits-on (Take d u) alone enabled =
+      absurd (let none : has_first (now.mail u.0 d.0) ≡ false = rw (waiting.mail u.0 d.0) refl in cc (none, enabled))
+  waits-on (Desk m) alone enabled = go (nat_eq m.0 n.0) refl
+    where
+      go : (d : Bool) → nat_eq m.0 n.0 ≡ d → Waiting s n c.call (step t now (Desk m)) ⊎ Going t s n c.call b (step t now (Desk m))
+      go true e =
+          let is : m ≡ n = (let number : m.0 ≡ n.0 = grind arith in λ i. record { 0 = number i }) in
+          inr (subst (λ (j : NodeId). Going t s n c.call b (step t now (Desk j))) (sym is)
+          (subst (λ items. Going t s n c.call b (commit (without_item now n.0) n.0 (on_first_item (local_node t n) z items)))
+          (sym waiting.item)
+          (handled (on_item (local_node t n) z (Order (Retry c.call n))) started.0 started.1 started.2)))
+      go false e =
+          absurd (let none : has_first (now.desks m.0) ≡ false = rw (waiting.others m.0 e) refl in cc (none, enabled))
+  waits-on (Tick m) alone enabled =
+      inl (waits-still m (on_tick (local_node t m) (now.nodes m.0))
+      (still-tick (local_node t m) (now.nodes m.0) (timeless alone m.0)))
+  waits-on (Learn m j) alone enabled =
+      inl (waits-still m (on_link (local_node t m) (now.nodes m.0) (find_link t j))
+      (still-link (local_node t m) (now.nodes m.0) (find_link t j)))
+  waits-on (Post y) alone enabled = absurd alone
