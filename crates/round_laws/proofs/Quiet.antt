@@ -1,14 +1,11 @@
 -- Where nothing is unacknowledged, nothing is missing in the rings; and a post leaves that so.
-use Rattle.std.proofs.Common.{inl, inr, ◌≡◌, ◌≤◌, ◌+◌, ℕ, Bool, true, false, nat_eq, List, [], ◌∷◌, ◌++◌, length, refl, sym, ap, ◌∙◌, subst, append-nil, arith}
-use Rattle.ason_base.specs.declared.ids.NodeId.{NodeId}
+use Rattle.std.proofs.Common.{◌≡◌, ◌≤◌, ℕ, false, nat_eq, List, [], ◌∷◌, length, refl, sym, ap, ◌∙◌, subst, arith}
 use Rattle.ason_base.specs.declared.commands.Command.{Command}
 use Rattle.ason_base.specs.declared.commands.Command.TheVariants.{Setup, Release, Protect, Retry, Revert, Fail, Repair}
 use Rattle.ason_base.specs.declared.commands.Entry.{Entry}
 use Rattle.ason_base.specs.declared.commands.Event.{Event}
 use Rattle.ason_base.specs.declared.commands.Event.TheVariants.{Post}
 use Rattle.ason_base.specs.declared.messages.Msg.{Msg}
-use Rattle.std.proofs.lemmas.List.{length-append}
-use Rattle.channel_frames.specs.declared.frames.Content.{Content}
 use Rattle.ason_base.specs.Network.{Network}
 use Rattle.hop_reliable.specs.Schedules.{BothWays, HopEnd, IsSettled}
 use Rattle.hop_reliable.proofs.Flow.{Flow}
@@ -20,23 +17,19 @@ use Rattle.world_merge.specs.Deeds.{Posted}
 use Rattle.world_merge.specs.Histories.{at}
 use Rattle.world_merge.specs.Logs.{line_of}
 use Rattle.world_merge.specs.Merges.{events_of}
-use Rattle.round_rules.specs.Doings.{Did, Doing}
+use Rattle.round_rules.specs.Doings.{Did}
 use Rattle.round_rules.specs.Records.{IsRecord, Record, world_of}
-use Rattle.round_rules.specs.Rings.{count_of, got_from, is_in, standing}
+use Rattle.round_rules.specs.Rings.{standing}
 use Rattle.round_laws.specs.FleetLaw.{AllAcknowledged, IsPostOf, NewIsOnlySent, OnlySent, QuietHasAll, RoundsKeepSent}
 use Rattle.round_laws.specs.GoingOn.{GoesOn}
 use Rattle.round_laws.specs.Rings.{channel_of, contents_of, handed_up_at, sent_to}
 use Rattle.round_laws.specs.WholeRounds.{LeadsTo}
 use Rattle.round_laws.proofs.Climbing.{climbs_all}
 use Rattle.round_laws.proofs.GoingOn.{merges-go_on}
-use Rattle.round_rules.specs.Rounds.{DropsAt, IsRoundAt, MayDrop}
-use Rattle.round_laws.proofs.Standing.{receiver-is, sender-is, sends-on}
-use Rattle.round_laws.proofs.Numbers.{in_either}
-use Rattle.std.specs.Prelude.{◌||◌}
-use Rattle.std.specs.List.{AllByRecursion}
-use Rattle.round_laws.proofs.Sending.{Brings}
+use Rattle.round_rules.specs.Rounds.{DropsAt, IsRoundAt}
+use Rattle.round_laws.proofs.Standing.{receiver-is, sender-is}
+use Rattle.round_laws.proofs.Sent.{drops_sent, keeps_sent, others-keep_sent}
 use Rattle.round_laws.proofs.Sweeping.{flows, take_length}
-use Rattle.round_laws.proofs.Taking.{got-append}
 
 -- a run leads to it
 pub reached-by : (t : Network) (es : List Event) (w : World) → LeadsTo t es w → AreReached w
@@ -108,78 +101,22 @@ acknowledged_on t c old new is_old is_new is none u d =
 
 -- and so it does with what was taken or dropped
 pub only_on : (t : Network) (c : Command) (old new : Record) → IsPostOf t c old new → OnlySent t old → OnlySent t new
-only_on t c old new is only u d on = record {
-  got = λ k in_it. more k ((only u d on).got k (sym (ap (λ ks. is_in ks k) same_got) ∙ in_it));
-  dropped = λ k in_it. more k ((only u d on).dropped k (sym (ap (λ ks. is_in ks k) (is.dropped u.0 d.0)) ∙ in_it));
-}
-  where
-    same_got : got_from u (new.doings d.0) ≡ got_from u (old.doings d.0)
-    same_got =
-        ap (got_from u) (is.doings d.0) ∙ got-append u (old.doings d.0) (Did (Posted is.stamp c) ∷ [])
-        ∙ append-nil (got_from u (old.doings d.0))
-
-    brings : Brings (channel_of t old u d) (channel_of t new u d) (sent_to t old u d) (sent_to t new u d)
-    brings = sends-on t u d old new (Did (Posted is.stamp c) ∷ []) (is.doings u.0)
-
-    more : (k : ℕ) → k ≤ count_of t old u d → k ≤ count_of t new u d
-    more k le =
-        let longer : count_of t new u d ≡ count_of t old u d + length brings.more =
-        ap (λ (cs : List Content). length cs) brings.whole ∙ length-append (channel_of t old u d) brings.more in
-        omega (arith, le, longer)
-
--- Every round keeps that only what was sent is taken or dropped
-
-more_sent : (t : Network) (u d : NodeId) (old new : Record) (added : List Doing) →
-    new.doings u.0 ≡ old.doings u.0 ++ added → count_of t old u d ≤ count_of t new u d
-more_sent t u d old new added all =
-    let brings : Brings (channel_of t old u d) (channel_of t new u d) (sent_to t old u d) (sent_to t new u d) =
-    sends-on t u d old new added all in
-    let longer : count_of t new u d ≡ count_of t old u d + length brings.more =
-    ap (λ (cs : List Content). length cs) brings.whole ∙ length-append (channel_of t old u d) brings.more in
-    omega (arith, longer)
-
-all_within : (t : Network) (old new : Record) (u d : NodeId) (ks : List ℕ) →
-    AllByRecursion (MayDrop t old new u d) ks → (k : ℕ) → is_in ks k ≡ true → k ≤ count_of t new u d
-all_within t old new u d [] all k is = absurd (cc (is))
-all_within t old new u d (j ∷ ks) all k is = go (nat_eq j k) refl is (all_within t old new u d ks all.1 k)
-  where
-    go : (b : Bool) → nat_eq j k ≡ b → (b || is_in ks k) ≡ true → (is_in ks k ≡ true → k ≤ count_of t new u d) →
-        k ≤ count_of t new u d
-    go true e is rest =
-        let same : j ≡ k = grind (arith, e) in
-        let low : j ≤ count_of t new u d = all.0.within in
-        omega (arith, same, low)
-    go false e is rest = rest is
+only_on t c old new is =
+    others-keep_sent t old new (record {
+      added = λ n. Did (Posted is.stamp c) ∷ [];
+      all = is.doings;
+      none = λ u n. refl;
+      dropped = is.dropped;
+    })
 
 -- A round takes and drops only what was sent.
 pub rounds-keep_sent : RoundsKeepSent
-rounds-keep_sent t lines old new is only u d on = record {
-  got = λ k in_it. elim (in_either (got_from u (old.doings d.0)) (got_from u to.added) k
-      (sym (ap (λ ks. is_in ks k) got) ∙ in_it)) [
-        | inl early ↦ let low = (only u d on).got k early in omega (arith, low, more)
-        | inr late ↦ (to.sent u k late).1
-      ];
-  dropped = λ k in_it. elim (in_either (old.dropped u.0 d.0) drops.more k
-      (sym (ap (λ ks. is_in ks k) drops.all) ∙ in_it)) [
-        | inl early ↦ let low = (only u d on).dropped k early in omega (arith, low, more)
-        | inr late ↦ all_within t old new u d drops.more drops.may k late
-      ];
-}
-  where
-    to : IsRoundAt t lines old new d
-    to = is.nodes d (receiver-is t u d on)
-
-    from : IsRoundAt t lines old new u
-    from = is.nodes u (sender-is t u d on)
-
-    drops : DropsAt t old new u d
-    drops = is.drops u d
-
-    got : got_from u (new.doings d.0) ≡ got_from u (old.doings d.0) ++ got_from u to.added
-    got = ap (got_from u) to.all ∙ got-append u (old.doings d.0) to.added
-
-    more : count_of t old u d ≤ count_of t new u d
-    more = more_sent t u d old new from.added from.all
+rounds-keep_sent t lines old new is only u d on =
+    let from : IsRoundAt t lines old new u = is.nodes u (sender-is t u d on) in
+    let to : IsRoundAt t lines old new d = is.nodes d (receiver-is t u d on) in
+    let drops : DropsAt t old new u d = is.drops u d in
+    keeps_sent t u d old new from.added to.added drops.more from.all to.all drops.all (λ k late. (to.sent u k late).1)
+    (drops_sent t old new u d drops.more drops.may) (only u d on)
 
 -- At first nothing was taken or dropped.
 pub new-is_only_sent : NewIsOnlySent

@@ -95,6 +95,13 @@ front [] more (suc k) le = absurd (omega (arith, le))
 front (c ∷ cs) more (suc zero) le = refl
 front (c ∷ cs) more (suc (suc k)) le = front cs more (suc k) (omega (arith, le))
 
+-- no frame has a number above that of the last one
+not_sent : (cs : List Content) (k : ℕ) (x : Content) → length cs < k → numbered_at cs k ≡ Some x → ⊥
+not_sent cs zero x above is = absurd (omega (arith, above))
+not_sent [] (suc k) x above is = absurd (cc (is))
+not_sent (c ∷ cs) (suc zero) x above is = absurd (omega (arith, above))
+not_sent (c ∷ cs) (suc (suc k)) x above is = not_sent cs (suc k) x (omega (arith, above)) is
+
 no_next : (h : ℕ) (id : MsgId) → id.number ≤ h → handed_up_after h (heard_number h id) ≡ h
 no_next h id le =
     let low : nat_le id.number h ≡ true = grind (arith, le) in
@@ -142,13 +149,16 @@ pub is_whole : (t : Network) (lines : List Disturb) (es : List Event) (since old
 is_whole t lines es since old new leads none later_old later_new is = record {
   round = is.round;
   kept = is.kept;
-  delivered = λ u d k on. go u d k on (nat_lt (count_of t since u d) k) refl;
+  delivered = λ u d k on.
+      go u d k on (nat_lt (count_of t since u d) k) refl (nat_le k (count_of t new u d)) refl;
 }
   where
     go : (u d : NodeId) (k : ℕ) → is_channel t u d ≡ true → (b : Bool) → nat_lt (count_of t since u d) k ≡ b →
-        IsDelivered (says lines u d k) ⊎ IsOld t old new u d k
-    go u d k on true e = inl (is.delivered u d k (grind (arith, e)))
-    go u d k on false e = inr (λ x there h le.
+        (c : Bool) → nat_le k (count_of t new u d) ≡ c → IsDelivered (says lines u d k) ⊎ IsOld t old new u d k
+    go u d k on true e true f = inl (is.delivered u d k (grind (arith, e)) (grind (arith, f)))
+    go u d k on true e false f = inr (λ x there h le.
+        absurd (not_sent (channel_of t new u d) k x (grind (arith, f)) there))
+    go u d k on false e c f = inr (λ x there h le.
         let low : k ≤ count_of t since u d = grind (arith, e) in
         let other : nat_eq u.0 d.0 ≡ false = grind (arith, on) in
         let l = later_new u d on in

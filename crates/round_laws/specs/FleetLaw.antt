@@ -78,12 +78,13 @@ AreWholeRounds t (suc k) old new =
     (lines : List Disturb) × (mid : Record) × IsWholeRound t lines old mid × IsRecord t mid
     × AreWholeRounds t k mid new
 
--- A round in which no frame is dropped; and lines that say `lose` or `hold` name frames alone that were sent before this
--- record was made.
+-- A round in which no frame is dropped; and lines that say `lose` or `hold` name none of the frames that were sent since
+-- this record was made, up to the round's end.
 pub record IsWholeSince (t : Network) (lines : List Disturb) (since old new : Record) : Type 0 where
   pub round : IsRound t lines old new
   pub kept : (u d : ℕ) → new.dropped u d ≡ old.dropped u d
-  pub delivered : (u d : NodeId) (k : ℕ) → count_of t since u d < k → IsDelivered (says lines u d k)
+  pub delivered : (u d : NodeId) (k : ℕ) → count_of t since u d < k → k ≤ count_of t new u d →
+      IsDelivered (says lines u d k)
 
 -- so many of these
 abbrev pub AreWholeSince : Network → Record → ℕ → Record → Record → Type 0

@@ -2,6 +2,7 @@
 
 ghost use Rattle.round_laws.specs.FleetLaw.{FleetsRestoreSoon, NewIsOnlySent, PostsKeepSent, QuietHasAll, RecordsAreReached, RoundsKeepSent, SinceAreWhole};
 ghost use Rattle.round_laws.specs.GoingOn.{MergesGoOn};
+ghost use Rattle.round_laws.specs.SentLaws.{CutRoundsKeepSent, OthersKeepSent};
 ghost use Rattle.round_laws.specs.WholeRounds.{RoomDropsNone, RoundsBeginInOrder, WholeRoundsAreSweeps, WholeRoundsHandUpAll, WholeRoundsKeepRings};
 
 use mesh_laws::every_run;
@@ -26,12 +27,15 @@ pub fn every_round()
 
 /// Some run leads to the world of each record (`reached`). In each record that posts and rounds
 /// make, whatever they lose, only what was sent is taken or dropped: at first (`begun`), after each
-/// round (`rounds`) and after each post (`posts`).
+/// round (`rounds`), also one that a node's limit ends (`cuts`), after each post (`posts`), and after
+/// all else that takes no frame (`others`).
 pub fn every_made_record()
     ensures reached { RecordsAreReached }
     ensures begun { NewIsOnlySent }
     ensures rounds { RoundsKeepSent }
+    ensures cuts { CutRoundsKeepSent }
     ensures posts { PostsKeepSent }
+    ensures others { OthersKeepSent }
 {}
 
 /// Of a topology, and a record of a calm and quiet fleet, in which one group then fails: rounds in
