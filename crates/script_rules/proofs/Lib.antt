@@ -1,4 +1,5 @@
 pub mod Alone
+pub mod FailLines
 pub mod Follows
 pub mod Grows
 pub mod Lawful
@@ -8,5 +9,7 @@ pub mod Nodes
 pub mod OneOrder
 pub mod OneTable
 pub mod Posts
+pub mod Restoring
 pub mod Rounds
+pub mod Sent
 pub mod Stops

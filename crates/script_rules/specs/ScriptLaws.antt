@@ -1,9 +1,12 @@
 -- What holds of every script.
-use Rattle.std.specs.Prelude.{◌≡◌, ℕ, false, List, ◌∷◌, ◌++◌}
+use Rattle.std.specs.Prelude.{◌≡◌, ◌⊎◌, ℕ, false, List, ◌∷◌, ◌++◌}
 use Rattle.std.specs.List.{AllByRecursion}
+use Rattle.ason_base.specs.declared.commands.Command.TheVariants.{Fail}
+use Rattle.ason_base.specs.declared.commands.Group.{Group}
 use Rattle.ason_base.specs.Network.{IsTopology, Network}
 use Rattle.fleet_rounds.specs.Commands.{CutRoundsPostNothing, RoundsPostNothing}
 use Rattle.plan_reader.specs.declared.lines.Line.{Line}
+use Rattle.plan_reader.specs.declared.lines.Line.TheVariants.{Post}
 use Rattle.plan_reader.specs.declared.plan.Plan.{Plan}
 use Rattle.plan_reader.specs.Plans.{calls_after_lines}
 use Rattle.round_rules.specs.Records.{IsRecord, Record}
@@ -11,7 +14,8 @@ use Rattle.script_rules.specs.Growing.{AreGrowing}
 use Rattle.script_rules.specs.Lawful.{IsLawfulRecord}
 use Rattle.script_rules.specs.OneWorker.{lines_end}
 use Rattle.script_rules.specs.Outputs.{How, Prints}
-use Rattle.script_rules.specs.Stages.{IsFull, Stage, is_stopped, last_of, world_at}
+use Rattle.script_rules.specs.Restoring.{FailsLast, IsStoppedBefore, MakesRounds, RestoresInRounds}
+use Rattle.script_rules.specs.Stages.{IsFull, Stage, is_stopped, last_of, new_stage, world_at}
 
 -- over a topology each merge of a record's logs and posts is a lawful run, and there is one
 abbrev pub RecordsAreLawful : Type 0
@@ -65,3 +69,16 @@ StopsAreFull =
     (p : Plan) (how : How) (lines : List Line) (s : Stage) (more : List Stage) (text : List ℕ) →
     IsFull s.made s.stopped → Prints p how lines s more text →
     IsFull (last_of s more).made (last_of s more).stopped
+
+-- of stages that are lawful records: after a failure behind which rounds alone are made, calls are restored in rounds
+abbrev pub FailuresAreRestored : Type 0
+FailuresAreRestored =
+    (p : Plan) (more : List Stage) → IsTopology p.topology →
+    AllByRecursion (λ (s : Stage). IsLawfulRecord p.topology s.made) (new_stage ∷ more) → RestoresInRounds p more
+
+-- each `fail` line with such lines behind it makes such a failure, unless the run was stopped before it
+abbrev pub FailLinesFail : Type 0
+FailLinesFail =
+    (p : Plan) (how : How) (first behind : List Line) (g : Group) (more : List Stage) (text : List ℕ) →
+    Prints p how (first ++ Post (Fail g) ∷ behind) new_stage more text → AllByRecursion MakesRounds behind →
+    FailsLast p how more g ⊎ IsStoppedBefore p how first more

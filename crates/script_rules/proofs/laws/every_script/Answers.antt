@@ -1,8 +1,10 @@
 use Rattle.script_rules.proofs.Alone.{function_end, one_list}
+use Rattle.script_rules.proofs.FailLines.{fail-lines_fail}
 use Rattle.script_rules.proofs.Follows.{lines_follow}
 use Rattle.script_rules.proofs.Grows.{scripts_grow}
 use Rattle.script_rules.proofs.Lawful.{records_lawful}
 use Rattle.script_rules.proofs.Posts.{posts_follow}
+use Rattle.script_rules.proofs.Restoring.{failures-are_restored}
 use Rattle.script_rules.proofs.Stops.{stops_full}
 use Rattle.script_rules.proofs.laws.every_script.Goals as goal
 
@@ -34,3 +36,9 @@ returns-clause-posts c = posts_follow
 
 pub returns-clause-full : goal.returns-clause-full
 returns-clause-full c = stops_full
+
+pub returns-clause-restored : goal.returns-clause-restored
+returns-clause-restored c = failures-are_restored c.every_failure.ensures.soon
+
+pub returns-clause-fails : goal.returns-clause-fails
+returns-clause-fails c = fail-lines_fail
