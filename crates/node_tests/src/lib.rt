@@ -2,11 +2,7 @@
 #![tactic(auto)]
 
 #[cfg(test)]
-mod handlers;
-#[cfg(test)]
 mod leg_tables;
-#[cfg(test)]
-mod meshes;
 #[cfg(test)]
 mod networks;
 #[cfg(test)]

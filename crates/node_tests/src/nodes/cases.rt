@@ -3,7 +3,7 @@
 use crate::networks::{A, B, C};
 use crate::nodes::driver::{Case, first_wrong};
 use crate::nodes::inputs::{ON, Said};
-use ason_base::codes::{FULL, ROUTE, SET};
+use ason_base::codes::{FULL, ROUTE, SET, TORN};
 use ason_base::{CallState, Cause, Phase};
 use std::test::Fail;
 
@@ -122,6 +122,44 @@ const CASES: &[Case] = &[
         )],
         &[],
         (1, Some(Phase::Live), None),
+    ),
+    // a Path goes on, its Resv goes back, a PathTear is confirmed and goes on, and the leg goes with the answer
+    (
+        B,
+        &[(1, 1, &[Said::Path(C, ON, 1)])],
+        &[(C, None)],
+        (1, Some(Phase::Asked), None),
+    ),
+    (
+        B,
+        &[(1, 1, &[Said::Path(C, ON, 1), Said::Resv(C, 2, 1)])],
+        &[(A, None)],
+        (1, Some(Phase::Live), None),
+    ),
+    (
+        B,
+        &[(
+            1,
+            1,
+            &[Said::Path(C, ON, 1), Said::Resv(C, 2, 1), Said::Tear],
+        )],
+        &[(A, Some(TORN)), (C, None)],
+        (1, Some(Phase::Closing), None),
+    ),
+    (
+        B,
+        &[(
+            1,
+            1,
+            &[
+                Said::Path(C, ON, 1),
+                Said::Resv(C, 2, 1),
+                Said::Tear,
+                Said::PathErr(C, true),
+            ],
+        )],
+        &[],
+        (0, None, None),
     ),
     // a torn leg is torn once more, and its Resv comes once more
     (

@@ -1,3 +1,0 @@
-pub mod GoingBack
-pub mod Handlers
-pub mod Ingress

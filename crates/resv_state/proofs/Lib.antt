@@ -1,2 +1,0 @@
-pub mod ByLegs
-pub mod MayResvs

@@ -1,3 +1,0 @@
-pub mod Handled
-pub mod Standing
-mod Whole
