@@ -1,15 +1,15 @@
 //! The calls of an ingress in order of number, and by their LSPs.
 
-ghost use Rattle.std.specs.Prelude.{◌≡◌, ◌≤◌, ◌<◌, ◌+◌, [], IfOk, IfSome, IsSome, OnOk, vec_capacity, vec_len};
+ghost use Rattle.std.specs.Prelude.{◌≡◌, ◌≤◌, ◌<◌, ◌+◌, [], OnOk, vec_capacity, vec_len};
 ghost use Rattle.std.specs.Option.{option_copied};
 ghost use Rattle.mesh_rules.specs.Calls.{call_with, calls_changed, find_call, with_call, without_call};
 ghost use Rattle.node_calls.specs.CallLists.{AreCalls, GrewBy, HasRoom, IsEntryOf, entry_of, lesser};
-ghost use Rattle.node_calls.specs.LspIndexes.{HasJust, IndexRises, IsSet, IsTakenOff, back_of, work_of};
-ghost use Rattle.node_calls.specs.CallTables.{call_changed, number_of, with_lsps};
+ghost use Rattle.node_calls.specs.LspIndexes.{IndexRises, IsSet, IsTakenOff, back_of, work_of};
+ghost use Rattle.node_calls.specs.CallTables.{number_of};
 
-use crate::calls::{find_call, set_lsps, take_call};
+use crate::calls::{find_call, take_call};
 use crate::lsp_index::{LspOfCall, add, first_call, remove, replace};
-use ason_base::{CallNo, CallRec, Lsp, OutOfMemory, copy_all};
+use ason_base::{CallNo, CallRec, Lsp, OutOfMemory};
 use mesh_rules::CallChange;
 use std::alloc::Global;
 use table_lists::keyed::put_item;
@@ -48,18 +48,6 @@ fn put_entry(entries: &mut Vec<LspOfCall>, before: Option<LspOfCall>, entry: Lsp
     match before {
         None => add(entries, entry),
         Some(before) => replace(entries, before, entry.lsp),
-    }
-}
-
-// Puts another LSP in the place of that which a call has.
-fn change_entry(entries: &mut Vec<LspOfCall>, before: Option<LspOfCall>, lsp: Option<Lsp>)
-    requires rising { IndexRises entries.old.items }
-    requires just { IfSome before (λ x. HasJust x.call x.lsp entries.old.items) }
-    ensures set { IfSome before (λ x. IsSet x.call lsp entries.old.items entries.new.items) }
-{
-    match before {
-        None => {}
-        Some(before) => replace(entries, before, lsp),
     }
 }
 
@@ -104,22 +92,6 @@ impl CallList {
             works: Vec::new(alloc),
             backs: Vec::new(alloc),
         }
-    }
-
-    /// The same calls again.
-    pub(crate) fn copy(&self, alloc: Global) -> Result<CallList, OutOfMemory>
-        requires { AreCalls self.now }
-        ensures calls { IfOk result (λ t. t.calls.items ≡ self.now.calls.items) }
-        ensures fit { IfOk result AreCalls }
-    {
-        let calls = copy_all(alloc, &self.calls)?;
-        let works = Vec::from_slice(alloc, &self.works)?;
-        let backs = Vec::from_slice(alloc, &self.backs)?;
-        Ok(CallList {
-            calls,
-            works,
-            backs,
-        })
     }
 
     /// Makes room for so many calls more.
@@ -202,27 +174,6 @@ impl CallList {
                 CallChange::Put(call) => self.store(call),
             }
         }
-    }
-
-    /// Sets the LSPs of a call. The reports of an LSP that is replaced go.
-    pub(crate) fn set_lsps(
-        &mut self,
-        alloc: Global,
-        number: CallNo,
-        work: Option<Lsp>,
-        back: Option<Lsp>,
-    )
-        requires fit { AreCalls self.old }
-        requires stands { IsSome (find_call number self.old.calls.items) }
-        ensures calls { self.new.calls.items ≡ call_changed number
-            (with_lsps work back) self.old.calls.items }
-        ensures fit { AreCalls self.new }
-    {
-        let before = find_call(&self.calls, number);
-        let (work_before, back_before) = entries(before);
-        change_entry(&mut self.works, work_before, work);
-        change_entry(&mut self.backs, back_before, back);
-        set_lsps(&mut self.calls, alloc, number, work, back);
     }
 
     /// The number of the first call that has this LSP, as its working or as its backup LSP.

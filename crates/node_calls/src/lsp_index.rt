@@ -1,6 +1,6 @@
 //! The calls of an ingress by their LSPs: what LSP each call has, in order of LSP and then of call number, found by halving.
 
-ghost use Rattle.std.specs.Prelude.{◌≡◌, ◌≤◌, ◌<◌, ◌+◌, false, slice_get, true, vec_capacity, vec_len};
+ghost use Rattle.std.specs.Prelude.{◌≡◌, ◌<◌, ◌+◌, false, slice_get, true, vec_capacity, vec_len};
 ghost use Rattle.node_calls.specs.LspIndexes.{HasJust, HasNone, IndexRises, IsFirstCall, IsMore, IsSet, IsTakenOff, call_there, entry_order, has_entry, is_before, is_earlier, is_same, is_same_entry, without_entry};
 
 use ason_base::{CallNo, Lsp};

@@ -17,7 +17,7 @@ ghost use Rattle.node_rules.specs.declared.inputs.Input.TheVariants as inputs;
 
 use crate::rows::{call_rows, leg_rows};
 use crate::rules::{NodeParts, on_input};
-use ason_base::{Copied, LinkId, NodeId, OutOfMemory, Outs, TableRows, Topology, copied};
+use ason_base::{LinkId, NodeId, OutOfMemory, Outs, TableRows, Topology};
 use leg_carrying::carry_out;
 use leg_table::changes::Changed;
 use leg_table::{Calls, Change, NodeTables};
@@ -195,12 +195,6 @@ impl Node {
         let calls = call_rows(alloc, id, &self.tables, self.calls.calls())?;
         let legs = leg_rows(alloc, id, &self.tables)?;
         Ok(TableRows { calls, legs })
-    }
-}
-
-impl Copied for Node {
-    fn copy(&self, alloc: Global) -> Result<Node, OutOfMemory> {
-        copied!(self, alloc; Node { ; shares, calls, owner, tables })
     }
 }
 

@@ -2,8 +2,6 @@
 #![tactic(auto)]
 
 #[cfg(test)]
-mod leg_tables;
-#[cfg(test)]
 mod networks;
 #[cfg(test)]
 mod nodes;

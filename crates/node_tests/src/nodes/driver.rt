@@ -2,7 +2,7 @@
 
 use crate::networks::row;
 use crate::nodes::inputs::{Said, input};
-use ason_base::{CallState, Cause, Copied, ErrCode, Msg, NodeId, Out, Outs, Phase, Topology};
+use ason_base::{CallState, Cause, ErrCode, Msg, NodeId, Out, Outs, Phase, Topology};
 use node_core::{Input, Node};
 use std::alloc::Global;
 use std::test::Fail;
@@ -66,10 +66,8 @@ fn sends_last(
     Ok(last)
 }
 
-// What a table shows of a copy of the node.
 fn shown(alloc: Global, node: &Node) -> Result<Shown, Fail> {
-    let again = node.copy(alloc)?;
-    let rows = again.rows(alloc)?;
+    let rows = node.rows(alloc)?;
     let legs = rows.legs.items();
     let phase = legs.last().map(|leg| leg.phase);
     let call = rows.calls.items().last();
