@@ -9,22 +9,17 @@ use Rattle.ason_base.specs.Network.{row_of}
 use Rattle.ason_base.specs.declared.network.LinkSpec.{LinkSpec}
 use Rattle.ason_base.specs.declared.network.TeRow.{TeRow}
 use Rattle.mesh_rules.specs.Changes.{learnt_after}
-use Rattle.link_owner.specs.Owners.{OwnerState, comes_in, labels_of}
+use Rattle.link_owner.specs.Owners.{OwnerState}
 use Rattle.share_check.specs.Guards.{Guard}
 use Rattle.mesh_rules.specs.Legs.{find_leg, leg_changed, legs_changed, with_leg, without_leg}
 use Rattle.mesh_rules.specs.LocalNodes.{LocalNode}
 use Rattle.mesh_rules.specs.declared.changes.LegChange.{LegChange}
 use Rattle.mesh_rules.specs.declared.changes.LegChange.TheVariants.{Goes, Put}
-use Rattle.mesh_nodes.specs.LocalNodes.{LocalNodeFits}
-use Rattle.mesh_nodes.specs.Order as order
-use Rattle.mesh_nodes.proofs.FitLists.{length-replaced}
 use Rattle.mesh_nodes.proofs.LegList.{find-with_leg, find-without_leg, same_lsp-eq}
-use Rattle.leg_table.specs.Fits.{OwnLegsFit, TablesFit}
-use Rattle.leg_table.specs.LegClaims.{AreOfOneNode, ClaimsFit, GuardsFit, LabelsFit, MarksJust, MayAllStay, MayStay, OwnerFits, SameFibres, SharesStay, StaysAs}
+use Rattle.leg_table.specs.LegClaims.{AreOfOneNode, ClaimsFit, GuardsFit, LabelsFit, MarksJust, MayAllStay, MayStay, OwnerFits, SameFibres, StaysAs}
 use Rattle.leg_table.specs.States.{learnt_rows, local_of}
 use Rattle.leg_table.specs.Tables.{LegTable}
-use Rattle.leg_carrying.proofs.HeldLabels.{bare-held, claims-from, claims-to, guards-from, guards-to, same-claims, same-guards}
-use Rattle.leg_carrying.proofs.MarkedLegs.{marks-with, marks-without}
+use Rattle.leg_carrying.proofs.HeldLabels.{bare-held, claims-to, guards-from, guards-to, same-claims, same-guards}
 use Rattle.leg_carrying.specs.LegHolds.{ClaimsHold, held_by, held_of}
 
 -- What is held stays
@@ -61,32 +56,6 @@ marked-claims legs after_legs l g o after same fit just =
     subst (ClaimsHold (held_of after_legs)) (sym just.claims)
     (same-claims (held_of legs) (held_of after_legs) o.claims same (claims-to legs o fit))
 
-pub goes-fit : (l : Lsp) (legs : List Leg) (o after : OwnerState) → ClaimsFit legs o → MayStay legs (Goes l) →
-    MarksJust l None o after → ClaimsFit (without_leg l legs) after
-goes-fit l legs o after fit bare just =
-    claims-from (without_leg l legs) after
-    (marked-claims legs (without_leg l legs) l None o after (goes-same l legs bare) fit just)
-    (marks-without l legs o after fit.marks just)
-
-pub stays-fit : (g : Leg) (legs : List Leg) (o after : OwnerState) → ClaimsFit legs o → StaysAs legs g →
-    MarksJust g.lsp (Some g) o after → ClaimsFit (with_leg g legs) after
-stays-fit g legs o after fit stays just =
-    claims-from (with_leg g legs) after
-    (marked-claims legs (with_leg g legs) g.lsp (Some g) o after (put-same g legs stays) fit just)
-    (marks-with g legs o after fit.marks just)
-
-pub stays-length : (g : Leg) (legs : List Leg) → order.LegsRise legs → StaysAs legs g →
-    length (with_leg g legs) ≡ length legs
-stays-length g legs rise stays = length-replaced g stays.before legs rise stays.there
-
-pub marked-fibres : (l : Lsp) (g : Option Leg) (a b c : OwnerState) → SameFibres a b → MarksJust l g b c →
-    SameFibres a c
-marked-fibres l g a b c same just = record {
-  fibres = λ f. ap (λ o. comes_in o f) just.claims ∙ same.fibres f;
-  labels = λ f. ap (labels_of f) just.claims ∙ same.labels f;
-  marked = λ f. just.fibres f ∙ same.marked f;
-}
-
 -- Guards
 
 one-guards : (legs : List Leg) (s : List Guard) (c : LegChange) → GuardsFit legs s → MayStay legs c →
@@ -110,25 +79,6 @@ fibres-stay p o after fit same = record {
   fibres = λ f. same.fibres f ∙ fit.fibres f;
   labels = λ f comes. same.labels f ∙ fit.labels f (sym (same.fibres f) ∙ comes);
   marked = λ f. same.marked f ∙ fit.marked f;
-}
-
-pub shares-stay : (t : LegTable) (o after : OwnerState) (cs : List LegChange) → MayAllStay t.legs cs →
-    ClaimsFit (legs_changed cs t.legs) after → OwnerFits (local_of t) after →
-    SharesStay t o (record t { legs = legs_changed cs t.legs }) after
-shares-stay t o after cs may claims fibres s node = record {
-  labels = record { claims = claims; guards = all-guards t.legs s cs node.labels.guards may };
-  fibres = fibres;
-  rows = node.rows;
-}
-
--- after changes of legs alone
-pub legs-fit : (t after : LegTable) (o : OwnerState) (s : List Guard) (cs : List LegChange) →
-    after ≡ record t { legs = legs_changed cs t.legs } → LocalNodeFits (local_of t) →
-    OwnLegsFit (record t { legs = legs_changed cs t.legs }) → AreOfOneNode after o s → TablesFit after o s
-legs-fit t after o s cs is links legs node = record {
-  links = subst (λ (u : LegTable). LocalNodeFits (local_of u)) (sym is) links;
-  legs = subst OwnLegsFit (sym is) legs;
-  node = node;
 }
 
 -- The rows that are known

@@ -13,7 +13,6 @@ pub mod MayMark
 pub mod MayPut
 pub mod MessageChanges
 mod NewLabels
-pub mod OwnLegs
 mod ReservedLabels
 mod Restored
 mod Rests

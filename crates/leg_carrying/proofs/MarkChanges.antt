@@ -1,17 +1,16 @@
 -- Marks that are cleared or set label by label.
 use Rattle.std.proofs.Common.{◌≡◌, ◌∙◌, ℕ, Bool, true, false, cond, nat_eq, refl, sym, ap, subst}
-use Rattle.std.specs.Prelude.{◌||◌, ◌&&◌, List, Option, Some, None}
+use Rattle.std.specs.Prelude.{◌||◌, ◌&&◌, Option, Some, None}
 use Rattle.ason_base.specs.declared.ids.Fibre.{Fibre}
 use Rattle.ason_base.specs.declared.ids.Lsp.{Lsp}
 use Rattle.ason_base.specs.declared.tables.Leg.{Leg}
-use Rattle.ason_base.specs.Lsps.{is_lsp, same_fibre, same_lsp}
-use Rattle.link_owner.specs.Marks.{FibreMarks, has_fibre, is_lit, lit}
+use Rattle.ason_base.specs.Lsps.{is_lsp, same_fibre}
+use Rattle.link_owner.specs.Marks.{is_lit, lit}
 use Rattle.link_owner.specs.Owners.{DarkensJust, OwnerState}
 use Rattle.mesh_rules.specs.Legs.{is_at, reverse_of, sends, takes, uses}
 use Rattle.mesh_nodes.proofs.LabelPlaces.{or-first, or-second, same_fibre-eq}
-use Rattle.mesh_nodes.proofs.LegList.{same_lsp-eq, same_lsp-refl}
 use Rattle.leg_labels.proofs.ClaimLists.{number}
-use Rattle.leg_labels.specs.LegMarks.{AreOpen, AreThere, Darkens, Lights, darkened, lighted}
+use Rattle.leg_labels.specs.LegMarks.{Darkens, Lights, darkened, lighted}
 
 -- One label
 
@@ -52,20 +51,6 @@ lights-then l p q a b c first second = record {
       ∙ ap (lighted l (q f x)) (first.lit f x)
       ∙ lighted-twice l (p f x) (q f x) (lit a.marks f x);
 }
-
--- no other LSP's mark comes while those of the LSP are set
-pub open-lighted : (l : Lsp) (p on : Fibre → ℕ → Bool) (a b : OwnerState) → Lights l p a b → AreOpen a.marks l on →
-    AreOpen b.marks l on
-open-lighted l p on a b lights free f x m h e = go (p f x) (ap (λ o. is_lsp o m) (sym (lights.lit f x)) ∙ e)
-  where
-    go : (q : Bool) → is_lsp (lighted l q (lit a.marks f x)) m ≡ true → same_lsp m l ≡ true
-    go true e = subst (λ k. same_lsp m k ≡ true) (sym (same_lsp-eq l m e)) (same_lsp-refl m)
-    go false e = free f x m h e
-
--- the fibres stay the node's
-pub there-as : (before after : List FibreMarks) (on : Fibre → ℕ → Bool) →
-    ((f : Fibre) → has_fibre after f ≡ has_fibre before f) → AreThere before on → AreThere after on
-there-as before after on same there f x e = same f ∙ there f x e
 
 -- One label of the owner's, which there may be or not
 

@@ -55,16 +55,6 @@ pub unmarked : (g : Leg) (l : Lsp) (o : OwnerState) → is_marked g ≡ false �
     MarksOfLeg l None o
 unmarked g l o not_so of f x = of f x ∙ ap (λ b. b && uses f x g) not_so
 
-pub unlit-unmarked : (g : Leg) (o : OwnerState) → is_marked g ≡ false → MarksOfLeg g.lsp None o →
-    MarksJust g.lsp (Some g) o o
-unlit-unmarked g o not_so none = record {
-  claims = refl;
-  fibres = λ f. refl;
-  lit = λ f x m.
-      (unlit g.lsp o none).lit f x m
-      ∙ ap (λ b. cond (same_lsp g.lsp m) (b && uses f x g) (is_lit o.marks f x m)) (sym not_so);
-}
-
 pub cleared-just : (g : Leg) (l : Lsp) (o after : OwnerState) → is_marked g ≡ true → MarksOfLeg l (Some g) o →
     Darkens l (λ f x. uses f x g) o after → MarksJust l None o after
 cleared-just g l o after so of darkens = record {
@@ -105,22 +95,6 @@ marked-just g o after so none free lights = record {
     go f x m true false used s = s ∙ sym (other f x m (is_lit o.marks f x m) refl used s)
     go f x m false true used s = subst (λ k. is_lit o.marks f x k ≡ false) (same_lsp-eq g.lsp m s) (none f x)
     go f x m false false used s = refl
-
--- cleared first, and then set
-pub just-then : (l : Lsp) (g : Option Leg) (a b c : OwnerState) → MarksJust l None a b → MarksJust l g b c →
-    MarksJust l g a c
-just-then l g a b c first second = record {
-  claims = second.claims ∙ first.claims;
-  fibres = λ f. second.fibres f ∙ first.fibres f;
-  lit = λ f x m.
-      second.lit f x m
-      ∙ ap (cond (same_lsp l m) (is_marked_on f x g)) (first.lit f x m)
-      ∙ go (same_lsp l m) (is_marked_on f x g) (is_lit a.marks f x m);
-}
-  where
-    go : (s p q : Bool) → cond s p (cond s false q) ≡ cond s p q
-    go true p q = refl
-    go false p q = refl
 
 -- The marks of all legs
 

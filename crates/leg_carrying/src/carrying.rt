@@ -5,113 +5,94 @@ ghost use Rattle.std.specs.Prelude.{◌≡◌, ◌≤◌, ◌<◌, ◌+◌, IfSo
 ghost use Rattle.std.specs.Option.{option_to_list};
 ghost use Rattle.link_owner.specs.Marks.{has_fibre};
 ghost use Rattle.mesh_rules.specs.Changes.{learnt_after};
-ghost use Rattle.mesh_rules.specs.declared.changes.LegChange.TheVariants.{Goes, Put};
 ghost use Rattle.mesh_rules.specs.Legs.{find_leg, leg_changed, legs_changed, with_leg, without_leg};
 ghost use Rattle.node_legs.specs.Edits.{leg_put};
 ghost use Rattle.leg_table.specs.Handled.{IsCarriedOut, MayBeCarriedOut};
 ghost use Rattle.leg_table.specs.LegClaims.{AreOfOneNode, LabelsFit, MarksFit, MayAllMark, MayBeMade, MayMark, MayMarkSo, SameFibres, is_own_fibre};
 ghost use Rattle.leg_table.specs.States.{local_of};
-ghost use Rattle.leg_table.specs.Tables.{LegsRise};
 ghost use Rattle.leg_carrying.specs.LegHolds.{AreLeft, GivesUp, MayGiveUpAll, is_lost, lsp_changed};
 
 use crate::marking::{remark_found, unmark_found};
 use crate::releasing::give_up_lost;
 use crate::reserving::reserve_new;
-use ason_base::{Lsp, OutOfMemory, Outs, TeRow};
-use leg_table::boxes::{BoxedChange, BoxedLeg, LegEdit};
-use leg_table::legs::{find_leg, set_leg, take_leg};
+use ason_base::{Leg, Lsp, OutOfMemory, Outs, TeRow};
+use leg_table::leg_map::LegMap;
 use leg_table::{Calls, Change, ChangeParts, NodeTables};
 use link_owner::Owner;
+use mesh_rules::LegChange;
 use share_check::Shares;
 use std::alloc::Global;
 
 // Legs
 
 // Takes a leg off. Its labels are given up.
-fn remove_leg(legs: &mut Vec<BoxedLeg>, owner: &mut Owner, shares: &mut Shares, lsp: Lsp)
-    requires rising { LegsRise legs.old.items }
-    requires may { MayGiveUpAll (find_leg lsp legs.old.items) owner.old shares.old }
-    requires fit { MarksFit legs.old.items owner.old }
-    ensures items { legs.new.items ≡ without_leg lsp legs.old.items }
-    ensures rising { LegsRise legs.new.items }
-    ensures len { vec_len legs.new ≤ vec_len legs.old }
-    ensures capacity { vec_capacity legs.new ≡ vec_capacity legs.old }
-    ensures labels { GivesUp lsp (is_lost (find_leg lsp legs.old.items) None)
+fn remove_leg(legs: &mut LegMap, owner: &mut Owner, shares: &mut Shares, lsp: Lsp)
+    requires may { MayGiveUpAll (find_leg lsp legs.old.legs) owner.old shares.old }
+    requires fit { MarksFit legs.old.legs owner.old }
+    ensures legs { legs.new.legs ≡ without_leg lsp legs.old.legs }
+    ensures room { legs.old.room ≤ legs.new.room }
+    ensures labels { GivesUp lsp (is_lost (find_leg lsp legs.old.legs) None)
         owner.old.claims owner.new.claims shares.old shares.new }
-    ensures fit { MarksFit legs.new.items owner.new }
+    ensures fit { MarksFit legs.new.legs owner.new }
     ensures fibres { SameFibres owner.old owner.new }
 {
-    let before = find_leg(legs, lsp);
+    let before = legs.get(lsp);
     give_up_lost(before, owner, shares, lsp, None);
     unmark_found(before, owner, lsp);
-    let _leg = take_leg(legs, lsp);
+    let _leg = legs.take(lsp);
 }
 
 // Puts a leg. The labels that its LSP's leg took and it doesn't are given up; those that it takes are claimed. There is
 // room for it.
-fn put_leg(legs: &mut Vec<BoxedLeg>, owner: &mut Owner, shares: &mut Shares, leg: BoxedLeg)
-    requires rising { LegsRise legs.old.items }
-    requires room { vec_len legs.old < vec_capacity legs.old }
-    requires may { MayGiveUpAll (find_leg leg.lsp legs.old.items) owner.old shares.old }
-    requires fit { MarksFit legs.old.items owner.old }
-    requires marks { MayMark (has_fibre owner.old.marks) legs.old.items leg }
-    ensures items { legs.new.items ≡ with_leg leg legs.old.items }
-    ensures rising { LegsRise legs.new.items }
-    ensures len { vec_len legs.new ≤ vec_len legs.old + 1 }
-    ensures capacity { vec_capacity legs.new ≡ vec_capacity legs.old }
-    ensures labels { GivesUp leg.lsp (is_lost (find_leg leg.lsp legs.old.items) (Some leg))
+fn put_leg(legs: &mut LegMap, owner: &mut Owner, shares: &mut Shares, leg: Leg)
+    requires room { 0 < legs.old.room }
+    requires may { MayGiveUpAll (find_leg leg.lsp legs.old.legs) owner.old shares.old }
+    requires fit { MarksFit legs.old.legs owner.old }
+    requires marks { MayMark (has_fibre owner.old.marks) legs.old.legs leg }
+    ensures legs { legs.new.legs ≡ with_leg leg legs.old.legs }
+    ensures room { legs.old.room ≤ legs.new.room + 1 }
+    ensures labels { GivesUp leg.lsp (is_lost (find_leg leg.lsp legs.old.legs) (Some leg))
         owner.old.claims owner.new.claims shares.old shares.new }
-    ensures fit { MarksFit legs.new.items owner.new }
+    ensures fit { MarksFit legs.new.legs owner.new }
     ensures fibres { SameFibres owner.old owner.new }
 {
-    let after = leg.leg();
-    let before = find_leg(legs, after.lsp);
-    give_up_lost(before, owner, shares, after.lsp, Some(after));
-    remark_found(before, owner, after);
-    set_leg(legs, leg);
+    let before = legs.get(leg.lsp);
+    give_up_lost(before, owner, shares, leg.lsp, Some(&leg));
+    remark_found(before, owner, &leg);
+    legs.put(leg);
 }
 
 // Makes a change. The labels that its LSP's leg took and a leg that is put doesn't take are given up; those that this
 // one takes are claimed. There is room for it.
-fn change_leg(legs: &mut Vec<BoxedLeg>, owner: &mut Owner, shares: &mut Shares, change: LegEdit)
-    requires rising { LegsRise legs.old.items }
-    requires room { vec_len legs.old < vec_capacity legs.old }
-    requires may { MayGiveUpAll (find_leg (lsp_changed change) legs.old.items)
+fn change_leg(legs: &mut LegMap, owner: &mut Owner, shares: &mut Shares, change: LegChange)
+    requires room { 0 < legs.old.room }
+    requires may { MayGiveUpAll (find_leg (lsp_changed change) legs.old.legs)
         owner.old shares.old }
-    requires fit { MarksFit legs.old.items owner.old }
-    requires marks { MayMarkSo (has_fibre owner.old.marks) legs.old.items change }
-    ensures items { legs.new.items ≡ leg_changed change legs.old.items }
-    ensures rising { LegsRise legs.new.items }
-    ensures len { vec_len legs.new ≤ vec_len legs.old + 1 }
-    ensures capacity { vec_capacity legs.new ≡ vec_capacity legs.old }
+    requires fit { MarksFit legs.old.legs owner.old }
+    requires marks { MayMarkSo (has_fibre owner.old.marks) legs.old.legs change }
+    ensures legs { legs.new.legs ≡ leg_changed change legs.old.legs }
+    ensures room { legs.old.room ≤ legs.new.room + 1 }
     ensures labels { GivesUp (lsp_changed change)
-        (is_lost (find_leg (lsp_changed change) legs.old.items) (leg_put change))
+        (is_lost (find_leg (lsp_changed change) legs.old.legs) (leg_put change))
         owner.old.claims owner.new.claims shares.old shares.new }
-    ensures fit { MarksFit legs.new.items owner.new }
+    ensures fit { MarksFit legs.new.legs owner.new }
     ensures fibres { SameFibres owner.old owner.new }
 {
-    match change.into_change() {
-        BoxedChange::Goes(lsp) => remove_leg(legs, owner, shares, lsp),
-        BoxedChange::Put(leg) => put_leg(legs, owner, shares, leg),
+    match change {
+        LegChange::Goes(lsp) => remove_leg(legs, owner, shares, lsp),
+        LegChange::Put(leg) => put_leg(legs, owner, shares, leg),
     }
 }
 
 // Makes the changes, one after the other. The label that the last of them takes newly is claimed, and there is room for
 // them.
-fn change_legs(
-    legs: &mut Vec<BoxedLeg>,
-    owner: &mut Owner,
-    shares: &mut Shares,
-    changes: Vec<LegEdit>,
-)
-    requires rising { LegsRise legs.old.items }
-    requires room { vec_len legs.old + vec_len changes ≤ vec_capacity legs.old }
-    requires left { AreLeft legs.old.items legs.old.items changes.items owner.old shares.old }
-    requires fit { MarksFit legs.old.items owner.old }
-    requires marks { MayAllMark (has_fibre owner.old.marks) legs.old.items changes.items }
-    ensures items { legs.new.items ≡ legs_changed changes.items legs.old.items }
-    ensures rising { LegsRise legs.new.items }
-    ensures fit { LabelsFit legs.new.items owner.new shares.new }
+fn change_legs(legs: &mut LegMap, owner: &mut Owner, shares: &mut Shares, changes: Vec<LegChange>)
+    requires room { vec_len changes ≤ legs.old.room }
+    requires left { AreLeft legs.old.legs legs.old.legs changes.items owner.old shares.old }
+    requires fit { MarksFit legs.old.legs owner.old }
+    requires marks { MayAllMark (has_fibre owner.old.marks) legs.old.legs changes.items }
+    ensures legs { legs.new.legs ≡ legs_changed changes.items legs.old.legs }
+    ensures fit { LabelsFit legs.new.legs owner.new shares.new }
     ensures fibres { SameFibres owner.old owner.new }
 {
     for change in changes {
@@ -154,7 +135,7 @@ pub fn carry_out_tables(
     tables: &mut NodeTables,
     owner: &mut Owner,
     shares: &mut Shares,
-    changes: Vec<LegEdit>,
+    changes: Vec<LegChange>,
     row: Option<TeRow>,
 ) -> Result<(), OutOfMemory>
     requires node { AreOfOneNode tables.old owner.old shares.old }
@@ -172,6 +153,7 @@ pub fn carry_out_tables(
     ensures err_shares { OnErr result (shares.new ≡ shares.old) }
     ensures node { AreOfOneNode tables.new owner.new shares.new }
 {
+    tables.rises();
     make_room(&mut tables.rows, &row)?;
     tables.legs.reserve(changes.len())?;
     reserve_new(&tables.legs, owner, shares, alloc, &changes)?;

@@ -8,4 +8,3 @@ mod releasing;
 mod reserving;
 
 pub use carrying::{carry_out, carry_out_tables};
-pub use marking::{remark, unmark_lsp};

@@ -2,16 +2,12 @@
 
 ghost use Rattle.std.specs.Prelude.{◌≡◌, None, Some};
 ghost use Rattle.std.specs.Option.{option_copied};
-ghost use Rattle.link_owner.specs.Marks.{has_fibre};
 ghost use Rattle.mesh_rules.specs.Legs.{is_at, is_marked, reverse_of};
-ghost use Rattle.leg_table.specs.LegClaims.{MarksFit, MarksJust, MarksOfLeg, MayMark, is_marked_on};
-ghost use Rattle.leg_table.specs.Tables.{LegsRise};
+ghost use Rattle.leg_table.specs.LegClaims.{MarksJust, MarksOfLeg, is_marked_on};
 ghost use Rattle.leg_labels.specs.LegMarks.{AreOpen, AreThere, Darkens, Lights};
 ghost use Rattle.leg_carrying.specs.LegHolds.{IsOfLsp};
 
 use ason_base::{Fibre, Label, Leg, Lsp, Phase, Role};
-use leg_table::boxes::BoxedLeg;
-use leg_table::legs::find_leg;
 use link_owner::Owner;
 use mesh_rules::links::reverse_of;
 
@@ -57,15 +53,6 @@ pub(crate) fn unmark_found(before: Option<&Leg>, owner: &mut Owner, lsp: Lsp)
     }
 }
 
-/// Clears the marks of the LSP.
-pub fn unmark_lsp(legs: &[BoxedLeg], owner: &mut Owner, lsp: Lsp)
-    requires rising { LegsRise legs.now }
-    requires marks { MarksFit legs.now owner.old }
-    ensures { MarksJust lsp None owner.old owner.new }
-{
-    unmark_found(find_leg(legs, lsp), owner, lsp);
-}
-
 // Sets the LSP's mark on the label, if there is one. No other LSP's is there.
 fn light(owner: &mut Owner, lsp: Lsp, fibre: Option<Fibre>, label: Option<Label>)
     requires there { AreThere owner.old.marks (is_at fibre label) }
@@ -106,14 +93,4 @@ pub(crate) fn remark_found(before: Option<&Leg>, owner: &mut Owner, leg: &Leg)
 {
     unmark_found(before, owner, leg.lsp);
     mark(owner, leg);
-}
-
-/// Clears the marks of the leg's LSP, and sets those of the leg.
-pub fn remark(legs: &[BoxedLeg], owner: &mut Owner, leg: &Leg)
-    requires rising { LegsRise legs.now }
-    requires marks { MarksFit legs.now owner.old }
-    requires may { MayMark (has_fibre owner.old.marks) legs.now leg.now }
-    ensures { MarksJust leg.now.lsp (Some leg.now) owner.old owner.new }
-{
-    remark_found(find_leg(legs, leg.lsp), owner, leg);
 }

@@ -6,15 +6,15 @@ ghost use Rattle.link_owner.specs.Claims.{NoClaim, RefusedFor};
 ghost use Rattle.link_owner.specs.Owners.{claims_of, comes_in, has_label, labels_of};
 ghost use Rattle.mesh_rules.specs.Legs.{find_leg};
 ghost use Rattle.share_check.specs.Guards.{GuardsNone};
+ghost use Rattle.node_legs.specs.Edits.{leg_put};
 ghost use Rattle.leg_table.specs.LegClaims.{GuardsBy, SameFibres, bars, claimed_by};
-ghost use Rattle.leg_table.specs.Tables.{LegsRise};
 ghost use Rattle.leg_carrying.specs.LegHolds.{AreHeld, MayClaim, MayClaimNew, fresh_of, held_of, last_put, new_label, with_new};
 
 use ason_base::{Leg, OutOfMemory, Role};
-use leg_table::boxes::{BoxedLeg, LegEdit};
 use leg_table::labels::{TakenLabel, taken_back, taken_in, takes};
-use leg_table::legs::find_leg;
+use leg_table::leg_map::LegMap;
 use link_owner::{ClaimFault, Owner};
+use mesh_rules::LegChange;
 use share_check::Shares;
 use std::alloc::Global;
 
@@ -114,39 +114,51 @@ fn fresh(before: Option<&Leg>, label: Option<TakenLabel>) -> Option<TakenLabel>
 }
 
 // The label that the leg takes and its LSP's leg doesn't.
-fn new_label(legs: &[BoxedLeg], leg: &Leg) -> Option<TakenLabel>
-    requires { LegsRise legs.now }
-    ensures { result ≡ new_label (find_leg leg.now.lsp legs.now) leg.now }
+fn new_label(legs: &LegMap, leg: &Leg) -> Option<TakenLabel>
+    ensures { result ≡ new_label (find_leg leg.now.lsp legs.now.legs) leg.now }
 {
-    let before = find_leg(legs, leg.lsp);
-    match fresh(before, taken_in(leg)) {
+    let taken = (taken_in(leg), taken_back(leg));
+    if let (None, None) = taken {
+        return None;
+    }
+    let before = legs.get(leg.lsp);
+    match fresh(before, taken.0) {
         Some(label) => Some(label),
-        None => fresh(before, taken_back(leg)),
+        None => fresh(before, taken.1),
     }
 }
 
-fn last_put(changes: &[LegEdit]) -> Option<&Leg>
+fn leg_put(change: &LegChange) -> Option<&Leg>
+    ensures { option_copied result ≡ leg_put change.now }
+{
+    match change {
+        LegChange::Goes(_) => None,
+        LegChange::Put(leg) => Some(leg),
+    }
+}
+
+fn last_put(changes: &[LegChange]) -> Option<&Leg>
     ensures { option_copied result ≡ last_put changes.now }
 {
     match changes.last() {
         None => None,
-        Some(change) => change.leg(),
+        Some(change) => leg_put(change),
     }
 }
 
 /// Reserves the label that the last change takes newly, if there is one. After want of memory nothing has changed.
 pub(crate) fn reserve_new(
-    legs: &[BoxedLeg],
+    legs: &LegMap,
     owner: &mut Owner,
     shares: &mut Shares,
     alloc: Global,
-    changes: &[LegEdit],
+    changes: &[LegChange],
 ) -> Result<(), OutOfMemory>
-    requires rising { LegsRise legs.now }
-    requires held { AreHeld (held_of legs.now) owner.old shares.old }
-    requires may { MayClaimNew owner.old legs.now (last_put changes.now) }
+    requires held { AreHeld (held_of legs.now.legs) owner.old shares.old }
+    requires may { MayClaimNew owner.old legs.now.legs (last_put changes.now) }
     ensures held { OnOk result
-        (AreHeld (with_new legs.now (last_put changes.now) (held_of legs.now)) owner.new shares.new) }
+        (AreHeld (with_new legs.now.legs (last_put changes.now) (held_of legs.now.legs))
+        owner.new shares.new) }
     ensures marks { owner.new.marks ≡ owner.old.marks }
     ensures fibres { SameFibres owner.old owner.new }
     ensures err { OnErr result (owner.new ≡ owner.old) }

@@ -12,7 +12,7 @@ use Rattle.link_owner.specs.Owners.{claims_of, comes_in, fibre_unclaimed, is_fib
 use Rattle.link_owner.proofs.FibresInto.{has_labels_into}
 use Rattle.link_owner.proofs.FibresOf.{either-comes, none-dark}
 use Rattle.mesh_rules.specs.Legs.{reverse}
-use Rattle.mesh_rules.specs.LocalNodes.{LocalNode, fibre_in, local_node, own_link}
+use Rattle.mesh_rules.specs.LocalNodes.{fibre_in, local_node}
 use Rattle.mesh_rules.specs.LocalNodes as local
 use Rattle.mesh_nodes.specs.LocalNodes.{LocalNodeFits}
 use Rattle.mesh_nodes.proofs.NewNodes.{new-place}

@@ -1,13 +1,11 @@
 -- Which labels a leg takes: its label in and its back label in.
-use Rattle.std.proofs.Common.{◌≡◌, ℕ, Bool, true, refl, sym, ap, subst, inl, inr, nat_eq}
-use Rattle.std.specs.Prelude.{◌⊎◌, ◌&&◌, Option, Some, None}
+use Rattle.std.proofs.Common.{◌≡◌, ℕ, true, refl, subst, inl, inr}
+use Rattle.std.specs.Prelude.{◌⊎◌, Option, Some, None}
 use Rattle.ason_base.specs.declared.ids.Fibre.{Fibre}
 use Rattle.ason_base.specs.declared.tables.Leg.{Leg}
-use Rattle.ason_base.specs.Lsps.{same_fibre}
 use Rattle.mesh_rules.specs.Legs.{is_at, reverse_of, takes}
 use Rattle.mesh_nodes.proofs.LabelPlaces.{at-is, back_in-taken, either, is-at, label_in-taken}
 use Rattle.node_legs.specs.declared.labels.TakenLabel.{TakenLabel}
-use Rattle.leg_table.specs.LegClaims.{is_this}
 use Rattle.node_legs.specs.TakenLabels.{taken_back, taken_in, taken_over}
 
 at-over : (i : Option Fibre) (y : Option ℕ) (f : Fibre) (x : ℕ) → is_at i y f x ≡ true →

@@ -19,7 +19,7 @@ use Rattle.link_owner.specs.Owners.{OwnerState, claim_added, claims_of, comes_in
 use Rattle.link_owner.specs.declared.claims.Claim.{Claim}
 use Rattle.link_owner.specs.declared.claims.ClaimKind.{ClaimKind}
 use Rattle.link_owner.specs.declared.claims.ClaimKind.TheVariants.{Working, Backup}
-use Rattle.mesh_rules.specs.Legs.{find_leg, is_contended, is_marked, is_work, leg_changed, reverse, reverse_of, takes, usable, uses, with_leg, without_leg}
+use Rattle.mesh_rules.specs.Legs.{find_leg, is_contended, is_marked, is_work, leg_changed, reverse, takes, usable, uses, with_leg, without_leg}
 use Rattle.mesh_rules.specs.LocalNodes.{LocalNode, fibre_in, own_link}
 use Rattle.mesh_rules.specs.LocalNodes as local
 use Rattle.mesh_rules.specs.declared.changes.LegChange.{LegChange}

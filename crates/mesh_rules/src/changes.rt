@@ -3,19 +3,12 @@
 use ason_base::{CallNo, CallRec, Leg, Lsp};
 
 /// What becomes of one leg.
+#[derive(Drop)]
 pub enum LegChange {
     /// The leg of this LSP goes.
     Goes(Lsp),
     /// This leg is put in the place of the one of its LSP.
     Put(Leg),
-}
-
-impl Drop for LegChange {
-    fn drop(self) {
-        match self {
-            LegChange::Goes(_) | LegChange::Put(_) => {}
-        }
-    }
 }
 
 /// What becomes of one call.

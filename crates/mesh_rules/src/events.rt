@@ -26,11 +26,3 @@ impl Drop for MeshEvent {
         }
     }
 }
-
-/// Why an event changed nothing.
-#[derive(Clone, Copy, Drop)]
-pub enum StepFault {
-    /// The event isn't enabled in this state.
-    NotEnabled,
-    OutOfMemory,
-}

@@ -17,6 +17,6 @@ pub mod roles;
 
 pub use arrivals::{Arrival, GivenLabel};
 pub use changes::{CallChange, LegChange, NextNumbers};
-pub use events::{MeshEvent, StepFault};
+pub use events::MeshEvent;
 pub use neighbours::Neighbour;
 pub use requests::PathRequest;

@@ -1,5 +1,5 @@
 -- The tables of a node's links and legs.
-use Rattle.std.specs.Prelude.{ℕ, ◌≡◌, ◌<◌, length, ◌==◌, ◌++◌, Bool, false, List, [], ◌∷◌, find, filter, map, Option, Some, None, is_some, not, if◌then◌else◌}
+use Rattle.std.specs.Prelude.{ℕ, ◌==◌, ◌++◌, Bool, false, List, [], ◌∷◌, find, filter, map, Option, Some, None, is_some, not, if◌then◌else◌}
 use Rattle.ason_base.specs.declared.ids.Fibre.{Fibre}
 use Rattle.ason_base.specs.declared.ids.LinkId.{LinkId}
 use Rattle.ason_base.specs.declared.ids.Lsp.{Lsp}
@@ -13,9 +13,6 @@ use Rattle.ason_base.specs.Network.{Network, find_node, row_of, touches}
 use Rattle.ason_base.specs.Lsps.{lsp_before, same_lsp}
 use Rattle.mesh_rules.specs.KnownRows.{has_row}
 use Rattle.mesh_rules.specs.Legs.{previous}
-use Rattle.table_lists.specs.Keyed.{first_changed}
-use Rattle.node_legs.specs.declared.tables.PutFault.{PutFault}
-use Rattle.node_legs.specs.declared.tables.PutFault.TheVariants.{Full, OutOfMemory}
 
 -- a node's own links, the links that it knows, the fibres that it knows to be down, and its legs in order of LSP
 pub record LegTable : Type 0 where
@@ -37,25 +34,6 @@ is_of_lsp l g = same_lsp g.lsp l
 -- its LSP begins here: it has no previous node
 abbrev pub begins_here : Leg → Bool
 begins_here g = not (is_some (previous g))
-
--- the leg of this LSP changed, all others as they were
-abbrev pub leg_changed : Lsp → (Leg → Leg) → List Leg → List Leg
-leg_changed l change legs = first_changed (is_of_lsp l) change legs
-
--- the table with this leg changed
-abbrev pub with_leg_changed : Lsp → (Leg → Leg) → LegTable → LegTable
-with_leg_changed l change t = record t { legs = leg_changed l change t.legs }
-
-abbrev pub with_labels : Option ℕ → Option ℕ → Leg → Leg
-with_labels x y g = record g { in_label = x; out_label = y }
-
-abbrev pub with_back_labels : Option ℕ → Option ℕ → Leg → Leg
-with_back_labels x y g = record g { back_in = x; back_out = y }
-
--- 4,096 legs are the most
-abbrev pub PutRefused : List Leg → PutFault → Type 0
-PutRefused legs Full = length legs ≡ 4096
-PutRefused legs OutOfMemory = length legs < 4096
 
 -- Links
 

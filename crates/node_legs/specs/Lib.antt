@@ -1,4 +1,4 @@
 pub mod Edits
+pub mod LegMaps
 pub mod LegTables
-pub mod Settings
 pub mod TakenLabels

@@ -5,9 +5,8 @@ ghost use Rattle.std.specs.Prelude.{◌≡◌, [], ◌∷◌, IfOk, OnOk, Some};
 ghost use Rattle.mesh_rules.specs.declared.changes.CallChange.TheVariants as calls;
 ghost use Rattle.mesh_rules.specs.Changes.{changes_calls, followed_by, learns, nothing, puts, removes, sends, to_node};
 
-use crate::boxes::LegEdit;
 use ason_base::{CallNo, CallRec, Fibres, Leg, Lsp, Msg, NodeId, Out, OutOfMemory, Outs, TeRow};
-use mesh_rules::{CallChange, NextNumbers};
+use mesh_rules::{CallChange, LegChange, NextNumbers};
 use std::alloc::Global;
 use std::marker::Model;
 use std::mem::replace;
@@ -15,7 +14,7 @@ use std::mem::replace;
 /// What a change is made of.
 #[derive(Drop)]
 pub struct ChangeParts {
-    pub legs: Vec<LegEdit>,
+    pub legs: Vec<LegChange>,
     pub calls: Vec<CallChange>,
     pub numbers: Option<NextNumbers>,
     pub down: Option<Fibres>,
@@ -119,8 +118,7 @@ impl Change {
     pub fn put(&mut self, leg: Leg) -> Result<(), OutOfMemory>
         ensures { OnOk result (self.new ≡ followed_by self.old (puts leg [])) }
     {
-        let edit = LegEdit::puts(self.alloc, leg)?;
-        self.parts.legs.push(edit)?;
+        self.parts.legs.push(LegChange::Put(leg))?;
         Ok(())
     }
 
@@ -128,7 +126,7 @@ impl Change {
     pub fn remove(&mut self, lsp: Lsp) -> Result<(), OutOfMemory>
         ensures { OnOk result (self.new ≡ followed_by self.old (removes lsp [])) }
     {
-        self.parts.legs.push(LegEdit::goes(lsp))?;
+        self.parts.legs.push(LegChange::Goes(lsp))?;
         Ok(())
     }
 

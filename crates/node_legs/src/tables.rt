@@ -1,37 +1,23 @@
 //! The tables of one node: its links, what it knows of others', and its legs.
 
-ghost use Rattle.std.specs.Prelude.{◌≡◌, ◌≤◌, ◌<◌, ◌-◌, ◌++◌, ◌∷◌, [], IfErr, IfOk, IsSome, IsTrue, None, OnErr, OnOk, Some, filter, length, slice_get, take};
+ghost use Rattle.std.specs.Prelude.{◌≡◌, ◌≤◌, ◌<◌, ◌-◌, ◌++◌, ◌∷◌, [], IfOk, None, OnOk, Some, filter, length, slice_get, take};
 ghost use Rattle.std.specs.Option.{option_copied};
-ghost use Rattle.ason_base.specs.Lsps.{has_fibre, without_fibre};
+ghost use Rattle.ason_base.specs.Lsps.{has_fibre};
 ghost use Rattle.ason_base.specs.Network.{find_node, touches};
 ghost use Rattle.mesh_rules.specs.Changes.{down_after};
 ghost use Rattle.mesh_rules.specs.KnownRows.{has_row};
-ghost use Rattle.mesh_rules.specs.Legs.{find_leg, with_leg, with_phase, without_leg};
-ghost use Rattle.mesh_rules.specs.Reports.{with_fibre};
-ghost use Rattle.node_legs.specs.LegTables.{LegsRise, PutRefused, find_own, learnt, new_table, node_or_none, with_back_labels, with_labels, with_leg_changed};
+ghost use Rattle.mesh_rules.specs.Legs.{find_leg};
+ghost use Rattle.node_legs.specs.LegTables.{LegsRise, find_own, new_table, node_or_none};
 
-use crate::boxes::{BoxedLeg, Setting};
-use crate::legs;
+use crate::leg_map::LegMap;
 use ason_base::network::rows_of;
 use ason_base::routes::touches;
 use ason_base::{
-    Copied, Fibre, Fibres, Label, Leg, LinkId, LinkSpec, Lsp, NodeId, NodeSpec, OutOfMemory, Phase,
-    TeRow, Topology, copied,
+    Copied, Fibre, Fibres, Leg, LinkId, LinkSpec, Lsp, NodeId, NodeSpec, OutOfMemory, TeRow,
+    Topology,
 };
 use std::alloc::Global;
 use std::marker::Model;
-use table_lists::add_fibre;
-
-/// The most legs that a node has.
-pub const MOST_LEGS: usize = 4096;
-
-/// Why a leg isn't put.
-#[derive(Clone, Copy, Drop)]
-pub enum PutFault {
-    /// There are 4,096 legs.
-    Full,
-    OutOfMemory,
-}
 
 /// A node's own links, the rows that it knows, the fibres that it knows to be down, and its legs.
 pub struct NodeTables {
@@ -40,12 +26,12 @@ pub struct NodeTables {
     own: Vec<LinkSpec>,
     pub rows: Vec<TeRow>,
     down: Fibres,
-    pub legs: Vec<BoxedLeg>,
+    pub legs: LegMap,
 }
 
 impl Model for NodeTables {
     ghost use Rattle.std.specs.Prelude.{◌≤◌, length};
-    ghost use Rattle.node_legs.specs.LegTables.{LegTable, LegsRise};
+    ghost use Rattle.node_legs.specs.LegTables.{LegTable};
 
     ghost Value = { LegTable };
 
@@ -55,10 +41,10 @@ impl Model for NodeTables {
       own = t.own.items;
       rows = t.rows.items;
       down = t.down;
-      legs = t.legs.items;
+      legs = t.legs.legs;
     } };
 
-    ghost invariant = { λ t. LegsRise t.legs.items × (length t.legs.items ≤ 4096) };
+    ghost invariant = { λ t. length t.legs.legs ≤ 4096 };
 }
 
 impl NodeTables {
@@ -76,65 +62,15 @@ impl NodeTables {
             own,
             rows,
             down: Fibres::new(alloc),
-            legs: Vec::new(alloc),
+            legs: LegMap::new(alloc),
         })
-    }
-
-    /// Puts a leg in its place. `Full` exactly at 4,096 legs. After an error nothing has changed.
-    pub fn put(&mut self, alloc: Global, leg: Leg) -> Result<(), PutFault>
-        requires { find_leg leg.lsp self.old.legs ≡ None }
-        ensures ok { OnOk result
-            (self.new ≡ record self.old { legs = with_leg leg self.old.legs }) }
-        ensures err { OnErr result (self.new ≡ self.old) }
-        ensures room { IfOk result (λ _. length self.old.legs < 4096) }
-        ensures fault { IfErr result (PutRefused self.old.legs) }
-    {
-        if self.legs.len() >= MOST_LEGS {
-            return Err(PutFault::Full);
-        }
-        match legs::put_leg(&mut self.legs, alloc, leg) {
-            Ok(()) => Ok(()),
-            Err(_) => Err(PutFault::OutOfMemory),
-        }
     }
 
     /// The leg of this LSP: none exactly where none stands.
     pub fn get(&self, lsp: &Lsp) -> Option<&Leg>
         ensures { option_copied result ≡ find_leg lsp.now self.now.legs }
     {
-        legs::find_leg(&self.legs, *lsp)
-    }
-
-    /// Takes the leg of this LSP off: none exactly where none stands.
-    pub fn take(&mut self, lsp: &Lsp) -> Option<Leg>
-        ensures leg { result ≡ find_leg lsp.now self.old.legs }
-        ensures left { self.new ≡ record self.old { legs = without_leg lsp.now self.old.legs } }
-    {
-        legs::take_leg(&mut self.legs, *lsp)
-    }
-
-    /// Sets the phase of the leg of this LSP.
-    pub fn set_phase(&mut self, lsp: &Lsp, p: Phase)
-        requires { IsSome (find_leg lsp.now self.old.legs) }
-        ensures { self.new ≡ with_leg_changed lsp.now (with_phase p) self.old }
-    {
-        legs::set(&mut self.legs, *lsp, Setting::InPhase(p));
-    }
-
-    /// Sets the labels of the leg of this LSP.
-    pub fn set_labels(&mut self, lsp: &Lsp, in_label: Option<Label>, out_label: Option<Label>)
-        requires { IsSome (find_leg lsp.now self.old.legs) }
-        ensures { self.new ≡ with_leg_changed lsp.now (with_labels in_label out_label) self.old }
-    {
-        legs::set(&mut self.legs, *lsp, Setting::Labels(in_label, out_label));
-    }
-
-    /// Sets the labels of the backward direction of the leg of this LSP.
-    pub fn set_back(&mut self, lsp: &Lsp, back_in: Option<Label>, back_out: Option<Label>)
-        requires { IsSome (find_leg lsp.now self.old.legs) }
-        ensures { self.new ≡ with_leg_changed lsp.now (with_back_labels back_in back_out) self.old }
-    {
-        legs::set(&mut self.legs, *lsp, Setting::BackLabels(back_in, back_out));
+        self.legs.get(*lsp)
     }
 
     /// Law: the legs rise by LSP, and there are at most 4,096.
@@ -142,21 +78,21 @@ impl NodeTables {
         ensures rising { LegsRise self.now.legs }
         ensures few { length self.now.legs ≤ 4096 }
     {
-        let _legs = &self.legs;
+        self.legs.rises();
     }
 
     /// The leg at this place, from 0, in order of LSP: none exactly from the number of legs on.
     pub fn leg_at(&self, place: usize) -> Option<&Leg>
         ensures { option_copied result ≡ slice_get self.now.legs place }
     {
-        legs::leg_at(&self.legs, place)
+        self.legs.leg_at(place)
     }
 
     /// The number of legs.
     pub fn count(&self) -> usize
         ensures { result ≡ length self.now.legs }
     {
-        self.legs.len()
+        self.legs.count()
     }
 
     /// The node.
@@ -194,17 +130,6 @@ impl NodeTables {
         self.rows.iter().any(|row| row.link == link)
     }
 
-    /// Takes a row in, unless its link is known. After want of memory nothing has changed.
-    pub fn learn(&mut self, _: Global, row: TeRow) -> Result<(), OutOfMemory>
-        ensures ok { OnOk result (self.new ≡ record self.old { rows = learnt row self.old.rows }) }
-        ensures err { OnErr result (self.new ≡ self.old) }
-    {
-        if !self.knows(row.link) {
-            self.rows.push(row)?;
-        }
-        Ok(())
-    }
-
     /// Forgets the row that came last.
     pub fn forget(&mut self)
         ensures { self.new ≡ record self.old {
@@ -228,22 +153,6 @@ impl NodeTables {
         self.down.has(f)
     }
 
-    /// Takes the fibre to be down. After want of memory nothing has changed.
-    pub fn set_down(&mut self, _: Global, f: Fibre) -> Result<(), OutOfMemory>
-        ensures ok { OnOk result
-            (self.new ≡ record self.old { down = with_fibre f self.old.down }) }
-        ensures err { OnErr result (self.new ≡ self.old) }
-    {
-        add_fibre(&mut self.down, f)
-    }
-
-    /// Takes the fibre to be up.
-    pub fn set_up(&mut self, f: Fibre)
-        ensures { self.new ≡ record self.old { down = without_fibre f self.old.down } }
-    {
-        self.down.remove(f);
-    }
-
     /// Takes just these fibres to be down, if there are any to take.
     pub fn know_down(&mut self, down: Option<Fibres>)
         ensures { self.new ≡ record self.old { down = down_after down self.old.down } }
@@ -251,12 +160,6 @@ impl NodeTables {
         if let Some(down) = down {
             self.down = down;
         }
-    }
-}
-
-impl Copied for NodeTables {
-    fn copy(&self, alloc: Global) -> Result<NodeTables, OutOfMemory> {
-        copied!(self, alloc; NodeTables { node, wait; down; own, rows, legs })
     }
 }
 

@@ -3,9 +3,7 @@
 #![tactic(auto)]
 
 mod alarms;
-mod handlers;
 mod notifies;
 
 pub use alarms::{alarm_change, clear_change};
-pub use handlers::{alarm, clear, pass};
 pub use notifies::{pass_change, reports};

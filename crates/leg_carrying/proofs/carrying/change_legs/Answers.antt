@@ -12,8 +12,8 @@ use Rattle.leg_carrying.proofs.carrying.change_legs.Goals as goal
 
 pub change_leg-requires-clause-may : goal.change_leg-requires-clause-may
 change_leg-requires-clause-may c =
-    let read = c.args.legs.now.items in
-    let legs = c.loop-change.legs.items in
+    let read = c.args.legs.now.legs in
+    let legs = c.loop-change.legs.legs in
     let o = c.loop-change.owner in
     let s = c.loop-change.shares in
     left-may read legs c.in-Some.change (into_iter_items c.next.new.self) o s (lsp_changed c.in-Some.change)
@@ -23,8 +23,8 @@ pub loop-change-preserved : goal.loop-change-preserved
 loop-change-preserved c =
     let d = c.in-Some.change in
     let rest = into_iter_items c.next.new.self in
-    let read = c.args.legs.now.items in
-    let legs = c.loop-change.legs.items in
+    let read = c.args.legs.now.legs in
+    let legs = c.loop-change.legs.legs in
     let o = c.loop-change.owner in
     let s = c.loop-change.shares in
     let after = c.change_leg.new.owner in
@@ -34,25 +34,23 @@ loop-change-preserved c =
     let kept = c.loop-change.invariant in
     let items : into_iter_items c.loop-change.change-iterator ≡ d ∷ rest = c.in-Some.ensures.steps.0 in
     let fewer = c.in-Some.ensures.steps.1 in
-    let longer = made.len in
-    let same = made.capacity in
+    let less = made.room in
     let room = kept.room in
     record {
-      items = ap (legs_changed rest) made.items ∙ ap (λ cs. legs_changed cs legs) (sym items) ∙ kept.items;
+      legs = ap (legs_changed rest) made.legs ∙ ap (λ cs. legs_changed cs legs) (sym items) ∙ kept.legs;
       room = omega arith;
-      rising = made.rising;
-      left = subst (λ gs. AreLeft read gs rest after left) (sym made.items)
+      left = subst (λ gs. AreLeft read gs rest after left) (sym made.legs)
           (change-left read legs d rest o after s left (subst (λ cs. AreLeft read legs cs o s) items kept.left)
           made.labels made.fibres);
       fit = made.fit;
-      marks = subst (λ gs. MayAllMark own gs rest) (sym made.items) (subst (MayAllMark own legs) items kept.marks).1;
+      marks = subst (λ gs. MayAllMark own gs rest) (sym made.legs) (subst (MayAllMark own legs) items kept.marks).1;
       fibres = fibres-then c.args.owner.now o after kept.fibres made.fibres;
     }
 
 pub returns-clause-fit : goal.returns-clause-fit
 returns-clause-fit c =
-    let read = c.args.legs.now.items in
-    let legs = c.loop-change.legs.items in
+    let read = c.args.legs.now.legs in
+    let legs = c.loop-change.legs.legs in
     let o = c.loop-change.owner in
     let s = c.loop-change.shares in
     let none : into_iter_items c.loop-change.change-iterator ≡ [] =

@@ -4,16 +4,16 @@ use Rattle.leg_carrying.proofs.MarkedLegs.{found-its, marks-without, same-marks}
 use Rattle.leg_carrying.proofs.carrying.remove_leg.Goals as goal
 
 pub give_up_lost-requires-clause-its : goal.give_up_lost-requires-clause-its
-give_up_lost-requires-clause-its c = found-its c.args.lsp c.deref.result.now _ c.find_leg-before.ensures
+give_up_lost-requires-clause-its c = found-its c.args.lsp c.args.legs.now.legs _ c.get-before.ensures
 
 pub unmark_found-requires-clause-its : goal.unmark_found-requires-clause-its
-unmark_found-requires-clause-its c = found-its c.args.lsp c.deref.result.now _ c.find_leg-before.ensures
+unmark_found-requires-clause-its c = found-its c.args.lsp c.args.legs.now.legs _ c.get-before.ensures
 
 pub returns-clause-fit : goal.returns-clause-fit
 returns-clause-fit c =
-    let legs = c.args.legs.now.items in
+    let legs = c.args.legs.now.legs in
     let o = c.args.owner.now in
     let given = c.give_up_lost.new.owner in
-    subst (λ gs. MarksFit gs c.unmark_found.new.owner) (sym c.take_leg-leg.ensures.left)
+    subst (λ gs. MarksFit gs c.unmark_found.new.owner) (sym c.take-leg.ensures.legs)
     (marks-without c.args.lsp legs given c.unmark_found.new.owner
     (same-marks legs o given c.give_up_lost.ensures.marks c.requires.fit) c.unmark_found.ensures)

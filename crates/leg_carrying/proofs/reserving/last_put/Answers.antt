@@ -4,4 +4,4 @@ use Rattle.leg_carrying.proofs.reserving.last_put.Goals as goal
 
 pub returns-in-Some : goal.returns-in-Some
 returns-in-Some c =
-    c.leg.ensures ∙ sym (last-get c.args.changes.now c.in-Some.change.now (sym c.in-Some.ensures.value))
+    c.leg_put.ensures ∙ sym (last-get c.args.changes.now c.in-Some.change.now (sym c.in-Some.ensures.value))

@@ -13,7 +13,7 @@ pub reserve-requires-clause-new : goal.reserve-requires-clause-new
 reserve-requires-clause-new c =
     let g = c.in-Some.leg.now in
     let t = c.in-Some-new_label.label in
-    let legs = c.args.legs.now in
+    let legs = c.args.legs.now.legs in
     let before = find_leg g.lsp legs in
     none-had (held_of legs) c.args.owner.now.claims t.fibre t.label g.lsp c.requires.held.claims
     (bare-held t.fibre t.label before (new-fresh before g t (sym c.in-Some-new_label.ensures)))
@@ -22,7 +22,7 @@ pub reserve-requires-clause-none : goal.reserve-requires-clause-none
 reserve-requires-clause-none c =
     let g = c.in-Some.leg.now in
     let t = c.in-Some-new_label.label in
-    let legs = c.args.legs.now in
+    let legs = c.args.legs.now.legs in
     let before = find_leg g.lsp legs in
     none-guarded (held_of legs) c.args.shares.now t.fibre t.label g.lsp c.requires.held.guards
     (bare-held t.fibre t.label before (new-fresh before g t (sym c.in-Some-new_label.ensures)))
@@ -31,7 +31,7 @@ pub returns-clause-held : goal.returns-clause-held
 returns-clause-held c =
     let g = c.in-Some.leg.now in
     let t = c.in-Some-new_label.label in
-    let legs = c.args.legs.now in
+    let legs = c.args.legs.now.legs in
     let o = c.args.owner.now in
     let s = c.args.shares.now in
     let after = c.reserve.new.owner in

@@ -1,0 +1,2 @@
+mod LegEdits
+mod LegMaps
