@@ -36,10 +36,9 @@ fn remove_leg(legs: &mut LegMap, owner: &mut Owner, shares: &mut Shares, lsp: Ls
     ensures fit { MarksFit legs.new.legs owner.new }
     ensures fibres { SameFibres owner.old owner.new }
 {
-    let before = legs.get(lsp);
-    give_up_lost(before, owner, shares, lsp, None);
-    unmark_found(before, owner, lsp);
-    let _leg = legs.take(lsp);
+    let leg = legs.take(lsp);
+    give_up_lost(leg.as_ref(), owner, shares, lsp, None);
+    unmark_found(leg.as_ref(), owner, lsp);
 }
 
 // Puts a leg. The labels that its LSP's leg took and it doesn't are given up; those that it takes are claimed. There is

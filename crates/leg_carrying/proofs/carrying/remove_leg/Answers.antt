@@ -1,13 +1,15 @@
-use Rattle.std.proofs.Common.{subst, sym}
+use Rattle.std.proofs.Common.{◌∙◌, subst, sym}
 use Rattle.leg_table.specs.LegClaims.{MarksFit}
 use Rattle.leg_carrying.proofs.MarkedLegs.{found-its, marks-without, same-marks}
 use Rattle.leg_carrying.proofs.carrying.remove_leg.Goals as goal
 
 pub give_up_lost-requires-clause-its : goal.give_up_lost-requires-clause-its
-give_up_lost-requires-clause-its c = found-its c.args.lsp c.args.legs.now.legs _ c.get-before.ensures
+give_up_lost-requires-clause-its c =
+    found-its c.args.lsp c.args.legs.now.legs _ (c.as_ref.ensures.value ∙ c.take-leg.ensures.leg)
 
 pub unmark_found-requires-clause-its : goal.unmark_found-requires-clause-its
-unmark_found-requires-clause-its c = found-its c.args.lsp c.args.legs.now.legs _ c.get-before.ensures
+unmark_found-requires-clause-its c =
+    found-its c.args.lsp c.args.legs.now.legs _ (c.as_ref-2.ensures.value ∙ c.take-leg.ensures.leg)
 
 pub returns-clause-fit : goal.returns-clause-fit
 returns-clause-fit c =
