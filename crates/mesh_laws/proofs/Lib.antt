@@ -21,3 +21,4 @@ pub mod causes
 pub mod moves
 pub mod rested
 pub mod retried
+pub mod assigned

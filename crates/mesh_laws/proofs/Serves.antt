@@ -7,6 +7,7 @@ use Rattle.mesh_rules.specs.Machine.{start}
 use Rattle.mesh_laws.specs.ServiceLaw.{Serves}
 use Rattle.mesh_laws.proofs.acts.Law.{every_order_acts}
 use Rattle.mesh_laws.proofs.acts.Torn.{every_torn_leg}
+use Rattle.mesh_laws.proofs.assigned.Law.{every_setup}
 use Rattle.mesh_laws.proofs.backed.Backed.{every_backup_as_given}
 use Rattle.mesh_laws.proofs.causes.Answered.{every_busy, every_lack}
 use Rattle.mesh_laws.proofs.causes.Lone.{every_lone_call}
@@ -39,6 +40,7 @@ network_serves t events run = record {
   acts = λ valid. every_order_acts t events valid run;
   others = every_order_of_one t events run;
   spared = every_order_leaves t events run;
+  assigned = λ valid. every_setup t events valid run;
   retried = every_retry t events run;
   backed = every_backup_as_given t events run;
   torn = every_torn_leg t events run;

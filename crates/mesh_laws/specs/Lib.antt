@@ -28,3 +28,4 @@ pub mod ServiceLaw
 pub mod SourceLaw
 pub mod WaitLaw
 pub mod RetryLaw
+pub mod SetupAloneLaw

@@ -14,6 +14,7 @@ use Rattle.mesh_laws.specs.MovesLaw.{BlockedCallsStay, CallsMoveOn}
 use Rattle.mesh_laws.specs.OthersLaw.{OrdersAreOfOneCall, OrdersLeaveOtherLegs}
 use Rattle.mesh_laws.specs.RestedLaw.{AllReportsAreTrue, IsRepaired, NothingIsLeft, SentIsTaken}
 use Rattle.mesh_laws.specs.RetryLaw.{RetriesEnd}
+use Rattle.mesh_laws.specs.SetupAloneLaw.{SetupsEnd}
 use Rattle.mesh_laws.specs.SourceLaw.{CodesHaveSources, TurnedCallsWait}
 use Rattle.mesh_laws.specs.WaitLaw.{TicksCount, WaitsAreBelow}
 
@@ -45,6 +46,8 @@ pub record Serves (t : Network) (events : List MeshEvent) : Type 0 where
   pub others : OrdersAreOfOneCall t events
   -- nor a leg of an LSP of another call
   pub spared : OrdersLeaveOtherLegs t events
+  -- a call that is set up, alone, stands just where its route has free wavelengths
+  pub assigned : IsTopology t → SetupsEnd t events
   -- a stuck call that is tried again, alone, turns just where its backup is busy nowhere
   pub retried : RetriesEnd t events
   -- a backup goes over the route that its order gives

@@ -9,6 +9,7 @@ ghost use Rattle.mesh_laws.specs.MovesLaw.{EveryBlockedCallStays, EveryCallMoves
 ghost use Rattle.mesh_laws.specs.OthersLaw.{EveryOrderIsOfOneCall, EveryOrderLeavesOtherLegs};
 ghost use Rattle.mesh_laws.specs.RestedLaw.{EachSentIsTakenAtRest, EveryRepairedRestIsCalm, EveryReportIsTrueAtRest, NothingIsLeftAtRest};
 ghost use Rattle.mesh_laws.specs.RetryLaw.{EveryRetryIsDecided};
+ghost use Rattle.mesh_laws.specs.SetupAloneLaw.{EverySetupIsDecided};
 ghost use Rattle.mesh_laws.specs.SourceLaw.{EveryCodeHasSource, EveryTurnedCallWaits};
 ghost use Rattle.mesh_laws.specs.WaitLaw.{EveryTickCounts, EveryWaitIsBelow};
 
@@ -43,11 +44,16 @@ pub fn every_rest()
 /// go on is kept off (`lacks`). There each order that a node handles does what it says: a call that is
 /// blocked at once, or gets no backup, has a cause that stands at its ingress (`acts`); so has a
 /// protected call that gets none as its working LSP is connected (`lone`). An order changes no call
-/// but its own (`others`), and no leg of an LSP that no such call names (`spared`). Take a quiet
-/// state in which a node is ordered to try a stuck call again, its working LSP being reported and
-/// its backup not. If nothing else is posted until it is quiet again, and no node ticks while a call
-/// waits, then the call has turned if and only if at no node the leg of another activated backup
-/// used a label of its backup's leg; else it is stuck, as busy (`retried`).
+/// but its own (`others`), and no leg of an LSP that no such call names (`spared`).
+///
+/// An order is alone where it is posted in a quiet state, nothing else is posted until it is quiet
+/// again, and no node ticks while a call waits. Over a topology let a one-way, unprotected call of a
+/// new number be set up alone, over a given route of links that are up, where the ingress has
+/// numbers and each node room for a leg. It stands if and only if the route had free wavelengths:
+/// one over each link, which no leg kept off there, and one for both links of a node that doesn't
+/// convert; else it is blocked (`assigned`). Let a stuck call be tried again alone, its working LSP
+/// being reported and its backup not. It has turned if and only if at no node the leg of another
+/// activated backup used a label of its backup's leg; else it is stuck, as busy (`retried`).
 pub fn every_order()
     ensures torn { EveryTornLegGivesUp }
     ensures backed { EveryBackupGoesAsGiven }
@@ -58,6 +64,7 @@ pub fn every_order()
     ensures acts { EveryOrderActs }
     ensures others { EveryOrderIsOfOneCall }
     ensures spared { EveryOrderLeavesOtherLegs }
+    ensures assigned { EverySetupIsDecided }
     ensures retried { EveryRetryIsDecided }
 {}
 

@@ -37,7 +37,7 @@ has-from first (suc n) x low high = go (nat_eq first x) refl (λ more. has-from 
     go true e later = refl
     go false e later = later (grind (arith, low))
 
-has-up : (n x : ℕ) → 1 ≤ x → x ≤ n → has (up_to n) x ≡ true
+pub has-up : (n x : ℕ) → 1 ≤ x → x ≤ n → has (up_to n) x ≡ true
 has-up n x low high = has-from 1 n x low (omega (arith, high))
 
 takes-so : (f : Fibre) (x : ℕ) (g : Leg) → takes f x g ≡ true → Arrives f x g
@@ -57,7 +57,7 @@ barred Work b e = inl refl
 barred Back b e = inr (not-false b e)
 
 -- a label that isn't usable is kept off
-kept-off : (r : Role) (risks : List Risk) (legs : List Leg) (f : Fibre) (x : ℕ) →
+pub kept-off : (r : Role) (risks : List Risk) (legs : List Leg) (f : Fibre) (x : ℕ) →
     is_usable r risks legs f x ≡ false → KeepsOff legs r risks f x
 kept-off Work risks legs f x no_use =
     let g = any-there (takes f x) legs (not-false _ no_use) in
@@ -76,7 +76,7 @@ none-has [] x e = refl
 none-has (y ∷ xs) x e = absurd (cc e)
 
 -- not usable, though one of the link's
-unusable : (p : LocalNode) (legs : List Leg) (r : Role) (risks : List Risk) (f : Fibre) (link : LinkSpec) (x : ℕ) →
+pub unusable : (p : LocalNode) (legs : List Leg) (r : Role) (risks : List Risk) (f : Fibre) (link : LinkSpec) (x : ℕ) →
     own_link p f.link ≡ Some link → 1 ≤ x → x ≤ link.labels → has (usable p legs r risks f) x ≡ false →
     is_usable r risks legs f x ≡ false
 unusable p legs r risks f link x own low high none =

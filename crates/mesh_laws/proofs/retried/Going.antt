@@ -1,9 +1,9 @@
 -- While a backup alone is being activated: over each event it alone moves, and its call turns or is stuck.
 use Rattle.std.proofs.Common.{◌≡◌, ℕ, Bool, true, false, cond, nat_eq, not, List, [], ◌∷◌, refl, sym, ap, ◌∙◌, subst, arith, inl, inr}
-use Rattle.std.specs.Prelude.{◌&&◌, ◌⊎◌, Option, Some, None, is_some}
+use Rattle.std.specs.Prelude.{◌⊎◌, Option, Some, None, is_some}
 use Rattle.std.specs.List.{AllByRecursion}
 use Rattle.ason_base.specs.Codes.{busy_code}
-use Rattle.ason_base.specs.Network.{Network, find_link, row_of}
+use Rattle.ason_base.specs.Network.{Network, find_link}
 use Rattle.ason_base.specs.declared.calls.CallState.TheVariants.{Stuck, Turned, Turning}
 use Rattle.ason_base.specs.declared.calls.Cause.TheVariants.{Code}
 use Rattle.ason_base.specs.declared.ids.CallNo.{CallNo}
@@ -11,34 +11,30 @@ use Rattle.ason_base.specs.declared.ids.Fibre.{Fibre}
 use Rattle.ason_base.specs.declared.ids.Lsp.{Lsp}
 use Rattle.ason_base.specs.declared.ids.NodeId.{NodeId}
 use Rattle.ason_base.specs.declared.messages.Msg.{Msg}
-use Rattle.ason_base.specs.declared.network.LinkSpec.{LinkSpec}
 use Rattle.ason_base.specs.declared.tables.CallRec.{CallRec}
 use Rattle.ason_base.specs.declared.tables.Leg.{Leg}
 use Rattle.mesh_rules.specs.declared.changes.CallChange.{CallChange}
 use Rattle.mesh_rules.specs.declared.events.MeshEvent.{MeshEvent}
 use Rattle.mesh_rules.specs.declared.events.MeshEvent.TheVariants.{Take, Desk, Tick, Learn, Post}
-use Rattle.mesh_rules.specs.Calls.{call_with, calls_changed, find_call, is_turned, stuck, turned, with_call}
-use Rattle.mesh_rules.specs.Changes.{Answer, changed, followed_by, learns, nothing}
+use Rattle.mesh_rules.specs.Calls.{call_with, calls_changed, find_call, stuck, turned, with_call}
+use Rattle.mesh_rules.specs.Changes.{Answer, changed}
 use Rattle.mesh_rules.specs.Events.{has_first, is_enabled, on_first, step}
-use Rattle.mesh_rules.specs.KnownRows.{has_row, known_rows}
 use Rattle.mesh_rules.specs.Learnt.{on_link}
 use Rattle.mesh_rules.specs.Legs.{find_leg, is_beyond_asked, neighbour_over, previous, with_phase}
-use Rattle.mesh_rules.specs.LocalNodes.{LocalNode, local_node}
+use Rattle.mesh_rules.specs.LocalNodes.{local_node}
 use Rattle.mesh_rules.specs.Machine.{Mesh, commit, without_first}
 use Rattle.mesh_rules.specs.State.{NodeState}
 use Rattle.mesh_rules.specs.Turns.{has_any}
-use Rattle.mesh_rules.specs.Waits.{all_ticked, on_tick, ticked}
+use Rattle.mesh_rules.specs.Waits.{on_tick}
 use Rattle.mesh_nodes.proofs.CallList.{all-with_call, find-with_call, found-number}
-use Rattle.mesh_nodes.proofs.Cases.{if_cases}
 use Rattle.mesh_nodes.proofs.LegList.{found-lsp}
 use Rattle.lsp_laws.proofs.hops.Plans.{same}
 use Rattle.lsp_laws.proofs.nodes.CallParts.{names-back}
 use Rattle.lsp_laws.proofs.nodes.Facts.{LegFacts, MeshFacts, NodeFacts}
 use Rattle.mesh_laws.specs.RetryLaw.{IsBusySomewhere, IsLeftAlone, NoneWaits}
-use Rattle.mesh_laws.specs.WaitLaw.{Waits}
 use Rattle.mesh_laws.proofs.acts.Busy.{leg-busy}
 use Rattle.mesh_laws.proofs.causes.Lone.{the-call}
-use Rattle.mesh_laws.proofs.moves.Waits.{test-waits}
+use Rattle.mesh_laws.proofs.retried.Pending.{IsStill, IsTimeless, still-link, still-tick}
 use Rattle.mesh_laws.proofs.retried.Only.{IsOfTurn, LegMoves, Moved, Moves, NoneThere, OnlyMoved, Stays, busy-before, moves-on, without-first}
 use Rattle.mesh_laws.proofs.retried.Rules.{CallMoves, CallStays, CallSticks, CallTurns, Goes, Knows, goes-message}
 
@@ -50,50 +46,12 @@ pub record CallGoes (P : Type 0) (b : Lsp) (k : CallNo) (calls : List CallRec) :
   pub works : has_any call.work_reports ≡ true
   pub state : (call.state ≡ Turning) ⊎ ((call.state ≡ Turned) ⊎ ((call.state ≡ Stuck) × (call.cause ≡ Code busy_code) × P))
 
--- the call doesn't count ticks
-abbrev pub IsTimeless : ℕ → CallRec → Type 0
-IsTimeless wait c = Waits wait c → ⊥
-
 -- the backup alone has moved since s, and no call has begun to wait; n is its ingress
 pub record Going (t : Network) (s : Mesh) (n : NodeId) (k : CallNo) (b : Lsp) (now : Mesh) : Type 0 where
   pub moved : OnlyMoved s b now
   pub waits : NoneWaits t s → (m : ℕ) → AllByRecursion (IsTimeless t.wait) (now.nodes m).calls
   pub call : CallGoes (IsBusySomewhere s b) b k (now.nodes n.0).calls
   pub desks : (m : ℕ) → now.desks m ≡ []
-
--- an answer that changes no leg and no call, and sends nothing
-pub record IsStill (a : Answer) : Type 0 where
-  pub legs : a.legs ≡ []
-  pub calls : a.calls ≡ []
-  pub sent : a.sent ≡ []
-
-pub still-link : (p : LocalNode) (x : NodeState) (found : Option LinkSpec) → IsStill (on_link p x found)
-still-link p x None = record { legs = refl; calls = refl; sent = refl }
-still-link p x (Some l) =
-    if_cases IsStill (has_row (known_rows p x) l.id) nothing (learns (row_of l))
-    (λ h. record { legs = refl; calls = refl; sent = refl })
-    (λ h. record { legs = refl; calls = refl; sent = refl })
-
-then-still : (a b : Answer) → IsStill a → IsStill b → IsStill (followed_by a b)
-then-still a b first next = record {
-  legs = rw (first.legs, next.legs) refl;
-  calls = rw (first.calls, next.calls) refl;
-  sent = rw (first.sent, next.sent) refl;
-}
-
--- where no call waits a tick does nothing
-pub still-tick : (p : LocalNode) (x : NodeState) → AllByRecursion (IsTimeless p.wait) x.calls → IsStill (on_tick p x)
-still-tick p x none = each x.calls none
-  where
-    one : (c : CallRec) → IsTimeless p.wait c → IsStill (ticked p.wait x.legs c)
-    one c never =
-        if_cases IsStill (not (nat_eq p.wait 0) && (is_turned c.state && not (has_any c.work_reports))) _ _
-        (λ e. absurd (never (test-waits p.wait c e))) (λ e. record { legs = refl; calls = refl; sent = refl })
-
-    each : (calls : List CallRec) → AllByRecursion (IsTimeless p.wait) calls → IsStill (all_ticked p.wait x.legs calls)
-    each [] none = record { legs = refl; calls = refl; sent = refl }
-    each (c ∷ calls) none =
-        then-still (ticked p.wait x.legs c) (all_ticked p.wait x.legs calls) (one c none.0) (each calls none.1)
 
 -- Calls
 
@@ -153,13 +111,13 @@ moved-up _ _ NoneThere g e = absurd (cc e)
 moved-up _ _ (Moves h q up) g e =
     let is : with_phase q h ≡ g = cc e in subst (λ (x : Leg). is_beyond_asked x.phase ≡ true) is up
 
-first-node : (p : Option NodeId) (f : Option Fibre) → neighbour_over p f ≡ None → is_some f ≡ is_some p →
+pub first-node : (p : Option NodeId) (f : Option Fibre) → neighbour_over p f ≡ None → is_some f ≡ is_some p →
     is_some p ≡ false
 first-node None f none both = refl
 first-node (Some m) None none both = sym both
 first-node (Some m) (Some f) none both = absurd (cc none)
 
-begins-here : (i n : ℕ) (x : Bool) → x ≡ false → x ≡ not (nat_eq i n) → i ≡ n
+pub begins-here : (i n : ℕ) (x : Bool) → x ≡ false → x ≡ not (nat_eq i n) → i ≡ n
 begins-here i n x none is = (let test : not (nat_eq i n) ≡ false = sym is ∙ none in grind arith)
 
 -- One step

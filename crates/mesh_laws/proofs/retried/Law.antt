@@ -1,5 +1,5 @@
 -- Once a retry alone has come to rest, the call has turned just where its backup was busy nowhere.
-use Rattle.std.proofs.Common.{◌≡◌, ℕ, Bool, true, false, cond, nat_eq, List, [], ◌∷◌, ◌++◌, refl, sym, ap, ◌∙◌, subst, inl, inr}
+use Rattle.std.proofs.Common.{◌≡◌, ℕ, true, false, List, [], ◌∷◌, ◌++◌, refl, sym, ap, ◌∙◌, subst, inl, inr}
 use Rattle.std.specs.Prelude.{◌⊎◌, Option, Some}
 use Rattle.std.specs.List.{AllByRecursion}
 use Rattle.std.proofs.lemmas.List.Elements.{recursion_from_All}
@@ -33,7 +33,7 @@ use Rattle.mesh_nodes.proofs.LegList.{found-all, found-lsp}
 use Rattle.lsp_laws.specs.CallLaw.{FitsLegs}
 use Rattle.lsp_laws.specs.HopLaw.{leg_at}
 use Rattle.lsp_laws.proofs.hops.HopLaws.{found_of}
-use Rattle.lsp_laws.proofs.hops.Plans.{same, same_node}
+use Rattle.lsp_laws.proofs.hops.Plans.{same_node}
 use Rattle.lsp_laws.proofs.nodes.CallParts.{named-lsp, names-back}
 use Rattle.lsp_laws.proofs.nodes.Facts.{MeshFacts}
 use Rattle.lsp_laws.proofs.nodes.NodeRuns.{facts-hold, facts-step}
@@ -48,14 +48,15 @@ use Rattle.mesh_laws.proofs.rested.Alike.{IsHeld, IsLive, Rests}
 use Rattle.mesh_laws.proofs.rested.Rested.{nothing_left_at_rest, phase-there, rests, routed}
 use Rattle.mesh_laws.proofs.retried.Going.{Going, goes-on}
 use Rattle.mesh_laws.proofs.retried.Only.{Moved, Moves, NoneThere, uses-after}
-use Rattle.mesh_laws.proofs.retried.Waiting.{MayTurn, Waiting, waits-on}
+use Rattle.mesh_laws.proofs.retried.Waiting.{MayTurn, waits-on}
+use Rattle.mesh_laws.proofs.retried.Pending.{Pending, posted-pends}
 use Rattle.mesh_laws.proofs.safe.Light.{arrives-takes, leaves-sends}
 
 -- The run
 
 -- nothing has moved yet, or the backup alone has
 abbrev GoesOrWaits : Network → Mesh → NodeId → CallRec → Lsp → Mesh → Type 0
-GoesOrWaits t s n c b now = Waiting s n c.call now ⊎ Going t s n c.call b now
+GoesOrWaits t s n c b now = Pending s n (Order (Retry c.call n)) now ⊎ Going t s n c.call b now
 
 run-on : (t : Network) (s : Mesh) (n : NodeId) (b : Lsp) (c : CallRec) → MayTurn s n b c → (now : Mesh)
     (events : List MeshEvent) → MeshFacts t now → GoesOrWaits t s n c b now → IsRun t now events →
@@ -68,27 +69,6 @@ run-on t s n b c may now (e ∷ events) facts so run only =
       | inr going ↦ inr (goes-on t s n c.call b (ap (λ (m : NodeId). m.0) may.ingress) now facts going e only.0 run.0)
     ])
     run.1 only.1
-
--- the order is posted
-posted-waits : (t : Network) (s : Mesh) (n : NodeId) (c : CallRec) → IsQuiet s →
-    Waiting s n c.call (step t s (Post (Retry c.call n)))
-posted-waits t s n c quiet = record {
-  legs = λ m. refl;
-  calls = λ m. refl;
-  mail = quiet.mail;
-  item = at-node (nat_eq n.0 n.0) (same n.0);
-  others = λ m e. elsewhere m (nat_eq m n.0) e;
-}
-  where
-    at-node : (d : Bool) → d ≡ true →
-        cond d (s.desks n.0 ++ Order (Retry c.call n) ∷ []) (s.desks n.0) ≡ Order (Retry c.call n) ∷ []
-    at-node true e = ap (λ items. items ++ Order (Retry c.call n) ∷ []) (quiet.desks n.0)
-    at-node false e = absurd (cc e)
-
-    elsewhere : (m : ℕ) (d : Bool) → d ≡ false →
-        cond d (s.desks m ++ Order (Retry c.call n) ∷ []) (s.desks m) ≡ []
-    elsewhere m true e = absurd (cc e)
-    elsewhere m false e = quiet.desks m
 
 -- The call before
 
@@ -245,12 +225,12 @@ every_retry t events run n c alone quiet =
     let end : GoesOrWaits t s n c may.0 (after t start events) =
     subst (GoesOrWaits t s n c may.0) to
     (run-on t s n may.0 c may.1 (step t s order) alone.since
-    (facts-step t s order later.0 (facts-hold t alone.before run0)) (inl (posted-waits t s n c alone.quiet)) later.1
+    (facts-step t s order later.0 (facts-hold t alone.before run0)) (inl (posted-pends s n (Order (Retry c.call n)) alone.quiet)) later.1
     alone.only) in (
       may.0,
       may.1.back,
       elim end [
-        | inl waiting ↦ absurd (let none = quiet.desks n.0 in let item = waiting.item in cc (none, item))
+        | inl waiting ↦ absurd (let none = quiet.desks n.0 in let item = waiting.here in cc (none, item))
         | inr going ↦ ends t events run quiet alone.before run0 n c may.0 may.1.ingress going
       ],
     )

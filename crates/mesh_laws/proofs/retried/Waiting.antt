@@ -1,15 +1,14 @@
 -- Before the order to try again is handled nothing has moved; when it is, the backup is activated, or is busy.
-use Rattle.std.proofs.Common.{◌≡◌, ℕ, Bool, true, false, cond, nat_eq, not, List, [], ◌∷◌, ◌++◌, append-nil, drop, refl, sym, ap, ◌∙◌, subst, arith, inl, inr}
+use Rattle.std.proofs.Common.{◌≡◌, ℕ, Bool, true, false, cond, nat_eq, not, List, [], ◌∷◌, refl, sym, ap, ◌∙◌, subst, inl, inr}
 use Rattle.std.specs.Prelude.{◌⊎◌, ◌&&◌, Option, Some, None}
 use Rattle.std.specs.List.{AllByRecursion}
 use Rattle.ason_base.specs.Codes.{busy_code}
-use Rattle.ason_base.specs.Network.{Network, find_link}
+use Rattle.ason_base.specs.Network.{Network}
 use Rattle.ason_base.specs.declared.calls.Cause.TheVariants.{Code}
 use Rattle.ason_base.specs.declared.calls.Phase.TheVariants.{Armed, Held}
 use Rattle.ason_base.specs.declared.calls.Role.TheVariants as role
 use Rattle.ason_base.specs.declared.commands.Command.TheVariants.{Retry}
 use Rattle.ason_base.specs.declared.commands.DeskItem.TheVariants.{Order}
-use Rattle.ason_base.specs.declared.ids.CallNo.{CallNo}
 use Rattle.ason_base.specs.declared.ids.LinkId.{LinkId}
 use Rattle.ason_base.specs.declared.ids.Lsp.{Lsp}
 use Rattle.ason_base.specs.declared.ids.NodeId.{NodeId}
@@ -20,7 +19,6 @@ use Rattle.ason_base.specs.declared.steps.Step.{Step}
 use Rattle.ason_base.specs.declared.tables.CallRec.{CallRec}
 use Rattle.ason_base.specs.declared.tables.Leg.{Leg}
 use Rattle.mesh_rules.specs.declared.events.MeshEvent.{MeshEvent}
-use Rattle.mesh_rules.specs.declared.events.MeshEvent.TheVariants.{Take, Desk, Tick, Learn, Post}
 use Rattle.mesh_rules.specs.declared.neighbours.Neighbour.{Neighbour}
 use Rattle.mesh_rules.specs.Calls.{calls_changed, find_call, is_stuck, stuck, turning}
 use Rattle.mesh_rules.specs.Changes.{Answer, changed, nothing}
@@ -28,19 +26,16 @@ use Rattle.mesh_rules.specs.declared.changes.CallChange.TheVariants as call
 use Rattle.mesh_rules.specs.declared.changes.LegChange.{LegChange}
 use Rattle.ason_base.specs.declared.tables.Out.{Out}
 use Rattle.ason_base.specs.declared.calls.CallState.TheVariants.{Stuck, Turned, Turning}
-use Rattle.std.proofs.lemmas.List.Elements.{recursion_from_All}
 use Rattle.mesh_nodes.proofs.CallList.{all-with_call}
-use Rattle.mesh_rules.specs.Events.{has_first, is_enabled, on_first_item, step}
-use Rattle.mesh_rules.specs.Learnt.{on_link}
-use Rattle.mesh_rules.specs.Legs.{find_leg, following, is_beyond_asked, is_contended, is_held, leg_of, legs_changed}
+use Rattle.mesh_rules.specs.Events.{is_enabled, step}
+use Rattle.mesh_rules.specs.Legs.{find_leg, following, is_beyond_asked, is_contended, is_held, leg_of}
 use Rattle.mesh_rules.specs.LocalNodes.{LocalNode, local_node}
-use Rattle.mesh_rules.specs.Machine.{Mesh, commit, sent_to, without_item}
+use Rattle.mesh_rules.specs.Machine.{Mesh, commit, without_item}
 use Rattle.mesh_rules.specs.Orders.{on_item}
 use Rattle.mesh_rules.specs.Paths.{role_of}
 use Rattle.mesh_rules.specs.Retries.{retries, retry_with}
 use Rattle.mesh_rules.specs.State.{NodeState}
 use Rattle.mesh_rules.specs.Turns.{activating, activating_path, arms, call_put, has_any, turn, turn_to}
-use Rattle.mesh_rules.specs.Waits.{on_tick}
 use Rattle.mesh_nodes.proofs.Cases.{if_cases}
 use Rattle.mesh_nodes.proofs.LegList.{found-lsp}
 use Rattle.lsp_laws.specs.HopLaw.{leg_at}
@@ -48,16 +43,9 @@ use Rattle.lsp_laws.proofs.hops.Plans.{same}
 use Rattle.mesh_laws.specs.RetryLaw.{IsBusySomewhere, IsLeftAlone, NoneWaits}
 use Rattle.mesh_laws.proofs.acts.Busy.{leg-busy}
 use Rattle.mesh_laws.proofs.acts.Tests.{both}
-use Rattle.mesh_laws.proofs.retried.Going.{CallGoes, Going, IsStill, IsTimeless, put-there, still-link, still-tick}
+use Rattle.mesh_laws.proofs.retried.Going.{CallGoes, Going, put-there}
+use Rattle.mesh_laws.proofs.retried.Pending.{IsTimeless, Pending, desks-empty, pends-on, timeless}
 use Rattle.mesh_laws.proofs.retried.Only.{IsOfTurn, Moved, Moves, NoneThere, OnlyMoved, Puts, Stays, Turns, moves-on}
-
--- nothing has moved since s, and the order is on the desk of n alone
-pub record Waiting (s : Mesh) (n : NodeId) (k : CallNo) (now : Mesh) : Type 0 where
-  pub legs : (m : ℕ) → (now.nodes m).legs ≡ (s.nodes m).legs
-  pub calls : (m : ℕ) → (now.nodes m).calls ≡ (s.nodes m).calls
-  pub mail : (u d : ℕ) → now.mail u d ≡ []
-  pub item : now.desks n.0 ≡ Order (Retry k n) ∷ []
-  pub others : (m : ℕ) → nat_eq m n.0 ≡ false → now.desks m ≡ []
 
 -- what is known of the call that tries again: its backup is Held at each node
 pub record MayTurn (s : Mesh) (n : NodeId) (b : Lsp) (c : CallRec) : Type 0 where
@@ -72,10 +60,6 @@ pub record MayTurn (s : Mesh) (n : NodeId) (b : Lsp) (c : CallRec) : Type 0 wher
   pub held : leg.phase ≡ Held
   pub of_back : role_of leg.path_role ≡ role.Back
   pub up : (m : NodeId) (g : Leg) → leg_at s b m ≡ Some g → is_beyond_asked g.phase ≡ true
-
-same-mail : {X : Type 0} (c : Bool) (xs : List X) → xs ≡ [] → cond c (xs ++ []) xs ≡ []
-same-mail true xs none = append-nil xs ∙ none
-same-mail false xs none = none
 
 not-moved : (o : Option Leg) → ((g : Leg) → o ≡ Some g → is_beyond_asked g.phase ≡ true) → Moved o o
 not-moved None up = NoneThere
@@ -114,7 +98,10 @@ module _ (P : Type 0) (b : Lsp) (x : NodeState) (c : CallRec) (g : Leg) (here : 
 
   path-sent : (h : Option Neighbour) → AllByRecursion (λ o. IsOfTurn P b o.msg) (activating_path g h)
   path-sent None = tt
-  path-sent (Some h) = (active-sent g.lsp g.egress h.fibre.link g.route g.sent g.back_in g.path_role of_back (found-lsp b x.legs g here), tt)
+  path-sent (Some h) = (
+    active-sent g.lsp g.egress h.fibre.link g.route g.sent g.back_in g.path_role of_back (found-lsp b x.legs g here),
+    tt,
+  )
 
   begins-turn : Begins (turn_to x.legs c g)
   begins-turn =
@@ -166,14 +153,17 @@ module _ (P : Type 0) (b : Lsp) (x : NodeState) (c : CallRec) (g : Leg) (here : 
 -- One step
 
 module _ (t : Network) (s : Mesh) (n : NodeId) (b : Lsp) (c : CallRec) (may : MayTurn s n b c) (now : Mesh)
-    (waiting : Waiting s n c.call now) where
+    (waiting : Pending s n (Order (Retry c.call n)) now) where
   abbrev Busy : Type 0
   Busy = IsBusySomewhere s b
 
+  legs-are : (m : ℕ) → (now.nodes m).legs ≡ (s.nodes m).legs
+  legs-are m = ap (λ (y : NodeState). y.legs) (waiting.nodes m)
+
   not-yet : OnlyMoved s b now
   not-yet = record {
-    others = λ l m apart. ap (find_leg l) (waiting.legs m.0);
-    own = λ m. subst (Moved (leg_at s b m)) (ap (find_leg b) (sym (waiting.legs m.0)))
+    others = λ l m apart. ap (find_leg l) (legs-are m.0);
+    own = λ m. subst (Moved (leg_at s b m)) (ap (find_leg b) (sym (legs-are m.0)))
         (not-moved (leg_at s b m) (may.up m));
     mail = λ u d. subst (AllByRecursion (IsOfTurn Busy b)) (sym (waiting.mail u d)) tt;
   }
@@ -185,20 +175,15 @@ module _ (t : Network) (s : Mesh) (n : NodeId) (b : Lsp) (c : CallRec) (may : Ma
       × CallGoes Busy b c.call (calls_changed (on_item (local_node t n) z (Order (Retry c.call n))).calls z.calls)
       × StartsNoWait (on_item (local_node t n) z (Order (Retry c.call n)))
   started =
-      begins Busy b z c may.leg (ap (find_leg b) (waiting.legs n.0) ∙ may.there) may.held may.of_back
+      begins Busy b z c may.leg (ap (find_leg b) (legs-are n.0) ∙ may.there) may.held may.of_back
       (λ full. record {
         node = n;
         leg = may.leg;
         there = may.there;
-        busy = leg-busy (s.nodes n.0).legs may.leg (subst (λ legs. is_contended legs may.leg ≡ true) (waiting.legs n.0) full);
+        busy = leg-busy (s.nodes n.0).legs may.leg (subst (λ legs. is_contended legs may.leg ≡ true) (legs-are n.0) full);
       })
       may.back may.works (local_node t n) n refl may.tries may.backs
-      (ap (find_call c.call) (waiting.calls n.0) ∙ may.found)
-
-  timeless : NoneWaits t s → (m : ℕ) → AllByRecursion (IsTimeless t.wait) (now.nodes m).calls
-  timeless none m =
-      subst (AllByRecursion (IsTimeless t.wait)) (sym (waiting.calls m))
-      (recursion_from_All (IsTimeless t.wait) (s.nodes m).calls (none m))
+      (ap (λ (y : NodeState). find_call c.call y.calls) (waiting.nodes n.0) ∙ may.found)
 
   -- the order is handled
   handled : (a : Answer) → Turns Busy b z.legs a → CallGoes Busy b c.call (calls_changed a.calls z.calls) →
@@ -208,7 +193,7 @@ module _ (t : Network) (s : Mesh) (n : NodeId) (b : Lsp) (c : CallRec) (may : Ma
         (record { others = not-yet.others; own = not-yet.own; mail = not-yet.mail }) turns;
     call = at-node (nat_eq n.0 n.0) (same n.0);
     waits = λ none m. still m none (nat_eq m n.0);
-    desks = λ m. empty m (nat_eq m n.0) refl;
+    desks = desks-empty t s n (Order (Retry c.call n)) now waiting;
   }
     where
       at-node : (d : Bool) → d ≡ true → CallGoes Busy b c.call (cond d (changed z a) z).calls
@@ -217,52 +202,15 @@ module _ (t : Network) (s : Mesh) (n : NodeId) (b : Lsp) (c : CallRec) (may : Ma
 
       still : (m : ℕ) → NoneWaits t s → (d : Bool) →
           AllByRecursion (IsTimeless t.wait) (cond d (changed (now.nodes m) a) (now.nodes m)).calls
-      still m none true = starts.timeless t.wait (now.nodes m).calls (timeless none m)
-      still m none false = timeless none m
-
-      empty : (m : ℕ) (d : Bool) → nat_eq m n.0 ≡ d → cond d (drop 1 (now.desks m)) (now.desks m) ≡ []
-      empty m true e =
-          let is : n.0 ≡ m = grind arith in
-          subst (λ j. drop 1 (now.desks j) ≡ []) is (ap (drop 1) waiting.item)
-      empty m false e = waiting.others m e
-
-  -- an answer that changes nothing
-  waits-still : (m : NodeId) (a : Answer) → IsStill a → Waiting s n c.call (commit now m.0 a)
-  waits-still m a still = record {
-    legs = λ i. stays (nat_eq i m.0) (λ (y : NodeState). y.legs) (changed (now.nodes i) a) (now.nodes i)
-        (ap (λ cs. legs_changed cs (now.nodes i).legs) still.legs) ∙ waiting.legs i;
-    calls = λ i. stays (nat_eq i m.0) (λ (y : NodeState). y.calls) (changed (now.nodes i) a) (now.nodes i)
-        (ap (λ cs. calls_changed cs (now.nodes i).calls) still.calls) ∙ waiting.calls i;
-    mail = λ u d. ap (λ outs. cond (nat_eq u m.0) (now.mail u d ++ sent_to d outs) (now.mail u d)) still.sent
-        ∙ same-mail (nat_eq u m.0) (now.mail u d) (waiting.mail u d);
-    item = waiting.item;
-    others = waiting.others;
-  }
-    where
-      stays : {X : Type 0} (d : Bool) (f : NodeState → X) (y z : NodeState) → f y ≡ f z → f (cond d y z) ≡ f z
-      stays true f y z is = is
-      stays false f y z is = refl
+      still m none true = starts.timeless t.wait (now.nodes m).calls (timeless t s n (Order (Retry c.call n)) now waiting none m)
+      still m none false = timeless t s n (Order (Retry c.call n)) now waiting none m
 
   -- Over each event nothing moves, or the order is handled.
   pub waits-on : (e : MeshEvent) → IsLeftAlone t s e → is_enabled t now e ≡ true →
-      Waiting s n c.call (step t now e) ⊎ Going t s n c.call b (step t now e)
-  waits-on (Take d u) alone enabled =
-      absurd (let none : has_first (now.mail u.0 d.0) ≡ false = rw (waiting.mail u.0 d.0) refl in cc (none, enabled))
-  waits-on (Desk m) alone enabled = go (nat_eq m.0 n.0) refl
-    where
-      go : (d : Bool) → nat_eq m.0 n.0 ≡ d → Waiting s n c.call (step t now (Desk m)) ⊎ Going t s n c.call b (step t now (Desk m))
-      go true e =
-          let is : m ≡ n = (let number : m.0 ≡ n.0 = grind arith in λ i. record { 0 = number i }) in
-          inr (subst (λ (j : NodeId). Going t s n c.call b (step t now (Desk j))) (sym is)
-          (subst (λ items. Going t s n c.call b (commit (without_item now n.0) n.0 (on_first_item (local_node t n) z items)))
-          (sym waiting.item)
-          (handled (on_item (local_node t n) z (Order (Retry c.call n))) started.0 started.1 started.2)))
-      go false e =
-          absurd (let none : has_first (now.desks m.0) ≡ false = rw (waiting.others m.0 e) refl in cc (none, enabled))
-  waits-on (Tick m) alone enabled =
-      inl (waits-still m (on_tick (local_node t m) (now.nodes m.0))
-      (still-tick (local_node t m) (now.nodes m.0) (timeless alone m.0)))
-  waits-on (Learn m j) alone enabled =
-      inl (waits-still m (on_link (local_node t m) (now.nodes m.0) (find_link t j))
-      (still-link (local_node t m) (now.nodes m.0) (find_link t j)))
-  waits-on (Post y) alone enabled = absurd alone
+      Pending s n (Order (Retry c.call n)) (step t now e) ⊎ Going t s n c.call b (step t now e)
+  waits-on e alone enabled =
+      elim (pends-on t s n (Order (Retry c.call n)) now waiting e alone enabled) [
+        | inl still ↦ inl still.0
+        | inr done ↦ inr (subst (Going t s n c.call b) (sym done.1)
+            (handled (on_item (local_node t n) z (Order (Retry c.call n))) started.0 started.1 started.2))
+      ]

@@ -70,7 +70,7 @@ every_light t events run f x g h this that =
 -- Labels
 
 -- a number that is among them is between
-from-has : (first n x : ℕ) → has (numbers_from first n) x ≡ true → (first ≤ x) × (x < first + n)
+pub from-has : (first n x : ℕ) → has (numbers_from first n) x ≡ true → (first ≤ x) × (x < first + n)
 unfolding numbers_from
 from-has first zero x among = absurd (cc among)
 from-has first (suc n) x among = go (nat_eq first x) refl (λ is. from-has (first + 1) n x is) among

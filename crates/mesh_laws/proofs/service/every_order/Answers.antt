@@ -1,5 +1,6 @@
 use Rattle.mesh_laws.proofs.acts.Law.{every_order_acts}
 use Rattle.mesh_laws.proofs.causes.Answered.{every_busy, every_lack}
+use Rattle.mesh_laws.proofs.assigned.Law.{every_setup}
 use Rattle.mesh_laws.proofs.backed.Backed.{every_backup_as_given}
 use Rattle.mesh_laws.proofs.causes.Lone.{every_lone_call}
 use Rattle.mesh_laws.proofs.causes.Refused.{every_refusal_has_cause}
@@ -20,5 +21,6 @@ returns c = record {
   acts = every_order_acts;
   others = every_order_of_one;
   spared = every_order_leaves;
+  assigned = every_setup;
   retried = every_retry;
 }

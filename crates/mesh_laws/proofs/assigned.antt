@@ -1,0 +1,12 @@
+pub mod Begun
+pub mod Free
+pub mod Kept
+pub mod Law
+pub mod NoCalls
+pub mod Only
+pub mod Run
+pub mod Setting
+pub mod Stands
+pub mod Tracks
+pub mod Well
+pub mod WellResv
