@@ -31,6 +31,7 @@ mod RestoredShared
 mod RestoredSrlg
 mod Retried
 pub mod Scene
+mod SetUpAlone
 pub mod SharedLabel
 pub mod SixSweeps
 mod Standby
