@@ -62,10 +62,15 @@ pub one_run : RunLaws → (p : Plan) (how : How) (f : FleetState) (lines : List 
     AllByRecursion (HasStood p.topology) more → IsOneRun p more
 one_run laws p how f lines more text new prints stood = record {
   topology = new.stands.stations.valid;
-  laws = all_lawful laws p.topology new.stands.stations.valid (new_stage ∷ more)
-      (record { fleet = f; stands = new.stands }, stood);
+  laws = lawful;
   grows = scripts_grow laws.rounds p how lines new_stage more text prints;
+  restores = laws.restored p more new.stands.stations.valid lawful;
 }
+  where
+    lawful : AllByRecursion (λ (s : Stage). IsLawfulRecord p.topology s.made) (new_stage ∷ more)
+    lawful =
+        all_lawful laws p.topology new.stands.stations.valid (new_stage ∷ more)
+        (record { fleet = f; stands = new.stands }, stood)
 
 begun : RunLaws → (p : Plan) (how : How) (f new : FleetState) (text : List ℕ) → IsNew p f →
     AreBegun p how (script_of p) new new_stage text → IsBegun p how text

@@ -13,6 +13,7 @@ use Rattle.script_rules.specs.Growing.{AreGrowing}
 use Rattle.script_rules.specs.ScriptLaws.{AreSame}
 use Rattle.script_rules.specs.Lawful.{IsLawfulRecord}
 use Rattle.script_rules.specs.Outputs.{How, Prints, PrintsFirst, script_of}
+use Rattle.script_rules.specs.Restoring.{RestoresInRounds}
 use Rattle.script_rules.specs.Stages.{Stage, last_of, new_stage}
 use Rattle.ason_main.specs.declared.runner.run.Ran.{Ran}
 use Rattle.ason_main.specs.declared.runner.stops.Stop.{Stop}
@@ -24,12 +25,14 @@ use Rattle.ason_main.specs.Running.{HasWritten, HasWrittenPart, StandsYet}
 abbrev pub end_of : List Stage → Stage
 end_of more = last_of new_stage more
 
--- Over the plan's network, which is a topology, each of these stages is a record whose merges are lawful runs, and from
--- stage to stage logs and posts grow at their ends.
+-- Over the plan's network, which is a topology, each of these stages is a record whose merges are lawful runs, from stage
+-- to stage logs and posts grow at their ends, and after a failure calls are restored in as many rounds as their routes are
+-- long.
 pub record IsOneRun (p : Plan) (more : List Stage) : Type 0 where
   pub topology : IsTopology p.topology
   pub laws : AllByRecursion (λ (s : Stage). IsLawfulRecord p.topology s.made) (new_stage ∷ more)
   pub grows : AreGrowing new_stage more
+  pub restores : RestoresInRounds p more
 
 -- what is made and printed by a run that comes to the script's end
 pub record IsOutput (p : Plan) (how : How) (more : List Stage) (text : List ℕ) : Type 0 where

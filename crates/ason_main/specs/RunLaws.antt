@@ -1,6 +1,6 @@
 -- The laws on which a run rests.
 use Rattle.fleet.specs.FleetLaws.{FullIsTheLogs, QuietIsTheWorlds, StandingHasMade, StandingIsARecord}
-use Rattle.script_rules.specs.ScriptLaws.{RecordsAreLawful, RoundLaws}
+use Rattle.script_rules.specs.ScriptLaws.{FailuresAreRestored, RecordsAreLawful, RoundLaws}
 
 -- the laws of fleets, of rounds and of records
 pub record RunLaws : Type 0 where
@@ -10,3 +10,4 @@ pub record RunLaws : Type 0 where
   pub full : FullIsTheLogs
   pub rounds : RoundLaws
   pub lawful : RecordsAreLawful
+  pub restored : FailuresAreRestored

@@ -8,4 +8,5 @@ returns c = record {
   full = c.every_fleet.ensures.full;
   rounds = record { whole = c.every_command.ensures.rounds; cut = c.every_command.ensures.cuts };
   lawful = c.every_script.ensures.lawful;
+  restored = c.every_script.ensures.restored;
 }
