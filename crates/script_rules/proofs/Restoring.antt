@@ -7,8 +7,9 @@ use Rattle.ason_base.specs.declared.commands.Disturb.{Disturb}
 use Rattle.ason_base.specs.declared.ids.NodeId.{NodeId}
 use Rattle.ason_base.specs.Network.{Network}
 use Rattle.round_rules.specs.Records.{Record}
-use Rattle.round_rules.specs.Rounds.{IsRound}
-use Rattle.round_laws.specs.FleetLaw.{AreWholeSince, FleetsRestoreSoon, OnlySent}
+use Rattle.round_rules.specs.Unfinished.{IsRoundBy}
+use Rattle.round_laws.specs.FleetLaw.{AreWholeSince, FleetsRestoreSoon, IsPostOf, IsWholeSince, OnlySent}
+use Rattle.round_laws.specs.RoundsInOrder.{AreByOneSince, OneWorkerRestoresInOrder}
 use Rattle.round_laws.proofs.Quiet.{new-is_only_sent}
 use Rattle.plan_reader.specs.declared.lines.Line.{Line}
 use Rattle.plan_reader.specs.declared.lines.Line.TheVariants as said
@@ -70,39 +71,54 @@ lines_rounds p how (line ∷ lines) s more text only prints =
 -- Whole rounds
 
 is_round : (t : Network) (lines : List Disturb) (workers : ℕ) (before after : Record) (o : Option NodeId) → o ≡ None →
-    ComesTo t lines workers before after o → IsRound t lines before after
-is_round t lines workers before after None is comes = comes.round
+    ComesTo t lines workers before after o → IsRoundBy t lines workers before after
+is_round t lines workers before after None is comes = comes
 is_round t lines workers before after (Some n) is comes = absurd (cc (is))
+
+-- so many rounds are whole since a record; where there is one worker, they are such rounds with one worker
+abbrev AreSince : Network → ℕ → Record → ℕ → Record → Record → Type 0
+AreSince t workers since k old new =
+    AreWholeSince t since k old new × (workers ≡ 1 → AreByOneSince t since k old new)
 
 are_whole : (t : Network) (workers : ℕ) (since s : Stage) (rounds left : List Stage) → AreRounds t workers s rounds →
     AreWhole t since s rounds → AllByRecursion (λ (a : Stage). IsLawfulRecord t a.made) (rounds ++ left) →
-    AreWholeSince t since.made (length rounds) s.made (last_of s rounds).made
-are_whole t workers since s [] left are whole lawful = refl
-are_whole t workers since s (a ∷ rounds) left are whole lawful = (
-  s.lines,
-  a.made,
-  record {
-    round = is_round t s.lines workers s.made a.made a.stopped whole.0.ended are.0.comes;
-    kept = whole.0.dropped;
-    delivered = whole.0.delivered;
-  },
-  lawful.0.possible,
-  are_whole t workers since a rounds left are.1 whole.1 lawful.1,
-)
+    AreSince t workers since.made (length rounds) s.made (last_of s rounds).made
+are_whole t workers since s [] left are whole lawful = (refl, λ one. refl)
+are_whole t workers since s (a ∷ rounds) left are whole lawful =
+    let later = are_whole t workers since a rounds left are.1 whole.1 lawful.1 in (
+      (s.lines, a.made, next, lawful.0.possible, later.0),
+      λ one. (s.lines, a.made, next, by one, lawful.0.possible, later.1 one),
+    )
+  where
+    round : IsRoundBy t s.lines workers s.made a.made
+    round = is_round t s.lines workers s.made a.made a.stopped whole.0.ended are.0.comes
 
--- After such a failure whole rounds restore what it hits.
-pub failures-are_restored : FleetsRestoreSoon → FailuresAreRestored
-failures-are_restored law p more valid lawful how g f rest rounds left parts whole es leads =
-    law p.topology es (failing f).made failed.made (last_of failed rounds).made g (length rounds) valid all.0.possible
-    leads only rest.quiet rest.calm (is-post p.topology (Fail g) (failing f).made) all.1.0.possible
-    (are_whole p.topology how.workers (failing f) failed rounds left
-    (first_rounds p.topology how.workers failed rounds left
-    (subst (AreRounds p.topology how.workers failed) (sym parts)
-    (lines_rounds p how f.behind failed f.rounds f.later f.only f.ended)))
-    whole (subst (AllByRecursion (λ (a : Stage). IsLawfulRecord p.topology a.made)) (sym parts) all.1.1))
+    next : IsWholeSince t s.lines since.made s.made a.made
+    next = record { round = round.round; kept = whole.0.dropped; delivered = whole.0.delivered }
+
+    by : workers ≡ 1 → IsRoundBy t s.lines 1 s.made a.made
+    by one = subst (λ w. IsRoundBy t s.lines w s.made a.made) one round
+
+-- After such a failure whole rounds restore what it hits, and with one worker as many as sweeps in order do.
+pub failures-are_restored : FleetsRestoreSoon → OneWorkerRestoresInOrder → FailuresAreRestored
+failures-are_restored soon in_order p more valid lawful how g f rest rounds left parts whole es leads = record {
+  soon = soon p.topology es old failed.made new g (length rounds) valid all.0.possible leads only rest.quiet rest.calm
+      post all.1.0.possible since.0;
+  in_order = λ one. in_order p.topology es old failed.made new g (length rounds) valid all.0.possible leads only rest.quiet
+      rest.calm post all.1.0.possible (since.1 one);
+}
   where
     failed : Stage
     failed = with_failure p.topology g (failing f)
+
+    old : Record
+    old = (failing f).made
+
+    new : Record
+    new = (last_of failed rounds).made
+
+    post : IsPostOf p.topology (Fail g) old failed.made
+    post = is-post p.topology (Fail g) old
 
     -- the stage before the failure, that with it, and the rounds are records
     all : AllByRecursion (λ (a : Stage). IsLawfulRecord p.topology a.made) (failing f ∷ failed ∷ f.rounds)
@@ -114,3 +130,11 @@ failures-are_restored law p more valid lawful how g f rest rounds left parts who
     only : OnlySent p.topology (failing f).made
     only =
         lines-keep_sent p how f.first new_stage f.before f.here (new-is_only_sent p.topology) f.begun
+
+    since : AreSince p.topology how.workers old (length rounds) failed.made new
+    since =
+        are_whole p.topology how.workers (failing f) failed rounds left
+        (first_rounds p.topology how.workers failed rounds left
+        (subst (AreRounds p.topology how.workers failed) (sym parts)
+        (lines_rounds p how f.behind failed f.rounds f.later f.only f.ended)))
+        whole (subst (AllByRecursion (λ (a : Stage). IsLawfulRecord p.topology a.made)) (sym parts) all.1.1)

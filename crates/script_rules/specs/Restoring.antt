@@ -11,8 +11,10 @@ use Rattle.mesh_laws.specs.AloneLaw.{Calm}
 use Rattle.world_rules.specs.Images.{image}
 use Rattle.world_rules.specs.WorldLaws.{IsWithoutMessages}
 use Rattle.round_rules.specs.Lines.{says}
+use Rattle.round_rules.specs.Records.{Record}
 use Rattle.round_rules.specs.Rings.{count_of}
 use Rattle.round_laws.specs.FleetLaw.{RestoresSoon}
+use Rattle.round_laws.specs.RoundsInOrder.{RestoresInOrder}
 use Rattle.round_laws.specs.WholeRounds.{IsDelivered, LeadsTo}
 use Rattle.plan_reader.specs.declared.lines.Line.{Line}
 use Rattle.plan_reader.specs.declared.lines.Line.TheVariants as said
@@ -77,16 +79,24 @@ AreWhole t since s (a ∷ rounds) = IsWholeNext t since s a × AreWhole t since 
 
 -- Restored
 
+-- So many rounds on so many workers are a run, and of the calls that the group hits these are restored at its end:
+pub record RestoresOn (t : Network) (workers : ℕ) (es : List Event) (g : Group) (k : ℕ)
+    (old new : Record) : Type 0 where
+  -- each whose routes take at most so many rounds (`sweeps_for`)
+  pub soon : RestoresSoon t es g k old new
+  -- and with one worker each whose routes take at most so many in which nodes go in order of number (`sweeps_in_order`)
+  pub in_order : workers ≡ 1 → RestoresInOrder t es g k old new
+
 -- Where the group fails in a calm and quiet network, and the rounds from then up to some stage are whole: whatever run led
 -- to the failure goes on to a run that leads to that stage, and there each call that was guarded at the failure and is hit
--- is restored, if there are as many rounds as its routes take (`sweeps_for`).
+-- is restored, if there are as many rounds as its routes take.
 abbrev pub RestoresInRounds : Plan → List Stage → Type 0
 RestoresInRounds p more =
     (how : How) (g : Group) (f : FailsLast p how more g) → IsCalmAndQuiet p.topology (failing f) →
     (rounds left : List Stage) → rounds ++ left ≡ f.rounds →
     AreWhole p.topology (failing f) (with_failure p.topology g (failing f)) rounds →
     (es : List Event) → LeadsTo p.topology es (world_at p.topology (failing f)) →
-    RestoresSoon p.topology es g (length rounds) (failing f).made
+    RestoresOn p.topology how.workers es g (length rounds) (failing f).made
     (last_of (with_failure p.topology g (failing f)) rounds).made
 
 -- these are the stages of the lines before it, and the run was stopped in them

@@ -5,7 +5,7 @@ ghost use Rattle.script_rules.specs.ScriptLaws.{LinesFollow, OneWorkerIsAFunctio
 ghost use Rattle.script_rules.specs.ScriptLaws.{PostsFollowLines, RecordsAreLawful, ScriptsGrow, StopsAreFull};
 
 use log_merge::every_merging;
-use round_laws::every_failure;
+use round_laws::{every_failure, every_round_in_order};
 use round_rules::every_record;
 use world_rules::every_world_run;
 
@@ -15,7 +15,8 @@ use world_rules::every_world_run;
 /// one worker there is one list of stages, which ends where a function leads, and one text. Of a `fail` line with
 /// nothing but `settle`, `wait` and `show` behind it (`fails`), where the network was calm and quiet: as long as rounds
 /// lose, hold back and drop no frame that was sent since, each guarded call that is hit is restored in as many rounds as
-/// its routes are long (`restored`).
+/// its routes are long; and with one worker in one for each hop of its backup, one, and one for each hop to the nearest
+/// cut on which a Notify goes up to a node of a lesser number (`restored`).
 pub fn every_script()
     ensures lawful { RecordsAreLawful }
     ensures follow { LinesFollow }
@@ -31,4 +32,5 @@ pub fn every_script()
     every_record();
     every_merging();
     every_failure();
+    every_round_in_order();
 }

@@ -38,7 +38,8 @@ pub returns-clause-full : goal.returns-clause-full
 returns-clause-full c = stops_full
 
 pub returns-clause-restored : goal.returns-clause-restored
-returns-clause-restored c = failures-are_restored c.every_failure.ensures.soon
+returns-clause-restored c =
+    failures-are_restored c.every_failure.ensures.soon c.every_round_in_order.ensures.alone
 
 pub returns-clause-fails : goal.returns-clause-fails
 returns-clause-fails c = fail-lines_fail
