@@ -113,7 +113,7 @@ class OutcomeTest(unittest.TestCase):
         network = plan.read((EXAMPLES / "apart.toml").read_text())
         asked = Cuts(cuts.standing(network), cuts.single_cuts(network))
         # The runs are those of the duct and of its two links; the links 3 to 5 carry nothing, so they need none.
-        self.assertEqual([it.name for it in asked.outcomes({1: {"c1": ["turned", True]}})], ["link 1", "link 3", "link 4", "link 5"])
+        self.assertEqual([it.name for it in asked.outcomes({1: {"calls": {"c1": ["turned", True]}, "rounds": 4}})], ["link 1", "link 3", "link 4", "link 5"])
 
     def test_an_outcome_has_the_name_of_its_groups(self) -> None:
         self.assertEqual(Outcome((Group("srlg", 7), Group("link", 2)), (1, 2), (), (), (), (), ()).name, "srlg 7 + link 2")
@@ -138,7 +138,7 @@ class ToolTest(unittest.TestCase):
         rows = list(csv.DictReader(io.StringIO(tool("study-cuts", "examples/apart.toml", "--csv").out)))
         self.assertEqual([(row["group"], row["links"], row["hit"]) for row in rows[:2]], [("srlg 7", "1 2", "2"), ("link 1", "1", "1")])
         found = json.loads(tool("study-cuts", "examples/apart.toml", "--json").out)
-        self.assertEqual(found[0], {"groups": ["srlg 7"], "links": [1, 2], "hit": ["c1", "c2"], "turned": ["c1", "c2"], "stuck": [], "bare": [], "cut_off": [], "contends": []})
+        self.assertEqual(found[0], {"groups": ["srlg 7"], "links": [1, 2], "hit": ["c1", "c2"], "turned": ["c1", "c2"], "stuck": [], "bare": [], "cut_off": [], "contends": [], "rounds": {"taken": 4, "one_worker": 4, "most": 6}})
         root = ElementTree.fromstring(tool("study-cuts", "examples/apart.toml", "--svg").out)
         texts = [text.text for text in root.findall("{*}text")]
         self.assertLess(texts.index("srlg 7"), texts.index("link 1"))
