@@ -10,6 +10,7 @@ PAGES = ["README.md", *sorted(str(path.relative_to(TOP)) for path in (TOP / "doc
 FOR_USERS = ("README.md", "docs/first-plan.md", "docs/restoration.md", "docs/studies.md", "docs/tools.md")
 ABOUT_SOURCES = [page for page in PAGES if page not in FOR_USERS]
 BY_HAND = TOP / "tests/wrong-bodies"
+MACHINES = TOP / "tests/wrong-machines"
 INDEX = "**In the sources"
 PARTS = ["definition", "code", "at a node", "along the route", "wrong body", "test"]
 ANTT = r"^\s*(?:(?:abbrev|unfoldable|pub|record|data)\s+)*{}\s*(?:[:({{]|$)"
@@ -57,7 +58,8 @@ def names_in_sources() -> set[str]:
                     found |= set(re.findall(NAME, path.read_text()))
     for path in (TOP / "tests").glob("test_*.py"):
         found |= {path.stem, *re.findall(r"def (\w+)", path.read_text())}
-    return found | {BY_HAND.name} | {path.stem for path in BY_HAND.rglob("*.edit")}
+    edits = [path for folder in (BY_HAND, MACHINES) for path in folder.rglob("*.edit")]
+    return found | {BY_HAND.name, MACHINES.name} | {path.stem for path in edits}
 
 
 def wrong_bodies(crate: str) -> list[str]:
